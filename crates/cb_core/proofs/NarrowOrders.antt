@@ -1,5 +1,5 @@
 -- A turn that hands an order out, or takes one, leaves one page to each span and set.
-use Rattle.std.proofs.Common.{◌≡◌, ℕ, suc, false, List, Option, None, Some, refl, sym, subst, inl, inr}
+use Rattle.std.proofs.Common.{ℕ, suc, false, List, Option, None, Some, refl, sym, subst, inl, inr}
 use Rattle.cb_set.specs.SetState.{SetState}
 use Rattle.cb_types.specs.declared.config.Config.{Config}
 use Rattle.cb_types.specs.declared.job.Job.{Job}

@@ -1,5 +1,5 @@
 -- A turn that hands an order out, or takes one, is counted and then does its job.
-use Rattle.std.proofs.Common.{◌≡◌, ℕ, ◌^◌, ◌<◌, List, [], Option, None, Some, Result, Ok, Err, refl, sym, ap, ◌∙◌, subst, arith, inl, inr}
+use Rattle.std.proofs.Common.{◌≡◌, ℕ, ◌^◌, ◌<◌, List, Option, None, Some, Result, Ok, Err, refl, sym, ap, ◌∙◌, subst, arith, inl, inr}
 use Rattle.std.specs.Prelude.{IfOk, OnErr}
 use Rattle.cb_member.specs.declared.no_memory.NoMemory.{NoMemory}
 use Rattle.cb_types.specs.declared.config.Config.{Config}
@@ -28,7 +28,7 @@ use Rattle.cb_swapin.specs.FetchStep.{fetching_order, fetching_reply}
 use Rattle.cb_core.specs.Ordered.{FetchRun, FetchStops, Gathers, InstallTurn, Lands, NothingDone, StoppedWith, TurnedWith, desk_orders}
 use Rattle.cb_core.specs.Ordered.FetchRun.{not_far, was_far}
 use Rattle.cb_core.specs.Ordered.InstallTurn.{done as install_done, worn as install_late}
-use Rattle.cb_core.specs.Ordered.TurnedWith.{done, worn}
+use Rattle.cb_core.specs.Ordered.TurnedWith.{done}
 use Rattle.cb_core.specs.OrderLeaves.{HandsOrder, InstallLeaves, fetch_hands, gather_hands}
 use Rattle.cb_core.specs.OrderParts.{FetchesBy, decode_in, encode_in, landed_order}
 use Rattle.cb_core.specs.OrderParts.FetchesBy.{not_far as was_near, was_far as was_away}
@@ -36,9 +36,7 @@ use Rattle.cb_core.specs.Parts.{Holding, RoomStops, WithRoom, most_evictions}
 use Rattle.cb_core.specs.TurnLeaves.{TurnLeaves}
 use Rattle.cb_core.specs.Unavailable.{LandTells, TurnTells}
 use Rattle.cb_core.specs.Turned.{EvictLacks, FindsWhere, WinsRoom, counted, once_counted}
-use Rattle.cb_core.proofs.Carried.{turn_rise}
 use Rattle.cb_core.proofs.Counting.{counted_sound, job_below}
-use Rattle.cb_core.proofs.FarJobs.{note_of}
 use Rattle.cb_core.proofs.KeptParts.{counted_rises}
 use Rattle.cb_core.proofs.Noted.{noted_after}
 use Rattle.cb_core.proofs.LandTold.{land_told}

@@ -1,14 +1,11 @@
 -- What a turn that hands an order out, or takes one, leaves over any desk.
-use Rattle.std.proofs.Common.{◌≡◌, ℕ, ◌+◌, ◌^◌, ◌<◌, ◌≤◌, true, false, List, [], length, Option, None, Some, Result, Ok, Err, refl, sym, ap, ◌∙◌, subst, arith, inl, inr}
+use Rattle.std.proofs.Common.{◌≡◌, ℕ, ◌+◌, ◌^◌, ◌<◌, true, false, List, [], length, Option, None, Some, refl, sym, ap, ◌∙◌, subst, arith, inl, inr}
 use Rattle.std.specs.Option.{option_map_or}
-use Rattle.std.specs.Prelude.{IfOk, OnErr}
-use Rattle.cb_member.specs.declared.no_memory.NoMemory.{NoMemory}
 use Rattle.cb_set.specs.SetState.{SetState, live_at}
 use Rattle.cb_types.specs.declared.config.Config.{Config}
 use Rattle.cb_types.specs.Config.{IsAccepted}
 use Rattle.cb_types.specs.declared.handle.Handle.{Handle}
-use Rattle.cb_types.specs.declared.job.Job.{Job}
-use Rattle.cb_types.specs.declared.job.Job.TheVariants.{Fetch, Gather, Install, Land}
+use Rattle.cb_types.specs.declared.job.Job.TheVariants.{Fetch, Gather, Land}
 use Rattle.cb_types.specs.declared.handle.SetId.{SetId}
 use Rattle.cb_types.specs.declared.order.DecodeOrder.{DecodeOrder}
 use Rattle.cb_types.specs.declared.order.Kept.{Kept}
@@ -18,14 +15,13 @@ use Rattle.cb_types.specs.declared.reply.Reply.TheVariants as answer
 use Rattle.cb_world.specs.declared.event.Event.{Event}
 use Rattle.cb_world.specs.declared.shown.Shown.{Shown}
 use Rattle.cb_world.specs.FarState.{FarState}
-use Rattle.cb_world.specs.KeepCodes.{KeepCodes}
 use Rattle.cb_world.specs.FarSound.{rows_in}
 use Rattle.cb_world.specs.Orders.{KeepsOrder, LeavesOrders, LeavesWords}
 use Rattle.cb_world.specs.Played.{played}
 use Rattle.cb_world.specs.Sets.{set_in}
 use Rattle.cb_world.specs.Sound.{Sound}
-use Rattle.cb_world.specs.World.{AreCounted, IsConfigured}
-use Rattle.cb_world.proofs.Laws.{codes_same, codes_stay, codes_then, orders_left, recounted_sound, StaysIf, stays_same, words_stay}
+use Rattle.cb_world.specs.World.{AreCounted}
+use Rattle.cb_world.proofs.Laws.{orders_left, recounted_sound, StaysIf, stays_same, words_stay}
 use Rattle.cb_evict.specs.declared.gathering.Gathered.{Gathered}
 use Rattle.cb_evict.specs.declared.gathering.Gathered.TheVariants as gathered
 use Rattle.cb_evict.specs.Gathering.{GatherEffect, GatherRule, HandsOut, gathered_order, gathered_reply}
@@ -33,21 +29,20 @@ use Rattle.cb_evict.proofs.Laws.{begins_leave_words, gather_stays, gather_unwrit
 use Rattle.cb_swapin.specs.declared.fetching.Fetching.{Fetching}
 use Rattle.cb_swapin.specs.declared.fetching.Fetching.TheVariants as fetching
 use Rattle.cb_swapin.specs.FetchStep.{FetchFar, FetchStep, fetching_order}
-use Rattle.cb_swapin.specs.Fetching.{far_given}
 use Rattle.cb_swapin.specs.LandEffect.{LandEffect, LandsRow}
 use Rattle.cb_swapin.specs.LandRule.{LandRule, live_in}
 use Rattle.cb_swapin.proofs.Laws.{fetch_leaves_words, given_stays, land_leaves_words, land_stays, land_unwritten, lands_swaps}
 use Rattle.cb_core.specs.Ordered.{FetchRun, FetchStops, FetchesRows, Gathers, Lands, NothingDone, not_far, was_far}
-use Rattle.cb_core.specs.OrderLeaves.{HandsOrder, fetch_hands, gather_hands}
+use Rattle.cb_core.specs.OrderLeaves.{HandsOrder}
 use Rattle.cb_core.specs.Parts.{Holding, RoomStops, WithRoom, most_evictions}
-use Rattle.cb_core.specs.TurnLeaves.{SoundAfter, TurnLeaves}
-use Rattle.cb_core.specs.Turned.{EvictLacks, FindsWhere, WinsRoom, counted, once_counted}
+use Rattle.cb_core.specs.TurnLeaves.{TurnLeaves}
+use Rattle.cb_core.specs.Turned.{EvictLacks, WinsRoom, counted, once_counted}
 use Rattle.cb_core.proofs.Carried.{turn_rise}
 use Rattle.cb_core.proofs.Counting.{counted_sound}
 use Rattle.cb_core.proofs.OrdersCounted.{still_kept}
 use Rattle.cb_core.proofs.SwapRows.{swap_rows}
 use Rattle.cb_core.proofs.TurnCarries.{evict_lacks, finds, in_job, nil_quiet, same_leaves, wins}
-use Rattle.cb_core.proofs.TurnComes.{AreLaws, CarriesNoWrites, CarriesWrites, Comes, Good, Nil, WritesNothing, comes_far, comes_none, good_then, room_stops, then_none, with_room}
+use Rattle.cb_core.proofs.TurnComes.{AreLaws, CarriesNoWrites, CarriesWrites, Good, Nil, WritesNothing, comes_far, comes_none, good_then, room_stops, then_none, with_room}
 use Rattle.cb_core.proofs.WordsOwned.{begin_words}
 use Rattle.cb_core.proofs.WordsTold.{KeepsBatch, KeepsRows, by_words}
 use Rattle.cb_core.proofs.TurnLeft.{counted_good, counted_leaves, refused_leaves}

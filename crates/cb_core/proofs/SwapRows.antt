@@ -1,6 +1,5 @@
 -- A swap-in leaves the rows of the batch that is leaving: its span comes into free frames.
-use Rattle.std.proofs.Common.{◌≡◌, ◌≢◌, ◌⊎◌, ℕ, ◌+◌, ◌*◌, ◌/◌, ◌<◌, ◌≤◌, true, false, List, [], length, get_or, Some, None, refl, sym, ap, ◌∙◌, subst, arith, inl, inr}
-use Rattle.std.specs.List.{Contains}
+use Rattle.std.proofs.Common.{◌≡◌, ◌⊎◌, ℕ, ◌+◌, ◌*◌, ◌/◌, ◌<◌, ◌≤◌, true, List, [], length, get_or, Some, None, sym, ap, ◌∙◌, subst, arith, inl, inr}
 use Rattle.std.proofs.lemmas.Bool.{cases_lt, false≢true}
 use Rattle.std.proofs.lemmas.List.{get_or_past}
 use Rattle.std.proofs.lemmas.Option.{same_Some}
@@ -19,16 +18,15 @@ use Rattle.cb_world.specs.declared.event.Event.{Event}
 use Rattle.cb_world.specs.declared.shown.Shown.{Shown}
 use Rattle.cb_world.specs.FarState.{FarState, span_in}
 use Rattle.cb_world.specs.FarSound.{rows_in}
-use Rattle.cb_world.specs.Leaving.{LeavingState}
 use Rattle.cb_world.specs.Memory.{put}
 use Rattle.cb_world.specs.Orders.{LeavesWords}
 use Rattle.cb_world.specs.RowWords.{words_in}
 use Rattle.cb_world.specs.Sets.{set_in}
-use Rattle.cb_world.specs.SetWord.{IsWordOf, is_broken}
+use Rattle.cb_world.specs.SetWord.{IsWordOf}
 use Rattle.cb_world.specs.Sound.{Sound}
 use Rattle.cb_world.proofs.Laws.{length_words, none_at_free, put_else, stands_where_free}
 use Rattle.cb_swapin.specs.SwapEffect.{IsSwappedIn, SwapEffect}
-use Rattle.cb_swapin.specs.SwapRule.{BringsRule, swap_answer}
+use Rattle.cb_swapin.specs.SwapRule.{swap_answer}
 use Rattle.cb_swapin.proofs.Laws.{by_answer}
 use Rattle.cb_core.proofs.WordsTold.{KeepsRows, frame_rows}
 

@@ -1,5 +1,5 @@
 -- The words that the holder of the far lock owns stay, operation by operation.
-use Rattle.std.proofs.Common.{◌≡◌, ◌≢◌, ◌⊎◌, ℕ, ◌+◌, ◌<◌, ◌≤◌, Bool, List, [], ◌∷◌, length, get_or, set, Option, None, Some, refl, sym, ap, ◌∙◌, subst, arith, inl, inr, length-set, get_or-set_same}
+use Rattle.std.proofs.Common.{◌≡◌, ℕ, ◌+◌, ◌<◌, Bool, List, [], ◌∷◌, length, get_or, refl, sym, ap, ◌∙◌, subst, arith, inl, inr, length-set, get_or-set_same}
 use Rattle.std.proofs.lemmas.Bool.{cases_lt}
 use Rattle.std.proofs.lemmas.List.{get_or_past}
 use Rattle.cb_ptr.specs.Word.{len_of, place_of}
@@ -13,11 +13,10 @@ use Rattle.cb_world.specs.declared.object.Object.TheVariants as is
 use Rattle.cb_world.specs.declared.shown.Shown.{Shown}
 use Rattle.cb_world.specs.FarState.{FarState}
 use Rattle.cb_world.specs.Looks.{IsFound, IsTaken, LooksFirst, NoClaim, NoLook, told_by}
-use Rattle.cb_world.specs.Memory.{put, words_for}
+use Rattle.cb_world.specs.Memory.{words_for}
 use Rattle.cb_world.specs.Placed.{place_in}
 use Rattle.cb_world.specs.Played.{Agree, after, played}
-use Rattle.cb_world.specs.Shown.{Owns, never, object_at}
-use Rattle.cb_world.specs.Sound.{Sound}
+use Rattle.cb_world.specs.Shown.{never, object_at}
 use Rattle.cb_world.specs.Still.{IsStill}
 use Rattle.cb_mutate.specs.FreeRule.{FreeEffect}
 use Rattle.cb_mutate.specs.MakeRule.{IsMade, MakeEffect}

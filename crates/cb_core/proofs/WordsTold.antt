@@ -1,10 +1,8 @@
 -- Words that the holder of the far lock owns stay, where events tell of words; and what is so of every
 -- such word leaves each kept order kept.
-use Rattle.std.proofs.Common.{◌≡◌, ◌≢◌, ◌⊎◌, ℕ, ◌+◌, ◌*◌, ◌<◌, ◌≤◌, List, [], ◌∷◌, ◌++◌, length, get_or, set, map, Some, refl, sym, ap, ◌∙◌, subst, arith, inl, inr, append-nil, length-set, get_or-set_other, get_or-set_same}
+use Rattle.std.proofs.Common.{◌≡◌, ◌≢◌, ◌⊎◌, ℕ, ◌+◌, ◌*◌, ◌<◌, ◌≤◌, List, [], ◌∷◌, length, get_or, set, Some, refl, sym, ap, ◌∙◌, subst, arith, inl, inr, append-nil, get_or-set_other}
 use Rattle.std.proofs.lemmas.Bool.{cases_lt}
-use Rattle.std.proofs.lemmas.List.{set_past}
 use Rattle.std.specs.List.{Contains}
-use native.Mathlib.Decide.{ℕ_discrete}
 use Rattle.cb_class.specs.Class.{pages_of}
 use Rattle.cb_ptr.specs.Word.{len_of, place_of}
 use Rattle.cb_world.specs.declared.event.Event.{Event}

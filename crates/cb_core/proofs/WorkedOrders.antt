@@ -1,6 +1,6 @@
 -- Worked examples of turns that hand an order out, or take one: what meets each definition, and what
 -- breaks one part.
-use Rattle.std.proofs.Common.{◌≡◌, ℕ, ◌+◌, ◌^◌, ◌<◌, true, false, List, [], ◌∷◌, Option, None, Some, length, refl, sym, ap, ◌∙◌, subst, arith, inl, inr, lit<}
+use Rattle.std.proofs.Common.{◌≡◌, ℕ, ◌^◌, ◌<◌, List, [], ◌∷◌, Option, None, Some, length, refl, sym, ap, ◌∙◌, arith, inl, lit<}
 use Rattle.cb_member.specs.declared.names.Loss.{Loss}
 use Rattle.cb_set.specs.Lost.{lost}
 use Rattle.cb_set.specs.SetState.{SetState, parities}
@@ -13,17 +13,15 @@ use Rattle.cb_types.specs.declared.order.DecodeOrder.{DecodeOrder}
 use Rattle.cb_types.specs.declared.order.EncodeOrder.{EncodeOrder}
 use Rattle.cb_types.specs.declared.order.Kept.{Kept}
 use Rattle.cb_types.specs.declared.order.Kept.TheVariants.{Decode, Encode}
-use Rattle.cb_types.specs.declared.reply.Reply.{Reply}
 use Rattle.cb_types.specs.declared.reply.Reply.TheVariants as answer
 use Rattle.cb_world.specs.declared.event.Event.{Event}
 use Rattle.cb_world.specs.declared.shown.Shown.{Shown}
 use Rattle.cb_world.specs.Empty.{empty_far, empty_shown}
 use Rattle.cb_world.specs.FarState.{FarState}
-use Rattle.cb_world.specs.Orders.{KeepsOrder}
 use Rattle.cb_world.specs.Sound.{Sound}
 use Rattle.cb_world.proofs.Laws.{codes_stay, counted_holds, empty_world_sound, recounted}
 use Rattle.cb_core.specs.Jobs.{NeedsNoOrder}
-use Rattle.cb_core.specs.Ordered.{InstallTurn, NothingDone, StoppedWith, TurnedWith}
+use Rattle.cb_core.specs.Ordered.{InstallTurn, StoppedWith, TurnedWith}
 use Rattle.cb_core.specs.Ordered.InstallTurn.{done as install_done, worn as install_worn}
 use Rattle.cb_core.specs.Ordered.TurnedWith.{done, worn}
 use Rattle.cb_core.specs.OrderLeaves.{HandsOrder, InstallLeaves}
