@@ -208,8 +208,11 @@ module _ (c : Config) (handle : Handle) (took gave : FarState) (p m : SeatAt) (p
           same.3 ∙ s.3,
           same.4 ∙ s.4,
         ));
-        did = inl (did_read c handle place r (record_at m) d (record_at p).known b.events took gave
-            b.brought there (tries (record_at m) (refl, refl, refl, refl, refl)), refl);
+        did = inl (
+          did_read c handle place r (record_at m) d (record_at p).known b.events took gave
+              b.brought there (tries (record_at m) (refl, refl, refl, refl, refl)),
+          refl,
+        );
         next = b.next;
         wrote = wrote_none r;
         fresh = fresh_acted;

@@ -86,8 +86,8 @@ DidAs c job (Some reply) start es took gave = Turned slate_run slate_shows Reads
 DidAs c job None start es took gave = Stopped slate_run slate_shows PinLacks c job
     (held_by start [] took) (held_by (played es start) es gave)
 
--- So a turn of a job that hands an order out or takes one, by the order that its seat kept before it
--- and the one that it keeps behind it. Where there was no memory it keeps what it kept.
+-- So a turn of a job that hands an order out or takes one, by the order that its seat kept before
+-- it and the one that it keeps behind it. Where there was no memory it keeps what it kept.
 abbrev pub DidWith : Config → Job → Option Kept → Option Reply → Option Kept → Shown → List Event
     → FarState → FarState → Type 0
 DidWith c job order (Some reply) keeps start es took gave = TurnedWith slate_run slate_shows c job
@@ -95,8 +95,8 @@ DidWith c job order (Some reply) keeps start es took gave = TurnedWith slate_run
 DidWith c job order None keeps start es took gave = StoppedWith slate_run slate_shows c job order
     (held_by start [] took) (held_by (played es start) es gave) × (keeps ≡ order)
 
--- A turn did its job alone, and its seat keeps the order that it kept; or it did it with that order.
--- Which one it is follows from the job.
+-- A turn did its job alone, and its seat keeps the order that it kept; or it did it with that
+-- order. Which one it is follows from the job.
 abbrev pub DidBy : Config → Job → Option Kept → Option Reply → Option Kept → Shown → List Event
     → FarState → FarState → Type 0
 DidBy c job order reply keeps start es took gave =
@@ -230,11 +230,12 @@ pub record NotesWritten (turn : Turn) (more : List Entry) (v : View) : Type 0 wh
   pub ended : turn.ended ≡ ended_by v.turns
 
 -- What a turn adds to the record v of its pass. It stands there with its job, its reply, what was
--- known when it began, its events, the order that the pass kept before it, and the far states that it
--- took and gave, which are those of one turn more. What it wrote is that of its reply, and new to the record: one above the greatest
--- version that the record has of an object that it knows and no other pass has. A write, a free and
--- a filter tell of the object by its word (`pins`). Each object of which the record has an entry
--- had a version when it began. It is answered Unavailable exactly where it is to be.
+-- known when it began, its events, the order that the pass kept before it, and the far states that
+-- it took and gave, which are those of one turn more. What it wrote is that of its reply, and new
+-- to the record: one above the greatest version that the record has of an object that it knows and
+-- no other pass has. A write, a free and a filter tell of the object by its word (`pins`). Each
+-- object of which the record has an entry had a version when it began. It is answered Unavailable
+-- exactly where it is to be.
 pub record TurnAdds (c : Config) (job : Job) (r : Result Reply NoMemory) (v : View) (d : Part)
     : Type 0 where
   pub turn : Turn

@@ -6,8 +6,8 @@ use Rattle.cb_shared.proofs.DidAlone.{called_alone}
 use Rattle.cb_shared.proofs.Fetches.{one_more, one_of}
 use Rattle.cb_shared.proofs.runtime.Shared.try_turn.Goals as goal
 
-pub turn_within-reply-requires-clause-alone : goal.turn_within-reply-requires-clause-alone
-turn_within-reply-requires-clause-alone g c = called_alone c.args.job.now c.requires.called
+pub turn_within-requires-clause-alone : goal.turn_within-requires-clause-alone
+turn_within-requires-clause-alone g c = called_alone c.args.job.now c.requires.called
 
 pub returns-in_err-reply-clause-error : goal.returns-in_err-reply-clause-error
 returns-in_err-reply-clause-error g c = err_always c.from_residual.result _
