@@ -211,7 +211,7 @@ sound_with w v memory free span order s none calm known unordered = record {
   orders = unordered;
   counted = record {
     kinds = length-replicate {A = ℕ} 23 0;
-    jobs = sum_by-replicate (λ (n : ℕ). n) 19 0;
+    jobs = sum_by-replicate (λ (n : ℕ). n) 23 0;
     turns = omega arith;
     sets = omega arith;
     keys = omega arith;
