@@ -102,6 +102,16 @@ fn later_kind(reply: &Reply) -> u32
         Reply::NotClaimed => 53,
         Reply::NotStored { .. } => 54,
         Reply::Held { .. } => 55,
+        _ => last_kind(reply),
+    }
+}
+
+/// The same of a kind from 56 on.
+fn last_kind(reply: &Reply) -> u32
+    requires last { 56 ≤ kind_of reply.now }
+    ensures { result ≡ kind_of reply.now }
+{
+    match reply {
         Reply::NotHeld => 56,
         Reply::NoOrder => 57,
         Reply::Direct => 58,
