@@ -133,17 +133,17 @@ WritesTold job reply v = (h n : ℕ) → TellsWritten job reply h n → 0 < writ
 pub record MayGive (deeds : Deeds) (c : Config) (job : Job) (reply : Option Reply)
     (keeps : Option Kept) (far : FarState) (freed : List Seen) (made : List ℕ) (v : View) : Type 0
   where
-  pub holds : v.holds ≡ true
-  pub stood : Stood c v.known far
-  pub adds : AddsTurn v.took far
-  pub did : (n : ℕ) → deeds c (turn_of job reply keeps far n v)
-  pub reads : ReadsTold job reply v
-  pub writes : WritesTold job reply v
-  pub found : Each (IsFoundFreed v) freed
-  pub makes : Each (λ h. Make v.known.first h v.fresh) made
-  -- every order that was kept stays so, and the seat's own is
-  pub leaves : LeavesOrders v.start v.took v.known far
-  pub own : KeepsOrder v.known far keeps
+    pub holds : v.holds ≡ true
+    pub stood : Stood c v.known far
+    pub adds : AddsTurn v.took far
+    pub did : (n : ℕ) → deeds c (turn_of job reply keeps far n v)
+    pub reads : ReadsTold job reply v
+    pub writes : WritesTold job reply v
+    pub found : Each (IsFoundFreed v) freed
+    pub makes : Each (λ h. Make v.known.first h v.fresh) made
+    -- every order that was kept stays so, and the seat's own is
+    pub leaves : LeavesOrders v.start v.took v.known far
+    pub own : KeepsOrder v.known far keeps
 
 -- what a seat has that gave the lock back, and that its handles are in range
 pub record HasGiven (job : Job) (reply : Option Reply) (keeps : Option Kept) (far : FarState)
