@@ -1,6 +1,6 @@
 -- Worked examples of turns that hand an order out, or take one: what meets each definition, and what
 -- breaks one part.
-use Rattle.std.proofs.Common.{◌≡◌, ℕ, ◌^◌, ◌<◌, List, [], ◌∷◌, Option, None, Some, length, refl, sym, ap, ◌∙◌, arith, inl, lit<}
+use Rattle.std.proofs.Common.{◌≡◌, ℕ, zero, suc, ◌^◌, ◌<◌, get_or, List, [], ◌∷◌, Option, None, Some, length, refl, sym, ap, ◌∙◌, arith, inl, lit<}
 use Rattle.cb_member.specs.declared.names.Loss.{Loss}
 use Rattle.cb_set.specs.Lost.{lost}
 use Rattle.cb_set.specs.SetState.{SetState, parities}
@@ -9,6 +9,7 @@ use Rattle.cb_types.specs.Config.{IsAccepted}
 use Rattle.cb_types.specs.declared.handle.SetId.{SetId}
 use Rattle.cb_types.specs.declared.job.Job.TheVariants.{Evict, Fetch, Gather, Install, Land, Swap}
 use Rattle.cb_types.specs.Jobs.{job_index}
+use Rattle.cb_types.specs.Orders.{IsEncodable}
 use Rattle.cb_types.specs.declared.order.DecodeOrder.{DecodeOrder}
 use Rattle.cb_types.specs.declared.order.EncodeOrder.{EncodeOrder}
 use Rattle.cb_types.specs.declared.order.Kept.{Kept}
@@ -18,6 +19,8 @@ use Rattle.cb_world.specs.declared.event.Event.{Event}
 use Rattle.cb_world.specs.declared.shown.Shown.{Shown}
 use Rattle.cb_world.specs.Empty.{empty_far, empty_shown}
 use Rattle.cb_world.specs.FarState.{FarState}
+use Rattle.cb_world.specs.Leaving.{LeavingState}
+use Rattle.cb_world.specs.Orders.{IsEncodeKept}
 use Rattle.cb_world.specs.Sound.{Sound}
 use Rattle.cb_world.proofs.Laws.{codes_stay, counted_holds, empty_world_sound, recounted}
 use Rattle.cb_core.specs.Jobs.{NeedsNoOrder}
@@ -212,6 +215,51 @@ module _ (c : Config) (accepted : IsAccepted c) where
   unsound : Sound (empty_shown 1 c) start → InstallLeaves c start (record then_ { first = 2 }) None → ⊥
   unsound sound x =
       let n : 1 ≡ 2 = (x.sound (empty_shown 1 c) sound tt).here.known.first in omega (arith, n)
+
+  -- an order whose number was drawn, where a number was drawn
+  abbrev drawn : FarState
+  drawn = record start { counts = record start.counts { sets = 1 } }
+
+  abbrev small : EncodeOrder
+  small = record { set = 0; k = 1; r = 1; rows = [] ∷ [] }
+
+  no_batch : (b : LeavingState) → None ≡ Some b → ⊥
+  no_batch b e = cc
+
+  one_row : (i : ℕ) (d : List ℕ) → i < 1 → length (get_or small.rows i d) ≡ 0
+  one_row zero d low = refl
+  one_row (suc i) d low = absurd (omega (arith, low))
+
+  fits : IsEncodable small
+  fits = record {
+    range = record {
+      data_least = omega arith;
+      data_most = omega arith;
+      parities_least = omega arith;
+      parities_most = omega arith;
+    };
+    count = refl;
+    lengths = one_row;
+  }
+
+  small_kept : (s : Shown) → IsEncodeKept s drawn small
+  small_kept s = record {
+    fits = fits;
+    drawn = lit< tt;
+    code = λ b at same. absurd (no_batch b at);
+    rows = λ b at same. absurd (no_batch b at);
+  }
+
+  -- where that is forgotten, the order is not kept
+  forgotten : (s : Shown) → Sound s drawn → InstallLeaves c drawn then_ None → ⊥
+  forgotten s sound x =
+      let n = (x.orders s sound tt (Encode small) (small_kept s)).drawn in omega (arith, n)
+
+  turn_forgot : Sound (empty_shown 1 c) drawn
+      → TurnLeaves run shows c (at drawn) (at then_) (λ more. more ≡ []) → ⊥
+  turn_forgot sound x = let s = empty_shown 1 c in
+      let n = ((x.after s refl sound).orders (Encode small) (small_kept s)).drawn in
+      omega (arith, n)
 
   leaves : TurnLeaves run shows c (at start) (at then_) (λ more. more ≡ [])
   leaves = record {

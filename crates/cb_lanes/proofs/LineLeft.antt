@@ -28,7 +28,7 @@ use Rattle.cb_core.specs.declared.event.Atomic.TheVariants as atomic
 use Rattle.cb_core.specs.declared.event.Event.{Event}
 use Rattle.cb_core.specs.declared.event.Event.TheVariants as event
 use Rattle.cb_core.specs.declared.event.Event.TheVariants.{Turn}
-use Rattle.cb_core.specs.Jobs.{IsJob}
+use Rattle.cb_core.specs.Jobs.{IsJob, NeedsNoOrder}
 use Rattle.cb_core.specs.Pinning.{UnpinStep, not_pinned as none_given, given}
 use Rattle.cb_core.specs.Step.{Leads, Step, worn, done, held as other_holds, free}
 use Rattle.cb_core.specs.Unavailable.{IsLost, TellsUnavailable, brought_by}
@@ -119,15 +119,19 @@ compact_desk seat w new r (other_holds holder off holds is same) =
 compact_desk seat w new r (free none (worn end is same)) = ap (λ (v : WorldState). v.desk) same
 compact_desk seat w new r (free none (done few works seats)) = works.0
 
+-- the job may be asked for, and hands no order out and takes none
+abbrev IsAsked : Config → Job → Type 0
+IsAsked c j = IsJob c j × NeedsNoOrder j
+
 turn_pinned : (j : Job) (side : Side) (seat : ℕ) (w new : WorldState) (r : Reply) → IsSoundWorld w
-    → IsSoundWorld new → seat < 64 → IsJob w.desk.settings j → TurnAt j side seat w r new
+    → IsSoundWorld new → seat < 64 → IsAsked w.desk.settings j → TurnAt j side seat w r new
     → KeepsPinned w new
 turn_pinned job.Compact parities.Nodes seat w new r sound after lt ok x =
-    step_pinned (Turn seat job.Compact) w new r sound after (lt, ok) x
+    step_pinned (Turn seat job.Compact) w new r sound after (lt, ok.0, ok.1) x
 turn_pinned job.Compact parities.Compute seat w new r sound after lt ok x =
     λ k some still. unmoved_same w.desk new.desk k (x.desk ∙ compact_desk seat w x.mid r x.there)
 turn_pinned j side seat w new r sound after lt ok x =
-    step_pinned (Turn seat j) w new r sound after (lt, ok) x
+    step_pinned (Turn seat j) w new r sound after (lt, ok.0, ok.1) x
 
 -- ---- lines
 module _ (seat h : ℕ) (w new : WorldState) (r : Reply) (sound : IsSoundWorld w)
@@ -147,13 +151,13 @@ module _ (seat h : ℕ) (w new : WorldState) (r : Reply) (sound : IsSoundWorld w
 
   pin_pinned : PinLine seat h w r new → KeepsPinned w new
   pin_pinned (at_once x never) = step_pinned pin w new r sound after (lt, below) x
-  pin_pinned (stays_far away x off) = step_pinned swap w new r sound after (lt, below) x
+  pin_pinned (stays_far away x off) = step_pinned swap w new r sound after (lt, below, tt) x
   pin_pinned (swapped_in m q away x is y) = λ k some still.
       let mid = sound_then m q x in
       let pinned = pins_stay w m k sound mid
       (event_seats seat (job.Swap (record { n = h })) w m q x) (step_settings w m swap q x) some in
       unmoved_then k w.desk m.desk new.desk
-      (step_pinned swap w m q sound mid (lt, below) x k some pinned)
+      (step_pinned swap w m q sound mid (lt, below, tt) x k some pinned)
       (step_pinned pin m new r mid after (lt, below_then m q x) y k pinned still)
 
   none_some : {A : Type 0} (k : A) → None ≡ Some k → ⊥
@@ -167,7 +171,7 @@ module _ (seat h : ℕ) (w new : WorldState) (r : Reply) (sound : IsSoundWorld w
 
   swap_tells : (m : WorldState) (q : Reply) → IsSoundWorld m → Step w swap q m
       → TellsUnavailable w swap q
-  swap_tells m q mid step = step_tells swap w m q sound mid (lt, below) step
+  swap_tells m q mid step = step_tells swap w m q sound mid (lt, below, tt) step
 
   pin_tells : (name : List ℕ) → PinLine seat h w r new → LineTells seat (Some h) (Pin name) w r
   pin_tells name (at_once x never) =
@@ -198,8 +202,8 @@ module _ (side : Side) (seat : ℕ) (w new : WorldState) (r : Reply) (sound : Is
   abbrev Ready : Option ℕ → Type 0
   Ready handle = (h : ℕ) → handle ≡ Some h → h < w.desk.settings.handles
 
-  turn_keeps : (j : Job) → IsJob w.desk.settings j → Step w (Turn seat j) r new → KeepsPinned w new
-  turn_keeps j ok step = step_pinned (Turn seat j) w new r sound after (lt, ok) step
+  turn_keeps : (j : Job) → IsAsked w.desk.settings j → Step w (Turn seat j) r new → KeepsPinned w new
+  turn_keeps j ok step = step_pinned (Turn seat j) w new r sound after (lt, ok.0, ok.1) step
 
   peek_keeps : (h : ℕ) → PeekStep seat h w r new → KeepsPinned w new
   peek_keeps h (not_pinned none is same) = keeps_same w new same
@@ -214,39 +218,39 @@ module _ (side : Side) (seat : ℕ) (w new : WorldState) (r : Reply) (sound : Is
   object_keeps (Some h) (Unpin name) ready x =
       λ k some still. unpin_unmoved w new seat h k r sound lt x
   object_keeps (Some h) (Read name) ready x =
-      turn_keeps (job.Read (record { n = h })) (ready h refl) x
+      turn_keeps (job.Read (record { n = h })) (ready h refl, tt) x
   object_keeps (Some h) (Write name at bytes) ready x =
-      turn_keeps (job.Write (record { n = h }) at bytes) (ready h refl) x
+      turn_keeps (job.Write (record { n = h }) at bytes) (ready h refl, tt) x
   object_keeps (Some h) (Free name) ready x =
-      turn_keeps (job.Free (record { n = h })) (ready h refl) x
+      turn_keeps (job.Free (record { n = h })) (ready h refl, tt) x
   object_keeps (Some h) (Filter name) ready x =
-      turn_keeps (job.Filter (record { n = h })) (ready h refl) x
+      turn_keeps (job.Filter (record { n = h })) (ready h refl, tt) x
   object_keeps (Some h) request ready x = absurd x
 
   other_keeps : (handle : Option ℕ) (request : Request) (o : Option Job)
-      → ((j : Job) → o ≡ Some j → IsJob w.desk.settings j) → Ready handle
+      → ((j : Job) → o ≡ Some j → IsAsked w.desk.settings j) → Ready handle
       → OtherStep side seat handle request o w r new → KeepsPinned w new
   other_keeps handle request (Some j) ok ready x =
       turn_pinned j side seat w new r sound after lt (ok j refl) x
   other_keeps handle request None ok ready x = object_keeps handle request ready x
 
   -- the job of a line about no object is one that may be asked for
-  some_job : (a j : Job) → Some a ≡ Some j → IsJob w.desk.settings a → IsJob w.desk.settings j
-  some_job a j e ok = subst (IsJob w.desk.settings) (same a j e) ok
+  some_job : (a j : Job) → Some a ≡ Some j → IsAsked w.desk.settings a → IsAsked w.desk.settings j
+  some_job a j e ok = subst (IsAsked w.desk.settings) (same a j e) ok
     where
       same : (a j : Job) → Some a ≡ Some j → a ≡ j
       same a j e = cc
 
-  no_job : (j : Job) → None ≡ Some j → IsJob w.desk.settings j
+  no_job : (j : Job) → None ≡ Some j → IsAsked w.desk.settings j
   no_job j e = absurd (never j e)
     where
       never : (j : Job) → None ≡ Some j → ⊥
       never j e = cc
 
   own_job : (request : Request) → IsRequest w.desk.settings.nodes request → (j : Job)
-      → job_of request ≡ Some j → IsJob w.desk.settings j
-  own_job (Crash node) is j e = some_job (job.Crash node) j e is
-  own_job (Join node) is j e = some_job (job.Join node) j e is
+      → job_of request ≡ Some j → IsAsked w.desk.settings j
+  own_job (Crash node) is j e = some_job (job.Crash node) j e (is, tt)
+  own_job (Join node) is j e = some_job (job.Join node) j e (is, tt)
   own_job (Make name bytes) is j e = no_job j e
   own_job (Read name) is j e = no_job j e
   own_job (Write name at bytes) is j e = no_job j e
@@ -256,22 +260,22 @@ module _ (side : Side) (seat : ℕ) (w new : WorldState) (r : Reply) (sound : Is
   own_job (Unpin name) is j e = no_job j e
   own_job (Filter name) is j e = no_job j e
   own_job Leave is j e = no_job j e
-  own_job Evict is j e = some_job job.Evict j e tt
-  own_job Begin is j e = some_job job.Begin j e tt
-  own_job Ship is j e = some_job job.Ship j e tt
-  own_job Commit is j e = some_job job.Commit j e tt
-  own_job Abort is j e = some_job job.Abort j e tt
-  own_job Pair is j e = some_job job.Pair j e tt
-  own_job Patch is j e = some_job job.Patch j e tt
-  own_job Merge is j e = some_job job.Merge j e tt
-  own_job Part is j e = some_job job.Part j e tt
-  own_job Compact is j e = some_job job.Compact j e tt
-  own_job Rebuild is j e = some_job job.Rebuild j e tt
+  own_job Evict is j e = some_job job.Evict j e (tt, tt)
+  own_job Begin is j e = some_job job.Begin j e (tt, tt)
+  own_job Ship is j e = some_job job.Ship j e (tt, tt)
+  own_job Commit is j e = some_job job.Commit j e (tt, tt)
+  own_job Abort is j e = some_job job.Abort j e (tt, tt)
+  own_job Pair is j e = some_job job.Pair j e (tt, tt)
+  own_job Patch is j e = some_job job.Patch j e (tt, tt)
+  own_job Merge is j e = some_job job.Merge j e (tt, tt)
+  own_job Part is j e = some_job job.Part j e (tt, tt)
+  own_job Compact is j e = some_job job.Compact j e (tt, tt)
+  own_job Rebuild is j e = some_job job.Rebuild j e (tt, tt)
 
   line_keeps : (handle : Option ℕ) (request : Request) → IsRequest w.desk.settings.nodes request
       → Ready handle → LineStep side seat handle request w r new → KeepsPinned w new
   line_keeps handle (Make name bytes) is ready x =
-      turn_keeps (job.Make bytes) (is.1.some, is.1.few) x
+      turn_keeps (job.Make bytes) ((is.1.some, is.1.few), tt) x
   line_keeps handle Leave is ready x = λ k some still. all_unmoved seat w new k sound lt x.1
   line_keeps handle request is ready x =
       other_keeps handle request (job_of request) (own_job request is) ready x
@@ -299,10 +303,10 @@ module _ (side : Side) (seat : ℕ) (w new : WorldState) (r : Reply) (sound : Is
 
   -- a read or a write is told as its turn
   turn_told : (h : ℕ) (request : Request) (j : Job) → brought_by j ≡ Some h
-      → BringsObject w seat request → IsJob w.desk.settings j → Step w (Turn seat j) r new
+      → BringsObject w seat request → IsAsked w.desk.settings j → Step w (Turn seat j) r new
       → LineTells seat (Some h) request w r
   turn_told h request j brings may ok step =
-      let t = step_tells (Turn seat j) w new r sound after (lt, ok) step in record {
+      let t = step_tells (Turn seat j) w new r sound after (lt, ok.0, ok.1) step in record {
         only = λ id l e. let z = t.only id l e in (z.0, sym brings ∙ z.1, may, z.2);
         each = λ k id l e room few lost.
             t.each k id l (brings ∙ e) (lone_other w.seats seat lone, few) lost;
@@ -314,9 +318,10 @@ module _ (side : Side) (seat : ℕ) (w new : WorldState) (r : Reply) (sound : Is
   line_told None (Write name at bytes) ready reply x = unmade_tells (Write name at bytes) x.0
   line_told None (Pin name) ready reply x = unmade_tells (Pin name) x.0
   line_told (Some h) (Read name) ready reply x =
-      turn_told h (Read name) (job.Read (record { n = h })) refl tt (ready h refl) x
+      turn_told h (Read name) (job.Read (record { n = h })) refl tt (ready h refl, tt) x
   line_told (Some h) (Write name at bytes) ready reply x =
-      turn_told h (Write name at bytes) (job.Write (record { n = h }) at bytes) refl tt (ready h refl) x
+      turn_told h (Write name at bytes) (job.Write (record { n = h }) at bytes) refl tt
+      (ready h refl, tt) x
   line_told (Some h) (Pin name) ready reply x =
       pin_tells seat h w new r sound after lt (ready h refl) lone name x
   line_told handle request ready reply x =
