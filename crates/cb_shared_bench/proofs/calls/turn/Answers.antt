@@ -2,8 +2,8 @@ use Rattle.cb_shared.proofs.Laws.{turn_keeps}
 use Rattle.cb_shared_bench.proofs.Plain.{plain_alone}
 use Rattle.cb_shared_bench.proofs.calls.turn.Goals as goal
 
-pub turn-requires-clause-alone : goal.turn-requires-clause-alone
-turn-requires-clause-alone g c = plain_alone c.args.job.now c.requires.plain
+pub turn-reply-requires-clause-alone : goal.turn-reply-requires-clause-alone
+turn-reply-requires-clause-alone g c = plain_alone c.args.job.now c.requires.plain
 
 pub returns : goal.returns
 returns g c = record {
