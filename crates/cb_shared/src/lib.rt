@@ -3,6 +3,7 @@
 #![tactic(auto)]
 
 pub mod answers;
+mod asked;
 mod board;
 mod boxed_far;
 pub mod calling;
