@@ -29,8 +29,11 @@ use Rattle.cb_shared.specs.SeatLaws.{Runs, acted_fresh, acted_is, acted_known}
 use Rattle.cb_shared.specs.Seats.{SeatAt, record_at}
 use Rattle.cb_shared.specs.Turning.{DidAs, DidWith, PinLacks, ReadsByPin, Slate, answer_of, held_by}
 use Rattle.cb_shared.specs.Turning.{slate_run, slate_shows}
+use Rattle.cb_shared.specs.declared.asked.Asked.{Asked}
+use Rattle.cb_shared.specs.declared.asked.Outcome.{Outcome}
+use Rattle.cb_shared.specs.Ordering.{AsksDesk, MayAsk, handed_by, job_of, keeps_of, told}
 use Rattle.cb_shared.specs.UnderLock.{BringAt, BroughtForRead, IsNoRead, TurnAtSeat}
-use Rattle.cb_shared.specs.Ordering.{or_else}
+use Rattle.cb_shared.proofs.Asks.{keeps_by, writes_none}
 use Rattle.cb_shared.proofs.Mapped.{brought_in, stopped, stopped_first, stopped_with, turned}
 use Rattle.cb_shared.proofs.Mapped.{turned_with}
 
@@ -189,7 +192,7 @@ module _ {D : Type 0} (at : D → SeatAt) (run : D → List Event → D → Type
   }
 
   -- what a turn of a job with an order leaves
-  pub order_at : (job : Job) (r : Result Reply NoMemory) (keeps : Option Kept)
+  order_at : (job : Job) (r : Result Reply NoMemory) (keeps : Option Kept)
       → IfOk r (λ q. TurnedWith run shows c job v.order a q keeps b)
       → OnErr r (StoppedWith run shows c job v.order a b × (keeps ≡ v.order))
       → (z : TurnLeaves run shows c a b (λ more. more ≡ []))
@@ -209,17 +212,22 @@ module _ {D : Type 0} (at : D → SeatAt) (run : D → List Event → D → Type
     own = subst (λ (s : Shown). KeepsOrder s b.far keeps) (sym (known_is z.events z.ran)) own;
   }
 
-  -- the order that is kept behind it, which may be handed out
-  pub kept_still : (W : List Entry → Type 0) (z : TurnLeaves run shows c a b W)
+  -- the order that was kept before it
+  kept_still : (W : List Entry → Type 0) (z : TurnLeaves run shows c a b W)
       → KeepsOrder v.known a.far v.order → KeepsOrder (played z.events v.known) b.far v.order
   kept_still W z kept = order_left v.known a.far (played z.events v.known) b.far v.order
       (z.after v.known (shown a.desk v.known refl) stood.sound).orders kept
 
-  pub kept_or : (handed : Option Kept) (h : HandsOrder run shows c a b handed)
-      → KeepsOrder v.known a.far v.order
-      → KeepsOrder (played h.leaves.events v.known) b.far (or_else handed v.order)
-  kept_or (Some o) h kept = h.kept v.known (shown a.desk v.known refl) stood.sound
-  kept_or None h kept = kept_still (λ more. more ≡ []) h.leaves kept
+  -- so where it was asked for
+  pub asked_at : (asked : Asked) → MayAsk c v.order asked → KeepsOrder v.known a.far v.order
+      → (o : Outcome) → AsksDesk run shows c asked o a b
+      → TurnAtSeat c (job_of asked) (told o) (keeps_of o v.order) a.far b.far (at a.desk) (at b.desk)
+  asked_at asked may kept o x = let h = x.leaves in
+      order_at (job_of asked) (told o) (keeps_of o v.order) (x.turned v.order may)
+      (x.stopped v.order may) h.leaves (λ more none. writes_none asked (told o) more none)
+      (keeps_by (KeepsOrder (played h.leaves.events v.known) b.far) tt v.order o
+      (kept_still (λ more. more ≡ []) h.leaves kept)
+      (h.kept v.known (shown a.desk v.known refl) stood.sound))
 
   pub bring_at : (handle : Handle) → (r : Result Reply NoMemory)
       → IfOk r (λ q. BroughtToRead run shows c handle a q b)

@@ -1,6 +1,13 @@
-//! What a turn is asked for that hands an order out, or takes one.
+//! What a turn is asked for that hands an order out, or takes one, and what it answers.
+ghost use Rattle.std.specs.Prelude.{◌≡◌};
+ghost use Rattle.cb_shared.specs.declared.asked.Asked.TheVariants as asks;
+ghost use Rattle.cb_shared.specs.declared.asked.Outcome.TheVariants as ends;
+ghost use Rattle.cb_shared.specs.Ordering.{IsAnswered, fetch_told, fetched_of};
+
+use cb_evict::Gathered;
 use cb_orders::{DecodeDone, EncodeDone};
-use cb_types::Handle;
+use cb_swapin::Fetching;
+use cb_types::{Handle, NoMemory, Reply};
 
 /// One of the four jobs, with the order that was run where it takes one.
 #[derive(Clone, Copy)]
@@ -13,4 +20,74 @@ pub enum Asked<'a> {
     Fetch(Handle),
     /// The position of the order is brought in with its row.
     Land(&'a DecodeDone),
+}
+
+/// What a turn of such a job answers, each as it is asked. An install takes no memory.
+pub enum Outcome {
+    Gather(Result<Gathered, NoMemory>),
+    Install(Reply),
+    Fetch(Result<Fetching, NoMemory>),
+    Land(Result<Reply, NoMemory>),
+}
+
+impl Outcome {
+    /// What a gather answers.
+    pub(crate) fn into_gathered(self) -> Result<Gathered, NoMemory>
+        requires { IsAnswered asks.Gather self }
+        ensures { self ≡ ends.Gather result }
+    {
+        match self {
+            Outcome::Gather(gathered) => gathered,
+            _ => unreachable!(),
+        }
+    }
+
+    /// What the install of an order answers.
+    pub(crate) fn into_installed(self, done: &EncodeDone) -> Reply
+        requires { IsAnswered (asks.Install done) self }
+        ensures { self ≡ ends.Install result }
+    {
+        let _done = done;
+        match self {
+            Outcome::Install(reply) => reply,
+            _ => unreachable!(),
+        }
+    }
+
+    /// What a fetch of an object answers.
+    pub(crate) fn into_fetching(self, h: Handle) -> Result<Fetching, NoMemory>
+        requires { IsAnswered (asks.Fetch h) self }
+        ensures { self ≡ ends.Fetch result }
+    {
+        let _h = h;
+        match self {
+            Outcome::Fetch(fetching) => fetching,
+            _ => unreachable!(),
+        }
+    }
+
+    /// What the landing of an order answers.
+    pub(crate) fn into_landed(self, done: &DecodeDone) -> Result<Reply, NoMemory>
+        requires { IsAnswered (asks.Land done) self }
+        ensures { self ≡ ends.Land result }
+    {
+        let _done = done;
+        match self {
+            Outcome::Land(reply) => reply,
+            _ => unreachable!(),
+        }
+    }
+}
+
+/// The object of a fetch that was answered Freed.
+pub(crate) fn fetched_of(h: Handle, fetching: &Result<Fetching, NoMemory>) -> Option<u32>
+    ensures { result ≡ fetched_of h.n (fetch_told fetching.now) }
+{
+    match fetching {
+        Ok(Fetching::Answer(reply)) => match reply {
+            Reply::Freed => Some(h.n),
+            _ => None,
+        },
+        _ => None,
+    }
 }
