@@ -67,9 +67,7 @@ impl Shared {
         ensures keeps { (record_of pass.new).order ≡ kept_behind result (record_of pass.old).order }
     {
         let outcome = self.ask(rt, pass, &Asked::Install(&done));
-        let reply = outcome.into_installed(&done);
-        let _order = done.into_order();
-        reply
+        outcome.into_installed(&done)
     }
 
     /// A turn of the job Fetch, as `turn` makes one: the order to make the row of a far object is
@@ -122,9 +120,7 @@ impl Shared {
     {
         let _alloc = alloc;
         let outcome = self.ask(rt, pass, &Asked::Land(&done));
-        let reply = outcome.into_landed(&done);
-        let _order = done.into_order();
-        reply
+        outcome.into_landed(&done)
     }
 
     /// A turn of what is asked for.

@@ -8,9 +8,9 @@ use Rattle.cb_shared.proofs.runtime.Shared.land.Goals as goal
 
 pub returns-clause-turn : goal.returns-clause-turn
 returns-clause-turn g c = subst (λ (o : Outcome). TurnBy c.args.self.now.config Land (told o)
-    (record_of c.args.pass.now) (record_of c.ask-outcome.new.pass)) c.into_landed-reply.ensures
+    (record_of c.args.pass.now) (record_of c.ask-outcome.new.pass)) c.into_landed.ensures
     c.ask-outcome.ensures.turn
 
 pub returns-clause-keeps : goal.returns-clause-keeps
 returns-clause-keeps g c = c.ask-outcome.ensures.keeps
-    ∙ ap (λ (o : Outcome). keeps_of o (record_of c.args.pass.now).order) c.into_landed-reply.ensures
+    ∙ ap (λ (o : Outcome). keeps_of o (record_of c.args.pass.now).order) c.into_landed.ensures
