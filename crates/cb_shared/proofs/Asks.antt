@@ -31,7 +31,7 @@ use Rattle.cb_mutate.specs.Answered.{AnsweredAs, EmptyAnswer}
 use Rattle.cb_evict.specs.declared.gathering.Gathered.{Gathered}
 use Rattle.cb_evict.specs.declared.gathering.Gathered.TheVariants as gathered
 use Rattle.cb_evict.specs.BeginRule.{BeginsBy}
-use Rattle.cb_evict.specs.Gathering.{HandsOut, gathered_order, gathered_reply}
+use Rattle.cb_evict.specs.Gathering.{HandsOut, gathered_order, gathered_reply, order_for}
 use Rattle.cb_evict.specs.InstallRule.{InstallStep, kept_behind}
 use Rattle.cb_swapin.specs.declared.fetching.Fetching.{Fetching}
 use Rattle.cb_swapin.specs.declared.fetching.Fetching.TheVariants as fetching
@@ -44,7 +44,7 @@ use Rattle.cb_core.specs.OrderParts.{decode_in, encode_in, landed_order}
 use Rattle.cb_core.specs.OrderParts.FetchesBy.{not_far, was_far}
 use Rattle.cb_core.specs.Parts.{Holding}
 use Rattle.cb_core.specs.TurnLeaves.{OutcomeWrites, TurnLeaves}
-use Rattle.cb_core.specs.Turned.{counted}
+use Rattle.cb_core.specs.Turned.{counted, once_counted}
 use Rattle.cb_core.specs.Unavailable.{LandTells, TurnTells, brought_by}
 use Rattle.cb_rule.specs.declared.view.View.{View}
 use Rattle.cb_shared.specs.declared.asked.Asked.{Asked}
@@ -241,9 +241,11 @@ module _ {D : Type 0} (run : D → List Event → D → Type 0) (shows : D → S
   gather_said g (worn_with last is kept same ran) = refused_gather g (ap kind_of is)
   gather_said g (done_with few (m, p, is, kept)) = ⊎_elim
       (λ (e : kind_of (gathered_reply m) ≡ 0). refused_gather g (ap kind_of is ∙ e))
-      (λ (x : IsBatchOf (HandsOut _ m) (gathered_reply m)). handed_gather g _
+      (λ (x : IsBatchOf (HandsOut (once_counted a jobs.Gather).far m) (gathered_reply m)).
+      handed_gather g (Encode (order_for (once_counted a jobs.Gather).far x.rows))
       (kept ∙ ap (gathered_order None) x.given) (ap kind_of is ∙ x.kind))
-      (begun_kind _ b.far false (HandsOut _ m) (gathered_reply m) p.events p.rule)
+      (begun_kind (once_counted a jobs.Gather).far b.far false
+      (HandsOut (once_counted a jobs.Gather).far m) (gathered_reply m) p.events p.rule)
 
   fetch_said : (handle : Handle) (g : Fetching)
       → TurnedWith run shows c (jobs.Fetch handle) None a (fetching_reply g) (fetching_order None g) b
