@@ -61,6 +61,7 @@ mod WorkedMaking
 mod WorkedReplies
 mod WorkedAdds
 mod WorkedSeeking
+mod WorkedAsked
 mod WorkedRecalls
 mod Known
 pub mod Laws
