@@ -1,5 +1,5 @@
 -- A turn that hands an order out, or takes one, as it stands in the record of its pass at its end.
-use Rattle.std.proofs.Common.{◌≡◌, ℕ, ◌<◌, Bool, false, Option, None, Some, Result, Ok, Err, refl}
+use Rattle.std.proofs.Common.{◌≡◌, ℕ, ◌<◌, false, Option, None, Some, Result, Ok, Err, refl}
 use Rattle.std.proofs.Common.{sym, ap, ◌∙◌, subst}
 use Rattle.std.specs.Borrow.{Bor}
 use Rattle.std.specs.Prelude.{IfOk}
@@ -23,6 +23,7 @@ use Rattle.cb_swapin.specs.declared.fetching.Fetching.{Fetching}
 use Rattle.cb_swapin.specs.declared.fetching.Fetching.TheVariants as fetching
 use Rattle.cb_swapin.specs.FetchStep.{fetching_order, fetching_reply}
 use Rattle.cb_rule.specs.declared.view.View.{View}
+use Rattle.cb_rule.specs.Slot.{Sat}
 use Rattle.cb_rule.specs.TriesAgain.{is_to_try_again}
 use Rattle.cb_record.specs.Parts.{nothing_more}
 use Rattle.cb_shared.specs.declared.asked.Asked.{Asked}
@@ -34,6 +35,7 @@ use Rattle.cb_shared.specs.Ordering.{fetched_of, gather_told, job_of, told}
 use Rattle.cb_shared.specs.Seats.{SeatAt, record_at}
 use Rattle.cb_shared.specs.Turning.{answer_of, freed_of, object_of}
 use Rattle.cb_shared.specs.UnderLock.{FreedMoves, IsBelow, TurnedBy}
+use Rattle.cb_shared.proofs.ReadParts.{grown_nothing}
 
 no_object : (k : Asked) → object_of (job_of k) ≡ None
 no_object asks.Gather = refl
@@ -48,8 +50,17 @@ none_freed k r = refl
 -- no freed entry is looked for under the lock
 pub stays_put : (c : Config) (k : Asked) (r : Result Reply NoMemory) (p : SeatAt)
     → FreedMoves c (freed_of (job_of k) r) p p
-stays_put c k r p = subst (λ o. FreedMoves c o p p) (sym (none_freed k r))
-    (nothing_more, (refl, refl, refl), (refl, refl), tt, refl)
+stays_put c k r p = subst (λ (o : Option ℕ). FreedMoves c o p p) (sym (none_freed k r)) (
+  nothing_more,
+  (
+    refl,
+    refl,
+    ap (λ (x : View). let z : Sat = (x, p.me.1) in z) (grown_nothing (record_at p)),
+  ),
+  (refl, refl),
+  tt,
+  refl,
+)
 
 -- what the record keeps then
 pub keeps_then : (c : Config) (job : Job) (r : Result Reply NoMemory) (keeps : Option Kept)
@@ -139,7 +150,12 @@ pub land_only : (done : Bor DecodeDoneState) (o : Outcome) → IsAnswered (asks.
 land_only done (ends.Land r) kind not = not r refl
 land_only done o kind not = kind
 
-not_freed : (h : ℕ) (r : Result Fetching NoMemory)
+pub land_frames : (done : Bor DecodeDoneState) (o : Outcome) (r : Result Reply NoMemory)
+    → o ≡ ends.Land r → IsAnswered (asks.Land done) o → IfOk r (λ q. q ≡ answer.NoFrame → ⊥)
+land_frames done o r is kind = subst (IsAnswered (asks.Land done)) is kind
+
+-- an order that is handed out, and want of memory, are not Freed
+pub not_freed : (h : ℕ) (r : Result Fetching NoMemory)
     → ((q : Reply) → r ≡ Ok (fetching.Answer q) → ⊥) → None ≡ fetched_of h (fetch_told r)
 not_freed h (Ok (fetching.Order o)) not = refl
 not_freed h (Ok (fetching.Answer q)) not = absurd (not q refl)

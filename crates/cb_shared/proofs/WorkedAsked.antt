@@ -10,7 +10,6 @@ use Rattle.cb_types.specs.declared.order.Kept.TheVariants.{Encode}
 use Rattle.cb_types.specs.declared.reply.Reply.TheVariants as answer
 use Rattle.cb_orders.specs.Done.{EncodeDoneState}
 use Rattle.cb_evict.specs.declared.gathering.Gathered.TheVariants as gathered
-use Rattle.cb_swapin.specs.declared.fetching.Fetching.TheVariants as fetching
 use Rattle.cb_shared.specs.declared.asked.Asked.TheVariants as asks
 use Rattle.cb_shared.specs.declared.asked.Outcome.TheVariants as ends
 use Rattle.cb_shared.specs.Ordering.{IsAnswered, MayAsk, fetched_of, handed_by, keeps_of, told}

@@ -1,5 +1,8 @@
 //! What a turn is asked for that hands an order out, or takes one, and what it answers.
+ghost use Rattle.std.specs.Borrow.{Bor};
 ghost use Rattle.std.specs.Prelude.{◌≡◌};
+ghost use Rattle.cb_orders.specs.Done.{DecodeDoneState, EncodeDoneState};
+ghost use Rattle.cb_types.specs.declared.handle.Handle.{Handle};
 ghost use Rattle.cb_shared.specs.declared.asked.Asked.TheVariants as asks;
 ghost use Rattle.cb_shared.specs.declared.asked.Outcome.TheVariants as ends;
 ghost use Rattle.cb_shared.specs.Ordering.{IsAnswered, fetch_told, fetched_of};
@@ -43,11 +46,10 @@ impl Outcome {
     }
 
     /// What the install of an order answers.
-    pub(crate) fn into_installed(self, done: &EncodeDone) -> Reply
-        requires { IsAnswered (asks.Install done) self }
+    pub(crate) fn into_installed(self) -> Reply
+        requires { (done : Bor EncodeDoneState) × IsAnswered (asks.Install done) self }
         ensures { self ≡ ends.Install result }
     {
-        let _done = done;
         match self {
             Outcome::Install(reply) => reply,
             _ => unreachable!(),
@@ -55,11 +57,10 @@ impl Outcome {
     }
 
     /// What a fetch of an object answers.
-    pub(crate) fn into_fetching(self, h: Handle) -> Result<Fetching, NoMemory>
-        requires { IsAnswered (asks.Fetch h) self }
+    pub(crate) fn into_fetching(self) -> Result<Fetching, NoMemory>
+        requires { (h : Handle) × IsAnswered (asks.Fetch h) self }
         ensures { self ≡ ends.Fetch result }
     {
-        let _h = h;
         match self {
             Outcome::Fetch(fetching) => fetching,
             _ => unreachable!(),
@@ -67,11 +68,10 @@ impl Outcome {
     }
 
     /// What the landing of an order answers.
-    pub(crate) fn into_landed(self, done: &DecodeDone) -> Result<Reply, NoMemory>
-        requires { IsAnswered (asks.Land done) self }
+    pub(crate) fn into_landed(self) -> Result<Reply, NoMemory>
+        requires { (done : Bor DecodeDoneState) × IsAnswered (asks.Land done) self }
         ensures { self ≡ ends.Land result }
     {
-        let _done = done;
         match self {
             Outcome::Land(reply) => reply,
             _ => unreachable!(),

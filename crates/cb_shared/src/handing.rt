@@ -67,7 +67,7 @@ impl Shared {
         ensures keeps { (record_of pass.new).order ≡ kept_behind result (record_of pass.old).order }
     {
         let outcome = self.ask(rt, pass, &Asked::Install(&done));
-        outcome.into_installed(&done)
+        outcome.into_installed()
     }
 
     /// A turn of the job Fetch, as `turn` makes one: the order to make the row of a far object is
@@ -94,7 +94,7 @@ impl Shared {
     {
         let _alloc = alloc;
         let outcome = self.ask(rt, pass, &Asked::Fetch(h));
-        let fetching = outcome.into_fetching(h);
+        let fetching = outcome.into_fetching();
         self.find_swapped(rt, pass, fetched_of(h, &fetching));
         fetching
     }
@@ -120,7 +120,7 @@ impl Shared {
     {
         let _alloc = alloc;
         let outcome = self.ask(rt, pass, &Asked::Land(&done));
-        outcome.into_landed(&done)
+        outcome.into_landed()
     }
 
     /// A turn of what is asked for.

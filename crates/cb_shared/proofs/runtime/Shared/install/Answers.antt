@@ -6,6 +6,12 @@ use Rattle.cb_shared.specs.Passes.{record_of}
 use Rattle.cb_shared.specs.Turning.{TurnBy}
 use Rattle.cb_shared.proofs.runtime.Shared.install.Goals as goal
 
+pub ask-outcome-requires-clause-may : goal.ask-outcome-requires-clause-may
+ask-outcome-requires-clause-may g c = c.requires.kept
+
+pub into_installed-requires : goal.into_installed-requires
+into_installed-requires g c = (_, c.ask-outcome.ensures.kind)
+
 pub returns-clause-turn : goal.returns-clause-turn
 returns-clause-turn g c = subst (λ (o : Outcome). TurnBy c.args.self.now.config Install (told o)
     (record_of c.args.pass.now) (record_of c.ask-outcome.new.pass)) c.into_installed.ensures

@@ -4,7 +4,18 @@ use Rattle.cb_shared.specs.declared.asked.Outcome.{Outcome}
 use Rattle.cb_shared.specs.Ordering.{keeps_of, told}
 use Rattle.cb_shared.specs.Passes.{record_of}
 use Rattle.cb_shared.specs.Turning.{TurnBy}
+use Rattle.cb_shared.proofs.Handed.{land_frames}
 use Rattle.cb_shared.proofs.runtime.Shared.land.Goals as goal
+
+pub ask-outcome-requires-clause-may : goal.ask-outcome-requires-clause-may
+ask-outcome-requires-clause-may g c = c.requires.kept
+
+pub into_landed-requires : goal.into_landed-requires
+into_landed-requires g c = (_, c.ask-outcome.ensures.kind)
+
+pub returns-clause-no_frame : goal.returns-clause-no_frame
+returns-clause-no_frame g c = land_frames _ c.ask-outcome.result c.into_landed.result
+    c.into_landed.ensures c.ask-outcome.ensures.kind
 
 pub returns-clause-turn : goal.returns-clause-turn
 returns-clause-turn g c = subst (λ (o : Outcome). TurnBy c.args.self.now.config Land (told o)
