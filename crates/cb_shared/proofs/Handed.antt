@@ -1,7 +1,6 @@
 -- A turn that hands an order out, or takes one, as it stands in the record of its pass at its end.
 use Rattle.std.proofs.Common.{◌≡◌, ℕ, ◌<◌, false, Option, None, Some, Result, Ok, Err, refl}
 use Rattle.std.proofs.Common.{sym, ap, ◌∙◌, subst}
-use Rattle.std.specs.Borrow.{Bor}
 use Rattle.std.specs.Prelude.{IfOk}
 use Rattle.cb_member.specs.declared.no_memory.NoMemory.{NoMemory}
 use Rattle.cb_types.specs.declared.config.Config.{Config}
@@ -14,7 +13,6 @@ use Rattle.cb_types.specs.declared.order.Kept.{Kept}
 use Rattle.cb_types.specs.declared.order.Kept.TheVariants.{Encode, Decode}
 use Rattle.cb_types.specs.declared.reply.Reply.{Reply}
 use Rattle.cb_types.specs.declared.reply.Reply.TheVariants as answer
-use Rattle.cb_orders.specs.Done.{DecodeDoneState, EncodeDoneState}
 use Rattle.cb_world.specs.FarState.{FarState}
 use Rattle.cb_evict.specs.declared.gathering.Gathered.{Gathered}
 use Rattle.cb_evict.specs.declared.gathering.Gathered.TheVariants as gathered
@@ -30,7 +28,8 @@ use Rattle.cb_shared.specs.declared.asked.Asked.{Asked}
 use Rattle.cb_shared.specs.declared.asked.Asked.TheVariants as asks
 use Rattle.cb_shared.specs.declared.asked.Outcome.{Outcome}
 use Rattle.cb_shared.specs.declared.asked.Outcome.TheVariants as ends
-use Rattle.cb_shared.specs.Ordering.{IsAnswered, IsNoWant, behind_fetch, behind_gather, fetch_told}
+use Rattle.cb_shared.specs.Ordering.{IsAnswered, IsFetched, IsGathered, IsInstalled, IsLanded}
+use Rattle.cb_shared.specs.Ordering.{IsNoWant, behind_fetch, behind_gather, fetch_told}
 use Rattle.cb_shared.specs.Ordering.{fetched_of, gather_told, job_of, told}
 use Rattle.cb_shared.specs.Seats.{SeatAt, record_at}
 use Rattle.cb_shared.specs.Turning.{answer_of, freed_of, object_of}
@@ -130,29 +129,29 @@ tried_by far k o r is kind = subst (λ (z : Outcome). is_to_try_again far jobs.L
     (tried_land far k r (subst (IsAnswered k) is kind))
 
 -- ---- what is answered is what was asked for
-pub gather_only : (o : Outcome) → IsAnswered asks.Gather o
+pub gather_only : (o : Outcome) → IsGathered o
     → ((r : Result Gathered NoMemory) → o ≡ ends.Gather r → ⊥) → ⊥
 gather_only (ends.Gather r) kind not = not r refl
 gather_only o kind not = kind
 
-pub install_only : (done : Bor EncodeDoneState) (o : Outcome) → IsAnswered (asks.Install done) o
+pub install_only : (o : Outcome) → IsInstalled o
     → ((r : Reply) → o ≡ ends.Install r → ⊥) → ⊥
-install_only done (ends.Install r) kind not = not r refl
-install_only done o kind not = kind
+install_only (ends.Install r) kind not = not r refl
+install_only o kind not = kind
 
-pub fetch_only : (handle : Handle) (o : Outcome) → IsAnswered (asks.Fetch handle) o
+pub fetch_only : (o : Outcome) → IsFetched o
     → ((r : Result Fetching NoMemory) → o ≡ ends.Fetch r → ⊥) → ⊥
-fetch_only handle (ends.Fetch r) kind not = not r refl
-fetch_only handle o kind not = kind
+fetch_only (ends.Fetch r) kind not = not r refl
+fetch_only o kind not = kind
 
-pub land_only : (done : Bor DecodeDoneState) (o : Outcome) → IsAnswered (asks.Land done) o
+pub land_only : (o : Outcome) → IsLanded o
     → ((r : Result Reply NoMemory) → o ≡ ends.Land r → ⊥) → ⊥
-land_only done (ends.Land r) kind not = not r refl
-land_only done o kind not = kind
+land_only (ends.Land r) kind not = not r refl
+land_only o kind not = kind
 
-pub land_frames : (done : Bor DecodeDoneState) (o : Outcome) (r : Result Reply NoMemory)
-    → o ≡ ends.Land r → IsAnswered (asks.Land done) o → IfOk r (λ q. q ≡ answer.NoFrame → ⊥)
-land_frames done o r is kind = subst (IsAnswered (asks.Land done)) is kind
+pub land_frames : (o : Outcome) (r : Result Reply NoMemory)
+    → o ≡ ends.Land r → IsLanded o → IfOk r (λ q. q ≡ answer.NoFrame → ⊥)
+land_frames o r is kind = subst IsLanded is kind
 
 -- an order that is handed out, and want of memory, are not Freed
 pub not_freed : (h : ℕ) (r : Result Fetching NoMemory)

@@ -115,13 +115,29 @@ IsPlainFetch g = Unit {0}
 abbrev pub IsNoWant : Reply → Type 0
 IsNoWant r = (frames loose nodes : ℕ) → r ≡ answer.NoRoom frames loose nodes → ⊥
 
--- What is answered is of what was asked for. A landing alone may find no room.
+-- an answer of each of the four jobs; a landing alone may find no room
+abbrev pub IsGathered : Outcome → Type 0
+IsGathered (ends.Gather r) = IsPlainGather r × IfOk (gather_told r) IsNoWant
+IsGathered o = ⊥
+
+abbrev pub IsInstalled : Outcome → Type 0
+IsInstalled (ends.Install r) = IsNoWant r
+IsInstalled o = ⊥
+
+abbrev pub IsFetched : Outcome → Type 0
+IsFetched (ends.Fetch r) = IsPlainFetch r × IfOk (fetch_told r) IsNoWant
+IsFetched o = ⊥
+
+abbrev pub IsLanded : Outcome → Type 0
+IsLanded (ends.Land r) = IfOk r (λ reply. reply ≡ answer.NoFrame → ⊥)
+IsLanded o = ⊥
+
+-- what is answered is of what was asked for
 abbrev pub IsAnswered : Asked → Outcome → Type 0
-IsAnswered asks.Gather (ends.Gather r) = IsPlainGather r × IfOk (gather_told r) IsNoWant
-IsAnswered (asks.Install done) (ends.Install r) = IsNoWant r
-IsAnswered (asks.Fetch handle) (ends.Fetch r) = IsPlainFetch r × IfOk (fetch_told r) IsNoWant
-IsAnswered (asks.Land done) (ends.Land r) = IfOk r (λ reply. reply ≡ answer.NoFrame → ⊥)
-IsAnswered asked o = ⊥
+IsAnswered asks.Gather o = IsGathered o
+IsAnswered (asks.Install done) o = IsInstalled o
+IsAnswered (asks.Fetch handle) o = IsFetched o
+IsAnswered (asks.Land done) o = IsLanded o
 
 -- What such a turn does over any desk, by each order that it may be asked with: its reply and
 -- what is kept behind it are those of the job, an order that is handed out is kept then, and it is answered

@@ -1,11 +1,8 @@
 //! What a turn is asked for that hands an order out, or takes one, and what it answers.
-ghost use Rattle.std.specs.Borrow.{Bor};
 ghost use Rattle.std.specs.Prelude.{◌≡◌};
-ghost use Rattle.cb_orders.specs.Done.{DecodeDoneState, EncodeDoneState};
-ghost use Rattle.cb_types.specs.declared.handle.Handle.{Handle};
-ghost use Rattle.cb_shared.specs.declared.asked.Asked.TheVariants as asks;
 ghost use Rattle.cb_shared.specs.declared.asked.Outcome.TheVariants as ends;
-ghost use Rattle.cb_shared.specs.Ordering.{IsAnswered, fetch_told, fetched_of};
+ghost use Rattle.cb_shared.specs.Ordering.{IsFetched, IsGathered, IsInstalled, IsLanded};
+ghost use Rattle.cb_shared.specs.Ordering.{fetch_told, fetched_of};
 
 use cb_evict::Gathered;
 use cb_orders::{DecodeDone, EncodeDone};
@@ -36,7 +33,7 @@ pub enum Outcome {
 impl Outcome {
     /// What a gather answers.
     pub(crate) fn into_gathered(self) -> Result<Gathered, NoMemory>
-        requires { IsAnswered asks.Gather self }
+        requires { IsGathered self }
         ensures { self ≡ ends.Gather result }
     {
         match self {
@@ -47,7 +44,7 @@ impl Outcome {
 
     /// What the install of an order answers.
     pub(crate) fn into_installed(self) -> Reply
-        requires { (done : Bor EncodeDoneState) × IsAnswered (asks.Install done) self }
+        requires { IsInstalled self }
         ensures { self ≡ ends.Install result }
     {
         match self {
@@ -58,7 +55,7 @@ impl Outcome {
 
     /// What a fetch of an object answers.
     pub(crate) fn into_fetching(self) -> Result<Fetching, NoMemory>
-        requires { (h : Handle) × IsAnswered (asks.Fetch h) self }
+        requires { IsFetched self }
         ensures { self ≡ ends.Fetch result }
     {
         match self {
@@ -69,7 +66,7 @@ impl Outcome {
 
     /// What the landing of an order answers.
     pub(crate) fn into_landed(self) -> Result<Reply, NoMemory>
-        requires { (done : Bor DecodeDoneState) × IsAnswered (asks.Land done) self }
+        requires { IsLanded self }
         ensures { self ≡ ends.Land result }
     {
         match self {

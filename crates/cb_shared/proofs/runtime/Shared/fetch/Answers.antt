@@ -15,7 +15,7 @@ pub ask-outcome-requires-clause-may : goal.ask-outcome-requires-clause-may
 ask-outcome-requires-clause-may g c = c.requires.handle
 
 pub into_fetching-fetching-requires : goal.into_fetching-fetching-requires
-into_fetching-fetching-requires g c = (c.args.h, c.ask-outcome.ensures.kind)
+into_fetching-fetching-requires g c = c.ask-outcome.ensures.kind
 
 pub find_swapped-requires-clause-handle : goal.find_swapped-requires-clause-handle
 find_swapped-requires-clause-handle g c = subst (IsBelow c.args.self.now.config)

@@ -10,7 +10,7 @@ pub ask-outcome-requires-clause-may : goal.ask-outcome-requires-clause-may
 ask-outcome-requires-clause-may g c = c.requires.kept
 
 pub into_installed-requires : goal.into_installed-requires
-into_installed-requires g c = (_, c.ask-outcome.ensures.kind)
+into_installed-requires g c = c.ask-outcome.ensures.kind
 
 pub returns-clause-turn : goal.returns-clause-turn
 returns-clause-turn g c = subst (λ (o : Outcome). TurnBy c.args.self.now.config Install (told o)

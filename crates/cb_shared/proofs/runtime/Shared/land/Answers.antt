@@ -11,10 +11,10 @@ pub ask-outcome-requires-clause-may : goal.ask-outcome-requires-clause-may
 ask-outcome-requires-clause-may g c = c.requires.kept
 
 pub into_landed-requires : goal.into_landed-requires
-into_landed-requires g c = (_, c.ask-outcome.ensures.kind)
+into_landed-requires g c = c.ask-outcome.ensures.kind
 
 pub returns-clause-no_frame : goal.returns-clause-no_frame
-returns-clause-no_frame g c = land_frames _ c.ask-outcome.result c.into_landed.result
+returns-clause-no_frame g c = land_frames c.ask-outcome.result c.into_landed.result
     c.into_landed.ensures c.ask-outcome.ensures.kind
 
 pub returns-clause-turn : goal.returns-clause-turn
