@@ -1,5 +1,5 @@
 -- Worked examples of turns that hand an order out or take one.
-use Rattle.std.proofs.Common.{◌≡◌, ℕ, ◌^◌, ◌<◌, true, false, List, [], ◌∷◌, ◌++◌, length, Option, None}
+use Rattle.std.proofs.Common.{◌≡◌, ℕ, ◌<◌, true, false, List, [], ◌∷◌, ◌++◌, length, Option, None}
 use Rattle.std.proofs.Common.{Some, Ok, Err, refl, sym, ap, ◌∙◌, subst, inl, inr, lit<, lit≤, arith}
 use Rattle.std.proofs.Common.{length-append}
 use Rattle.std.proofs.lemmas.Bool.{eqb-false}
@@ -9,7 +9,6 @@ use Rattle.cb_member.specs.declared.names.Loss.{Loss}
 use Rattle.cb_member.specs.declared.names.Shard.{Shard}
 use Rattle.cb_member.specs.declared.no_memory.NoMemory.{NoMemory}
 use Rattle.cb_set.specs.SetState.{SetState, set_of}
-use Rattle.cb_types.specs.declared.config.Config.{Config}
 use Rattle.cb_types.specs.declared.handle.SetId.{SetId}
 use Rattle.cb_types.specs.declared.job.Job.TheVariants as jobs
 use Rattle.cb_types.specs.declared.order.DecodeOrder.{DecodeOrder}
@@ -41,7 +40,7 @@ use Rattle.cb_shared.specs.declared.asked.Outcome.TheVariants as ends
 use Rattle.cb_shared.specs.Calls.{the_handle}
 use Rattle.cb_shared.specs.Ordering.{AsksBelow, AsksDesk, FetchFinds, IsAnswered, IsNoWant}
 use Rattle.cb_shared.specs.Ordering.{IsPlainFetch, IsPlainGather, MayAsk, fetched_of, handed_by}
-use Rattle.cb_shared.specs.Ordering.{job_of, keeps_of, order_run, told}
+use Rattle.cb_shared.specs.Ordering.{keeps_of, order_run, told}
 use Rattle.cb_shared.specs.Turning.{TurnBy}
 use Rattle.cb_shared.proofs.CallSteps.{known_grown}
 use Rattle.cb_shared.proofs.WorkedGround.{knows_made, made, part, two}
@@ -192,7 +191,7 @@ batch_alone not = not third refl
 rows_alone : IsPlainFetch (Ok (fetching.Answer (answer.Fetched third 1))) → ⊥
 rows_alone not = not third 1 refl
 
-no_want : IsNoWant answer.NoSpans
+no_want : IsNoWant answer.NoBatch
 no_want = λ frames loose nodes e. cc
 
 want : IsNoWant (answer.NoRoom 6 1 2) → ⊥
