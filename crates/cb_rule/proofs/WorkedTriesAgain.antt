@@ -1,6 +1,6 @@
 -- Worked turns that are made again, and what breaks each part of that alone.
-use Rattle.std.proofs.Common.{◌≡◌, ℕ, ◌||◌, Bool, true, false, ltb, not, List, [], ◌∷◌, length, None, Some}
-use Rattle.std.proofs.Common.{Option, refl, ap, ◌∙◌}
+use Rattle.std.proofs.Common.{◌≡◌, ℕ, Bool, true, false, ltb, not, List, [], ◌∷◌, length}
+use Rattle.std.proofs.Common.{Option, None, Some, refl, ap, ◌∙◌, arith}
 use Rattle.std.specs.FinMap as map
 use Rattle.std.specs.List.{list_any}
 use Rattle.cb_class.specs.Class.{pages_of}
@@ -9,8 +9,8 @@ use Rattle.cb_span.specs.Contents.{Contents}
 use Rattle.cb_span.specs.declared.temp.Temp.TheVariants.{Hot}
 use Rattle.cb_types.specs.declared.handle.Handle.{Handle}
 use Rattle.cb_types.specs.declared.job.Job.{Job}
-use Rattle.cb_types.specs.declared.job.Job.TheVariants.{Evict, Fetch, Free, Gather, Install, Land, Make}
-use Rattle.cb_types.specs.declared.job.Job.TheVariants.{Read, Swap, Write}
+use Rattle.cb_types.specs.declared.job.Job.TheVariants.{Evict, Fetch, Free, Gather, Install, Land}
+use Rattle.cb_types.specs.declared.job.Job.TheVariants.{Make, Read, Swap, Write}
 use Rattle.cb_types.specs.declared.order.Kept.{Kept}
 use Rattle.cb_types.specs.declared.order.Kept.TheVariants.{Decode, Encode}
 use Rattle.cb_types.specs.declared.reply.Reply.TheVariants.{NoRoom, Worn}
@@ -167,7 +167,8 @@ wide_by_the_job : (bytes : List ℕ) → length bytes ≡ 1025
 wide_by_the_job bytes long = ap not (long_make bytes long)
 
 -- where a span in local memory has
-wide_by_a_span : is_to_try_again (with_span 12) None (Make (7 ∷ [])) (Some (NoRoom 2655 1 4)) ≡ false
+wide_by_a_span :
+    is_to_try_again (with_span 12) None (Make (7 ∷ [])) (Some (NoRoom 2655 1 4)) ≡ false
 unfolding pages_of
 wide_by_a_span = refl
 

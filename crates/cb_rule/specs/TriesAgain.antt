@@ -1,5 +1,5 @@
 -- Turns that were refused for want of loose spans, and that are made again.
-use Rattle.std.specs.Prelude.{ℕ, ◌+◌, ◌*◌, ◌&&◌, ◌||◌, Bool, false, leb, ltb, not, List, length}
+use Rattle.std.specs.Prelude.{ℕ, ◌+◌, ◌*◌, ◌&&◌, ◌||◌, Bool, false, leb, ltb, not, length}
 use Rattle.std.specs.Prelude.{Option, None, Some, slice_index}
 use Rattle.std.specs.List.{list_any, position_or_len}
 use Rattle.cb_class.specs.Class.{page_counts, sizes}
