@@ -22,18 +22,19 @@ use Rattle.cb_swapin.specs.declared.fetching.Fetching.TheVariants as fetching
 use Rattle.cb_swapin.specs.FetchStep.{fetching_order, fetching_reply}
 use Rattle.cb_rule.specs.declared.view.View.{View}
 use Rattle.cb_rule.specs.Slot.{Sat}
-use Rattle.cb_rule.specs.TriesAgain.{is_to_try_again}
+use Rattle.cb_rule.specs.TriesAgain.{is_to_try_again, job_pages, may_come_loose, order_pages}
 use Rattle.cb_record.specs.Parts.{nothing_more}
 use Rattle.cb_shared.specs.declared.asked.Asked.{Asked}
 use Rattle.cb_shared.specs.declared.asked.Asked.TheVariants as asks
 use Rattle.cb_shared.specs.declared.asked.Outcome.{Outcome}
 use Rattle.cb_shared.specs.declared.asked.Outcome.TheVariants as ends
 use Rattle.cb_shared.specs.Ordering.{IsAnswered, IsFetched, IsGathered, IsInstalled, IsLanded}
-use Rattle.cb_shared.specs.Ordering.{IsNoWant, behind_fetch, behind_gather, fetch_told}
-use Rattle.cb_shared.specs.Ordering.{fetched_of, gather_told, job_of, told}
+use Rattle.cb_shared.specs.Ordering.{IsNoWant, MayAsk, behind_fetch, behind_gather, fetch_told}
+use Rattle.cb_shared.specs.Ordering.{fetched_of, gather_told, job_of, order_run, told}
 use Rattle.cb_shared.specs.Seats.{SeatAt, record_at}
 use Rattle.cb_shared.specs.Turning.{answer_of, freed_of, object_of}
 use Rattle.cb_shared.specs.UnderLock.{FreedMoves, IsBelow, TurnedBy}
+use Rattle.cb_shared.proofs.DidAlone.{tried_as}
 use Rattle.cb_shared.proofs.ReadParts.{grown_nothing}
 
 no_object : (k : Asked) → object_of (job_of k) ≡ None
@@ -87,46 +88,61 @@ fetched_below c h r below = tt
 
 -- ---- whether such a turn is made again
 -- one that was not refused for want of room is not
-no_want_tried : (far : FarState) (job : Job) (r : Reply) → IsNoWant r
-    → false ≡ is_to_try_again far job (Some r)
-no_want_tried far job (answer.NoRoom frames loose nodes) none = absurd (none frames loose nodes refl)
-no_want_tried far job r none = refl
+no_want_tried : (far : FarState) (order : Option Kept) (job : Job) (r : Result Reply NoMemory)
+    → IfOk r IsNoWant → false ≡ is_to_try_again far order job (answer_of r)
+no_want_tried far order job (Ok (answer.NoRoom frames loose nodes)) none =
+    absurd (none frames loose nodes refl)
+no_want_tried far order job (Ok r) none = refl
+no_want_tried far order job (Err e) none = refl
 
-gather_tried : (far : FarState) (r : Result Gathered NoMemory) → IfOk (gather_told r) IsNoWant
-    → false ≡ is_to_try_again far jobs.Gather (answer_of (gather_told r))
-gather_tried far (Ok g) none = no_want_tried far jobs.Gather (gathered_reply g) none
-gather_tried far (Err e) none = refl
-
-fetch_tried : (far : FarState) (handle : Handle) (r : Result Fetching NoMemory)
-    → IfOk (fetch_told r) IsNoWant
-    → false ≡ is_to_try_again far (jobs.Fetch handle) (answer_of (fetch_told r))
-fetch_tried far handle (Ok g) none =
-    no_want_tried far (jobs.Fetch handle) (fetching_reply g) none
-fetch_tried far handle (Err e) none = refl
+landing_of_none : (r : Result Reply NoMemory) → ((frames loose nodes : ℕ)
+    → ends.Land r ≡ ends.Land (Ok (answer.NoRoom frames loose nodes)) → ⊥) → IfOk r IsNoWant
+landing_of_none (Ok q) not = λ frames loose nodes is.
+    not frames loose nodes (ap (λ (z : Reply). ends.Land (Ok z)) is)
+landing_of_none (Err e) not = tt
 
 -- a landing is by its reply, and the three others are not
 pub tried_none : (far : FarState) (k : Asked) (o : Outcome) → IsAnswered k o
-    → ((r : Result Reply NoMemory) → o ≡ ends.Land r → ⊥)
-    → false ≡ is_to_try_again far (job_of k) (answer_of (told o))
-tried_none far asks.Gather (ends.Gather r) kind not = gather_tried far r kind.1
+    → ((frames loose nodes : ℕ) → o ≡ ends.Land (Ok (answer.NoRoom frames loose nodes)) → ⊥)
+    → false ≡ is_to_try_again far (order_run k) (job_of k) (answer_of (told o))
+tried_none far asks.Gather (ends.Gather r) kind not =
+    no_want_tried far None jobs.Gather (gather_told r) kind.1
 tried_none far (asks.Install done) (ends.Install r) kind not =
-    no_want_tried far jobs.Install r kind
-tried_none far (asks.Fetch handle) (ends.Fetch r) kind not = fetch_tried far handle r kind.1
-tried_none far (asks.Land done) (ends.Land r) kind not = absurd (not r refl)
+    no_want_tried far (Some (Encode done.now.order)) jobs.Install (Ok r) kind
+tried_none far (asks.Fetch handle) (ends.Fetch r) kind not =
+    no_want_tried far None (jobs.Fetch handle) (fetch_told r) kind.1
+tried_none far (asks.Land done) (ends.Land r) kind not =
+    no_want_tried far (Some (Decode done.now.order)) jobs.Land r (landing_of_none r not)
 tried_none far k o kind not = absurd kind
 
-pub tried_land : (far : FarState) (k : Asked) (r : Result Reply NoMemory) → IsAnswered k (ends.Land r)
-    → is_to_try_again far jobs.Land (answer_of r) ≡ is_to_try_again far (job_of k) (answer_of r)
-tried_land far (asks.Land done) r kind = refl
-tried_land far k r kind = absurd kind
+roomless : (far : FarState) (k : Asked) (frames loose nodes : ℕ)
+    → IsAnswered k (ends.Land (Ok (answer.NoRoom frames loose nodes)))
+    → may_come_loose far (order_pages far (order_run k)) frames loose
+    ≡ is_to_try_again far (order_run k) (job_of k) (Some (answer.NoRoom frames loose nodes))
+roomless far (asks.Land done) frames loose nodes kind = refl
+roomless far k frames loose nodes kind = absurd kind
 
-pub tried_by : (far : FarState) (k : Asked) (o : Outcome) (r : Result Reply NoMemory)
-    → o ≡ ends.Land r → IsAnswered k o
-    → is_to_try_again far jobs.Land (answer_of r)
-    ≡ is_to_try_again far (job_of k) (answer_of (told o))
-tried_by far k o r is kind = subst (λ (z : Outcome). is_to_try_again far jobs.Land (answer_of r)
-    ≡ is_to_try_again far (job_of k) (answer_of (told z))) (sym is)
-    (tried_land far k r (subst (IsAnswered k) is kind))
+pub tried_land : (far : FarState) (k : Asked) (o : Outcome) (frames loose nodes : ℕ)
+    → o ≡ ends.Land (Ok (answer.NoRoom frames loose nodes)) → IsAnswered k o
+    → may_come_loose far (order_pages far (order_run k)) frames loose
+    ≡ is_to_try_again far (order_run k) (job_of k) (answer_of (told o))
+tried_land far k o frames loose nodes is kind =
+    roomless far k frames loose nodes (subst (IsAnswered k) is kind)
+    ∙ ap (λ (z : Outcome). is_to_try_again far (order_run k) (job_of k) (answer_of (told z))) (sym is)
+
+-- by the order that was run, as by the one with which it may be asked
+pub tried_run : (c : Config) (far : FarState) (order : Option Kept) (k : Asked) (r : Option Reply)
+    → MayAsk c order k
+    → is_to_try_again far (order_run k) (job_of k) r ≡ is_to_try_again far order (job_of k) r
+tried_run c far order k r may =
+    tried_as far (order_run k) order (job_of k) r (same_pages k may)
+  where
+    same_pages : (k : Asked) → MayAsk c order k
+        → job_pages far (order_run k) (job_of k) ≡ job_pages far order (job_of k)
+    same_pages asks.Gather may = refl
+    same_pages (asks.Install done) may = refl
+    same_pages (asks.Fetch handle) may = refl
+    same_pages (asks.Land done) may = ap (order_pages far) (sym may)
 
 -- ---- what is answered is what was asked for
 pub gather_only : (o : Outcome) → IsGathered o
