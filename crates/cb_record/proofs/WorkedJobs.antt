@@ -14,7 +14,7 @@ use Rattle.cb_rule.specs.declared.view.Seen.{Seen}
 use Rattle.cb_rule.specs.declared.view.View.{View}
 use Rattle.cb_record.specs.Backs.{pins_at, turn_at}
 use Rattle.cb_record.specs.Deeds.{happening}
-use Rattle.cb_record.specs.Needs.{BringsIn, FindsEmpty, FindsPast, FindsPins, IsFreedAs, IsJobFor, IsOwnTurn, IsPinnedAs, Meets, need_of, own_job, the_object}
+use Rattle.cb_record.specs.Needs.{FindsEmpty, FindsPast, FindsPins, IsFreedAs, IsJobFor, IsOwnTurn, IsPinnedAs, MayBringIn, Meets, need_of, own_job, the_object}
 use Rattle.cb_record.specs.Needs.Need.{Nothing, AFreed, APinned, ATurn}
 use Rattle.cb_record.specs.Parts.{Part, grown, nothing_more, sum}
 use Rattle.cb_record.specs.Upheld.{as_part}
@@ -55,7 +55,7 @@ no_own_jobs : (own (request.Pin name) ≡ None) × (own (request.Peek name) ≡ 
     × (own_job None (request.Free name) ≡ None) × (own_job None (request.Filter name) ≡ None)
 no_own_jobs = (refl, refl, refl, refl, refl, refl, refl, refl)
 
--- ---- a job for a line is its own, or brings its object in
+-- ---- a job for a line is its own, or may bring its object in
 for_its_own : IsJobFor (Some job.Evict) None job.Evict
 for_its_own = refl
 
@@ -84,26 +84,26 @@ object_in (job.Swap handle) = handle.n
 object_in (job.Fetch handle) = handle.n
 object_in other = 0
 
-pub swaps_another : BringsIn 3 (job.Swap (the_object 4)) → ⊥
+pub swaps_another : MayBringIn 3 (job.Swap (the_object 4)) → ⊥
 swaps_another (inl is) = let e : 4 ≡ 3 = ap object_in is in omega (arith, e)
 swaps_another (inr (inl is)) = absurd (let e = is in cc)
 swaps_another (inr (inr is)) = absurd (let e = is in cc)
 
-fetches_another : BringsIn 3 (job.Fetch (the_object 4)) → ⊥
+fetches_another : MayBringIn 3 (job.Fetch (the_object 4)) → ⊥
 fetches_another (inl is) = absurd (let e = is in cc)
 fetches_another (inr (inl is)) = let e : 4 ≡ 3 = ap object_in is in omega (arith, e)
 fetches_another (inr (inr is)) = absurd (let e = is in cc)
 
-lands_any : (h : ℕ) → BringsIn h job.Land
+lands_any : (h : ℕ) → MayBringIn h job.Land
 lands_any h = inr (inr refl)
 
 -- no other job brings one in, not even one that names it or takes an order
-a_read_does_not : BringsIn 3 (job.Read (the_object 3)) → ⊥
+a_read_does_not : MayBringIn 3 (job.Read (the_object 3)) → ⊥
 a_read_does_not (inl is) = absurd (let e = is in cc)
 a_read_does_not (inr (inl is)) = absurd (let e = is in cc)
 a_read_does_not (inr (inr is)) = absurd (let e = is in cc)
 
-an_install_does_not : BringsIn 3 job.Install → ⊥
+an_install_does_not : MayBringIn 3 job.Install → ⊥
 an_install_does_not (inl is) = absurd (let e = is in cc)
 an_install_does_not (inr (inl is)) = absurd (let e = is in cc)
 an_install_does_not (inr (inr is)) = absurd (let e = is in cc)
