@@ -20,9 +20,10 @@ use Rattle.cb_evict.specs.Gathering.{gathered_order, gathered_reply}
 use Rattle.cb_swapin.specs.declared.fetching.Fetching.{Fetching}
 use Rattle.cb_swapin.specs.declared.fetching.Fetching.TheVariants as fetching
 use Rattle.cb_swapin.specs.FetchStep.{fetching_order, fetching_reply}
+use Rattle.cb_core.specs.OrderParts.{decode_in}
 use Rattle.cb_rule.specs.declared.view.View.{View}
 use Rattle.cb_rule.specs.Slot.{Sat}
-use Rattle.cb_rule.specs.TriesAgain.{is_to_try_again, job_pages, may_come_loose, order_pages}
+use Rattle.cb_rule.specs.TriesAgain.{is_to_try_again, job_pages, order_pages}
 use Rattle.cb_record.specs.Parts.{nothing_more}
 use Rattle.cb_shared.specs.declared.asked.Asked.{Asked}
 use Rattle.cb_shared.specs.declared.asked.Asked.TheVariants as asks
@@ -95,15 +96,9 @@ no_want_tried far order job (Ok (answer.NoRoom frames loose nodes)) none =
 no_want_tried far order job (Ok r) none = refl
 no_want_tried far order job (Err e) none = refl
 
-landing_of_none : (r : Result Reply NoMemory) → ((frames loose nodes : ℕ)
-    → ends.Land r ≡ ends.Land (Ok (answer.NoRoom frames loose nodes)) → ⊥) → IfOk r IsNoWant
-landing_of_none (Ok q) not = λ frames loose nodes is.
-    not frames loose nodes (ap (λ (z : Reply). ends.Land (Ok z)) is)
-landing_of_none (Err e) not = tt
-
 -- a landing is by its reply, and the three others are not
 pub tried_none : (far : FarState) (k : Asked) (o : Outcome) → IsAnswered k o
-    → ((frames loose nodes : ℕ) → o ≡ ends.Land (Ok (answer.NoRoom frames loose nodes)) → ⊥)
+    → ((r : Result Reply NoMemory) → o ≡ ends.Land r → ⊥)
     → false ≡ is_to_try_again far (order_run k) (job_of k) (answer_of (told o))
 tried_none far asks.Gather (ends.Gather r) kind not =
     no_want_tried far None jobs.Gather (gather_told r) kind.1
@@ -111,23 +106,22 @@ tried_none far (asks.Install done) (ends.Install r) kind not =
     no_want_tried far (Some (Encode done.now.order)) jobs.Install (Ok r) kind
 tried_none far (asks.Fetch handle) (ends.Fetch r) kind not =
     no_want_tried far None (jobs.Fetch handle) (fetch_told r) kind.1
-tried_none far (asks.Land done) (ends.Land r) kind not =
-    no_want_tried far (Some (Decode done.now.order)) jobs.Land r (landing_of_none r not)
+tried_none far (asks.Land done) (ends.Land r) kind not = absurd (not r refl)
 tried_none far k o kind not = absurd kind
 
-roomless : (far : FarState) (k : Asked) (frames loose nodes : ℕ)
-    → IsAnswered k (ends.Land (Ok (answer.NoRoom frames loose nodes)))
-    → may_come_loose far (order_pages far (order_run k)) frames loose
-    ≡ is_to_try_again far (order_run k) (job_of k) (Some (answer.NoRoom frames loose nodes))
-roomless far (asks.Land done) frames loose nodes kind = refl
-roomless far k frames loose nodes kind = absurd kind
+tried_land : (far : FarState) (k : Asked) (r : Result Reply NoMemory) → IsAnswered k (ends.Land r)
+    → is_to_try_again far (decode_in (order_run k)) jobs.Land (answer_of r)
+    ≡ is_to_try_again far (order_run k) (job_of k) (answer_of r)
+tried_land far (asks.Land done) r kind = refl
+tried_land far k r kind = absurd kind
 
-pub tried_land : (far : FarState) (k : Asked) (o : Outcome) (frames loose nodes : ℕ)
-    → o ≡ ends.Land (Ok (answer.NoRoom frames loose nodes)) → IsAnswered k o
-    → may_come_loose far (order_pages far (order_run k)) frames loose
+pub tried_by : (far : FarState) (order : Option Kept) (k : Asked) (o : Outcome)
+    (r : Result Reply NoMemory) → order ≡ decode_in (order_run k) → o ≡ ends.Land r → IsAnswered k o
+    → is_to_try_again far order jobs.Land (answer_of r)
     ≡ is_to_try_again far (order_run k) (job_of k) (answer_of (told o))
-tried_land far k o frames loose nodes is kind =
-    roomless far k frames loose nodes (subst (IsAnswered k) is kind)
+tried_by far order k o r same is kind =
+    ap (λ (x : Option Kept). is_to_try_again far x jobs.Land (answer_of r)) same
+    ∙ tried_land far k r (subst (IsAnswered k) is kind)
     ∙ ap (λ (z : Outcome). is_to_try_again far (order_run k) (job_of k) (answer_of (told z))) (sym is)
 
 -- by the order that was run, as by the one with which it may be asked

@@ -1,9 +1,10 @@
 //! Which turns are made again: those that were refused for want of loose spans, where there are so
 //! many frames that more spans may come loose.
-ghost use Rattle.std.specs.Prelude.{◌≡◌, ◌<◌, ◌^◌, ℕ, ltb, length, None, Some};
+ghost use Rattle.std.specs.Prelude.{◌≡◌, ◌<◌, ◌^◌, ℕ, ltb, length, Some};
 ghost use Rattle.std.specs.List.{list_any};
 ghost use Rattle.cb_class.specs.Class.{IsClass};
 ghost use Rattle.cb_span.specs.Contents.{Contents};
+ghost use Rattle.cb_swapin.specs.LandRule.{done_order};
 ghost use Rattle.cb_types.specs.Config.{IsAccepted};
 ghost use Rattle.cb_core.specs.Jobs.{IsJob};
 ghost use Rattle.cb_rule.specs.Locking.{Stood};
@@ -18,6 +19,7 @@ ghost use Rattle.cb_shared.specs.Turning.{answer_of};
 
 use crate::asked::{Asked, Outcome};
 use cb_class::{class_of, pages};
+use cb_orders::DecodeDone;
 use cb_types::{Config, Handle, Job, NoMemory, Reply};
 use cb_world::{Far, Spans};
 
@@ -32,29 +34,31 @@ const WIDE_FRAMES: u64 = 28;
 
 const WIDE_FRAMES_MORE: u64 = 2600;
 
-/// Whether a turn with this reply, which leaves this far state, is made again. Of a job that takes
-/// no order.
+/// Whether a turn of this job with this reply, which leaves this far state, is made again. A landing
+/// is of an order that was run.
 pub(crate) fn is_to_try_again(
     config: &Config,
     far: &Far,
+    order: Option<&DecodeDone>,
     job: &Job,
     reply: &Result<Reply, NoMemory>,
 ) -> bool
     requires config { IsAccepted config.now }
     requires stood { (known : Shown) × Stood config.now known far.now }
     requires job { IsJob config.now job.now }
-    ensures { result ≡ is_to_try_again far.now None job.now (answer_of reply.now) }
+    ensures { result ≡ is_to_try_again far.now (done_order order.entry) job.now
+        (answer_of reply.now) }
 {
     match reply {
         Ok(Reply::NoRoom { frames, loose, .. }) => {
-            may_come_loose(config, far, job_pages(config, far, job), *frames, *loose)
+            may_come_loose(config, far, job_pages(config, far, order, job), *frames, *loose)
         }
         _ => false,
     }
 }
 
 /// Whether a turn that hands an order out or takes one is made again. A landing alone may find no
-/// room, for a span of its order's set.
+/// room.
 pub(crate) fn is_order_tried_again(
     config: &Config,
     far: &Far,
@@ -68,9 +72,7 @@ pub(crate) fn is_order_tried_again(
         (answer_of (told outcome.now)) }
 {
     match outcome {
-        Outcome::Land(Ok(Reply::NoRoom { frames, loose, .. })) => {
-            may_come_loose(config, far, asked_pages(far, asked), *frames, *loose)
-        }
+        Outcome::Land(reply) => is_to_try_again(config, far, asked.landing(), &Job::Land, reply),
         _ => false,
     }
 }
@@ -99,19 +101,20 @@ fn is_wide(config: &Config, far: &Far, pages: u32) -> bool
     pages > 1 || has_wide_span(&far.spans)
 }
 
-/// The pages of the span for which a job needs frames that takes no order: a make those of its
-/// bytes' class, a read, a write and a swap those of the set in which its object is, and any other
-/// job none.
-fn job_pages(config: &Config, far: &Far, job: &Job) -> u32
+/// The pages of the span for which a job needs frames: a make those of its bytes' class, a read, a
+/// write and a swap those of the set in which its object is, a landing those of its order's set, and
+/// any other job none.
+fn job_pages(config: &Config, far: &Far, order: Option<&DecodeDone>, job: &Job) -> u32
     requires stood { (known : Shown) × Stood config.now known far.now }
     requires job { IsJob config.now job.now }
-    ensures { result ≡ job_pages far.now None job.now }
+    ensures { result ≡ job_pages far.now (done_order order.entry) job.now }
 {
     match job {
         Job::Make { bytes } => pages(class_of(bytes.as_slice().len() as u32)),
         Job::Read { handle } => home_pages(far, *handle),
         Job::Write { handle, .. } => home_pages(far, *handle),
         Job::Swap { handle } => home_pages(far, *handle),
+        Job::Land => order_pages(far, order),
         _ => 0,
     }
 }
@@ -127,13 +130,13 @@ fn home_pages(far: &Far, h: Handle) -> u32
     }
 }
 
-/// The pages of the span for which a landing needs frames, and 0 where none is asked for.
-fn asked_pages(far: &Far, asked: &Asked<'_>) -> u32
-    ensures { result ≡ order_pages far.now (order_run asked.now) }
+/// The pages of each span of the set of an order, and 0 where there is no order.
+fn order_pages(far: &Far, order: Option<&DecodeDone>) -> u32
+    ensures { result ≡ order_pages far.now (done_order order.entry) }
 {
-    match asked {
-        Asked::Land(done) => set_pages(far, done.order().set),
-        _ => 0,
+    match order {
+        Some(done) => set_pages(far, done.order().set),
+        None => 0,
     }
 }
 
