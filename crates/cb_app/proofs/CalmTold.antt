@@ -36,7 +36,7 @@ use Rattle.cb_rule.specs.declared.turn.Turn.{Turn}
 use Rattle.cb_rule.specs.declared.view.View.{View}
 use Rattle.cb_rule.specs.Lists.{Has}
 use Rattle.cb_rule.specs.OneHistory.{IsOneHistory}
-use Rattle.cb_rule.specs.TriesAgain.{is_to_try_again, is_wide, tries_again}
+use Rattle.cb_rule.specs.TriesAgain.{is_to_try_again, is_wide, job_pages, tries_again}
 use Rattle.cb_model.specs.Called.{calls_behind, calls_of, handle_for}
 use Rattle.cb_model.specs.Event.{event_of}
 use Rattle.cb_record.specs.Backs.{Backs, Tells}
@@ -177,14 +177,18 @@ module _ (first : ℕ) (s : Script) (ok : IsAccepted s.config) (v : View) (count
       (given_joins first c ok v count last one t there) (crashed t there)
       (omega (arith, made, room)) (c.k + c.r) (omega (arith, least, all))
 
+  -- the span for which its job needs frames, or one in local memory, has more than one page
+  abbrev wide : Turn → Bool
+  wide t = is_wide t.gave (job_pages t.gave t.order t.job)
+
   -- there are frames for the holes between spans, or none of them has more than one page
   enough_or_narrow : (t : Turn) → Has t v.turns → MakesShortIf t.job
-      → (is_wide t.gave t.job ≡ false) ⊎ (28 * c.k + 2600 ≤ c.frames)
+      → (wide t ≡ false) ⊎ (28 * c.k + 2600 ≤ c.frames)
   enough_or_narrow t there short = elim (cases_Bool (has_long_make s.lines)) [
     | inl long ↦ inr (roomy.wide long)
     | inr none ↦ inl (never_wide t.gave (gave_narrow first c v count last one (λ u in_it.
-        none_long_made v answers backs (answers_short s answers by none) u in_it) t there) t.job
-        (short none))
+        none_long_made v answers backs (answers_short s answers by none) u in_it) t there) t.order
+        t.job (short none))
   ]
 
   -- so a turn for which too few spans were loose was made again
@@ -194,12 +198,12 @@ module _ (first : ℕ) (s : Script) (ok : IsAccepted s.config) (v : View) (count
   tried t there frames loose nodes told all few short =
       let k = (gave_codes first c v count last one ok t there).force.0 in
       let least = roomy.frames in
-      ap (is_to_try_again t.gave t.job) told
-      ∙ comes_again t.gave t.job frames loose (omega (arith, few, k)) (omega (arith, least, k, all))
-      (holes (enough_or_narrow t there short))
+      ap (is_to_try_again t.gave t.order t.job) told
+      ∙ comes_again t.gave (job_pages t.gave t.order t.job) frames loose (omega (arith, few, k))
+      (omega (arith, least, k, all)) (holes (enough_or_narrow t there short))
     where
-      holes : (is_wide t.gave t.job ≡ false) ⊎ (28 * c.k + 2600 ≤ c.frames)
-          → (is_wide t.gave t.job ≡ false) ⊎ (28 * t.gave.code.k + 2600 ≤ frames)
+      holes : (wide t ≡ false) ⊎ (28 * c.k + 2600 ≤ c.frames)
+          → (wide t ≡ false) ⊎ (28 * t.gave.code.k + 2600 ≤ frames)
       holes (inl narrow) = inl narrow
       holes (inr room) = let k = (gave_codes first c v count last one ok t there).force.0 in
           inr (omega (arith, room, k, all))

@@ -22,7 +22,7 @@ use Rattle.cb_rule.specs.Lists.{Has}
 use Rattle.cb_record.specs.Backs.{Backs, happened_at, happened_for}
 use Rattle.cb_record.specs.Deeds.{Deed, deed, happened, happening}
 use Rattle.cb_record.specs.Lists.{newest_first}
-use Rattle.cb_record.specs.Needs.{IsJobFor, own_job}
+use Rattle.cb_record.specs.Needs.{IsJobFor, MayBringIn, own_job}
 use Rattle.cb_record.specs.Told.{tolds}
 use Rattle.cb_record.specs.Upheld.{as_part}
 use Rattle.cb_lanes.specs.Asked.{asked}
@@ -144,7 +144,7 @@ module _ (v : View) (answers : List Answer) (backs : Backs (as_part v) (tolds []
       by j (Some r) at told x = x
       by j None at told x = x
 
--- nor does the job of a line's own, or one that brings its object in
+-- nor does the job of a line's own, or one that may bring its object in
 abbrev bytes_if : Option Job → List ℕ
 bytes_if None = []
 bytes_if (Some j) = bytes_made j
@@ -155,10 +155,15 @@ own_short h (line.Make name bytes) short = short_bytes bytes short
 own_short (Some h) q short = omega arith
 own_short None q short = omega arith
 
+brought_short : (h : ℕ) (j : Job) → MayBringIn h j → MakesShort j
+brought_short h j (inl swap) = subst MakesShort (sym swap) (omega arith)
+brought_short h j (inr (inl fetch)) = subst MakesShort (sym fetch) (omega arith)
+brought_short h j (inr (inr land)) = subst MakesShort (sym land) (omega arith)
+
 pub job_short : (h : Option ℕ) (q : Request) (j : Job) → MakesNoneLong q
     → IsJobFor (own_job h q) h j → MakesShort j
 job_short (Some h) q j short (inl is) =
     subst (λ (o : Option Job). length (bytes_if o) ≤ page_bytes) is (own_short (Some h) q short)
-job_short (Some h) q j short (inr is) = subst MakesShort (sym is) (omega arith)
+job_short (Some h) q j short (inr brings) = brought_short h j brings
 job_short None q j short is =
     subst (λ (o : Option Job). length (bytes_if o) ≤ page_bytes) is (own_short None q short)

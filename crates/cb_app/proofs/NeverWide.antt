@@ -10,12 +10,15 @@ use Rattle.cb_set.specs.SetState.{SetState}
 use Rattle.cb_span.specs.Contents.{Contents}
 use Rattle.cb_types.specs.declared.job.Job.{Job}
 use Rattle.cb_types.specs.declared.job.Job.TheVariants as job
+use Rattle.cb_types.specs.declared.order.Kept.{Kept}
+use Rattle.cb_types.specs.declared.order.Kept.TheVariants.{Decode, Encode}
 use Rattle.cb_world.specs.declared.homes.Home.{Home}
 use Rattle.cb_world.specs.FarState.{FarState, pages_if, span_in}
 use Rattle.cb_world.specs.Homes.{home_at}
 use Rattle.cb_world.specs.Sets.{set_in}
 use Rattle.cb_core.specs.Narrow.{IsNarrow}
-use Rattle.cb_rule.specs.TriesAgain.{home_pages, is_wide, job_pages, may_come_loose, pages_for, set_pages}
+use Rattle.cb_rule.specs.TriesAgain.{home_pages, is_wide, job_pages, may_come_loose, order_pages}
+use Rattle.cb_rule.specs.TriesAgain.{pages_for, set_pages}
 use Rattle.cb_app.proofs.LongMakes.{MakesShort}
 
 -- ---- spans of one page
@@ -34,12 +37,18 @@ module _ (far : FarState) (narrow : IsNarrow far) where
   home_few None = omega arith
   home_few (Some home) = set_few home.set (set_in far.sets home.set) refl
 
-  job_few : (j : Job) → MakesShort j → job_pages far j ≤ 1
-  job_few (job.Make bytes) short = pages_few (length bytes) short
-  job_few (job.Read handle) short = home_few (home_at far.homes handle.n)
-  job_few (job.Write handle at bytes) short = home_few (home_at far.homes handle.n)
-  job_few (job.Swap handle) short = home_few (home_at far.homes handle.n)
-  job_few j short = omega arith
+  order_few : (order : Option Kept) → order_pages far order ≤ 1
+  order_few None = omega arith
+  order_few (Some (Encode o)) = omega arith
+  order_few (Some (Decode o)) = set_few o.set (set_in far.sets o.set) refl
+
+  job_few : (order : Option Kept) (j : Job) → MakesShort j → job_pages far order j ≤ 1
+  job_few order (job.Make bytes) short = pages_few (length bytes) short
+  job_few order (job.Read handle) short = home_few (home_at far.homes handle.n)
+  job_few order (job.Write handle at bytes) short = home_few (home_at far.homes handle.n)
+  job_few order (job.Swap handle) short = home_few (home_at far.homes handle.n)
+  job_few order job.Land short = order_few order
+  job_few order j short = omega arith
 
   span_few : (f : ℕ) (o : Option Contents) → span_in far.spans f ≡ o → pages_if o ≤ 1
   span_few f None at = omega arith
@@ -50,24 +59,27 @@ module _ (far : FarState) (narrow : IsNarrow far) where
       (λ f d below. le-ltb 1 (pages_if (get_or far.spans f d))
       (span_few f (get_or far.spans f d) (get_or_default far.spans f None d below)))
 
-  pub never_wide : (j : Job) → MakesShort j → is_wide far j ≡ false
-  never_wide j short = ap (λ (b : Bool). b || list_any (λ span. ltb 1 (pages_if span)) far.spans)
-      (le-ltb 1 (job_pages far j) (job_few j short)) ∙ spans_few
+  pub never_wide : (order : Option Kept) (j : Job) → MakesShort j
+      → is_wide far (job_pages far order j) ≡ false
+  never_wide order j short =
+      ap (λ (b : Bool). b || list_any (λ span. ltb 1 (pages_if span)) far.spans)
+      (le-ltb 1 (job_pages far order j) (job_few order j short)) ∙ spans_few
 
 -- ---- a turn is made again where there are so many frames
-pub comes_again : (far : FarState) (j : Job) (frames loose : ℕ) → loose < far.code.k
+pub comes_again : (far : FarState) (pages frames loose : ℕ) → loose < far.code.k
     → 2 * far.code.k + 360 ≤ frames
-    → (is_wide far j ≡ false) ⊎ (28 * far.code.k + 2600 ≤ frames)
-    → may_come_loose far j frames loose ≡ true
-comes_again far j frames loose few enough holes =
+    → (is_wide far pages ≡ false) ⊎ (28 * far.code.k + 2600 ≤ frames)
+    → may_come_loose far pages frames loose ≡ true
+comes_again far pages frames loose few enough holes =
     ap (λ (b : Bool). b && (leb (2 * far.code.k + 360) frames
-    && (leb (28 * far.code.k + 2600) frames || not (is_wide far j)))) (lt-ltb loose far.code.k few)
-    ∙ ap (λ (b : Bool). b && (leb (28 * far.code.k + 2600) frames || not (is_wide far j)))
+    && (leb (28 * far.code.k + 2600) frames || not (is_wide far pages))))
+    (lt-ltb loose far.code.k few)
+    ∙ ap (λ (b : Bool). b && (leb (28 * far.code.k + 2600) frames || not (is_wide far pages)))
     (le-leb (2 * far.code.k + 360) frames enough) ∙ by holes
   where
-    by : (is_wide far j ≡ false) ⊎ (28 * far.code.k + 2600 ≤ frames)
-        → (leb (28 * far.code.k + 2600) frames || not (is_wide far j)) ≡ true
+    by : (is_wide far pages ≡ false) ⊎ (28 * far.code.k + 2600 ≤ frames)
+        → (leb (28 * far.code.k + 2600) frames || not (is_wide far pages)) ≡ true
     by (inl narrow) = ap (λ (b : Bool). leb (28 * far.code.k + 2600) frames || not b) narrow
         ∙ or-true (leb (28 * far.code.k + 2600) frames)
-    by (inr room) = ap (λ (b : Bool). b || not (is_wide far j))
+    by (inr room) = ap (λ (b : Bool). b || not (is_wide far pages))
         (le-leb (28 * far.code.k + 2600) frames room)

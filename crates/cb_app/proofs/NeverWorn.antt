@@ -1,6 +1,7 @@
 -- Which turns are answered Worn only once 2^40 were counted: those of every job that writes no
 -- version of an object that there is. It is of the rules alone, and would fit cb_core.
-use Rattle.std.proofs.Common.{◌≡◌, ◌⊎◌, ℕ, zero, suc, ◌^◌, Bool, true, false, List, refl, sym, ap, ◌∙◌, subst, inl, inr}
+use Rattle.std.proofs.Common.{◌≡◌, ◌⊎◌, ℕ, zero, suc, ◌^◌, Bool, true, false, List, Option, None, Some, refl, sym, ap, ◌∙◌, subst, inl, inr}
+use Rattle.std.specs.Prelude.{if◌then◌else◌}
 use Rattle.std.proofs.lemmas.Bool.{true≢false}
 use Rattle.cb_ptr.specs.declared.word.State.{State}
 use Rattle.cb_ptr.specs.declared.word.State.TheVariants as word
@@ -8,6 +9,8 @@ use Rattle.cb_ptr.specs.Word.{pins_of, state_of}
 use Rattle.cb_types.specs.declared.config.Config.{Config}
 use Rattle.cb_types.specs.declared.job.Job.{Job}
 use Rattle.cb_types.specs.declared.job.Job.TheVariants as job
+use Rattle.cb_types.specs.declared.order.Kept.{Kept}
+use Rattle.cb_types.specs.declared.order.Kept.TheVariants.{Decode, Encode}
 use Rattle.cb_types.specs.declared.reply.Reply.{Reply}
 use Rattle.cb_types.specs.declared.reply.Reply.TheVariants as answer
 use Rattle.cb_member.specs.declared.names.NodeId.{NodeId}
@@ -15,20 +18,31 @@ use Rattle.cb_member.specs.Membership.{next_epoch}
 use Rattle.cb_world.specs.declared.event.Event.{Event}
 use Rattle.cb_world.specs.declared.shown.Shown.{Shown}
 use Rattle.cb_world.specs.FarState.{FarState}
+use Rattle.cb_world.specs.SetWord.{is_broken}
 use Rattle.cb_mutate.specs.Answered.{AbsentAs, AnsweredAs, EmptyAnswer}
 use Rattle.cb_mutate.specs.MakeRule.{MakeRule}
 use Rattle.cb_evict.specs.EvictRule.{EvictRule, HasBoth, HasFewNodes, HasFewSpans}
 use Rattle.cb_filter.specs.FilterRule.{EmptyToFilter, FilterAs, FilterHere, FilterRule}
-use Rattle.cb_swapin.specs.SwapRule.{SwapRule}
+use Rattle.cb_swapin.specs.declared.fetching.Fetching.{Fetching}
+use Rattle.cb_swapin.specs.declared.fetching.Fetching.TheVariants.{Answer, Order}
+use Rattle.cb_swapin.specs.FetchStep.{FetchFar, fetching_reply, unfetched_answer}
+use Rattle.cb_swapin.specs.LandRule.{LandRule}
+use Rattle.cb_swapin.specs.SwapRule.{BringsRule}
 use Rattle.cb_swapin.proofs.Laws.{by_answer}
 use Rattle.cb_compact.specs.CompactStep.{CompactStep, PairEnds}
 use Rattle.cb_rebuild.specs.RebuildStep.{RebuildStep, Restores, surveyed}
+use Rattle.cb_set.specs.Lost.{lost}
 use Rattle.cb_set.specs.SetState.{SetState}
 use Rattle.cb_core.specs.Membership.{CrashTurn, JoinTurn, crashed, is_down, is_up, joined}
 use Rattle.cb_core.specs.OnceHere.{OnceHere, away, here}
+use Rattle.cb_core.specs.Ordered.{DoesWith, Lands, TurnedWith, desk_orders}
+use Rattle.cb_core.specs.Ordered.TurnedWith.{done as with_done, worn as with_worn}
+use Rattle.cb_core.specs.OrderParts.{FetchesBy}
+use Rattle.cb_core.specs.OrderParts.FetchesBy.{not_far as was_near, was_far as was_away}
 use Rattle.cb_core.specs.Parts.{Holding, WithRoom, most_evictions, not_far, was_far}
 use Rattle.cb_core.proofs.Laws.{room_reply}
-use Rattle.cb_core.specs.Turned.{Brings, ComesIn, Does, Makes, Swaps, Turned, WinsRoom, counted, done, worn}
+use Rattle.cb_core.specs.Turned.{Brings, ComesIn, Does, FindsWhere, Makes, Swaps, Turned, WinsRoom}
+use Rattle.cb_core.specs.Turned.{counted, done, once_counted, worn}
 
 abbrev pub is_worn : Reply → Bool
 is_worn answer.Worn = true
@@ -42,7 +56,7 @@ Unworn r = is_worn r ≡ false
 off : (r q : Reply) → is_worn q ≡ false → r ≡ q → Unworn r
 off r q other is = ap is_worn is ∙ other
 
--- the jobs of the lines that are no write and no free
+-- the jobs of the lines that are no write and no free, and those that bring a row in
 abbrev pub WritesNone : Job → Type 0
 WritesNone (job.Make bytes) = Unit {0}
 WritesNone (job.Read handle) = Unit {0}
@@ -53,6 +67,8 @@ WritesNone job.Compact = Unit {0}
 WritesNone job.Rebuild = Unit {0}
 WritesNone (job.Crash node) = Unit {0}
 WritesNone (job.Join node) = Unit {0}
+WritesNone (job.Fetch handle) = Unit {0}
+WritesNone job.Land = Unit {0}
 WritesNone j = ⊥
 
 -- ---- one operation
@@ -80,10 +96,31 @@ make_rule handles bytes far new answer.NoFrame es x = refl
 make_rule handles bytes far new (answer.Made h version) es x = refl
 make_rule handles bytes far new r es x = absurd x
 
-swap_rule : (id p : ℕ) (far new : FarState) (r : Reply) (es : List Event)
-    → SwapRule id p far new r es → Unworn r
-swap_rule id p far new r es x = subst Unworn (sym x.reply)
+brings_rule : {rows : SetState → ℕ} (id p : ℕ) (far new : FarState) (r : Reply) (es : List Event)
+    → BringsRule rows id p far new r es → Unworn r
+brings_rule id p far new r es x = subst Unworn (sym x.reply)
     (by_answer Unworn far id x.set (λ broken. refl) (λ fine free. refl) (λ f fine free. refl))
+
+unfetched : (far : FarState) (id : ℕ) (set : SetState) → Unworn (unfetched_answer far id set)
+unfetched far id set = by (is_broken far.members set)
+  where
+    by : (b : Bool) → Unworn (if b
+        then answer.Unavailable (record { n = id }) (lost far.members set.shards)
+        else answer.Direct)
+    by true = refl
+    by false = refl
+
+fetch_far : (far new : FarState) (id p : ℕ) (set : SetState) (g : Fetching)
+    → FetchFar far new id p set g → Unworn (fetching_reply g)
+fetch_far far new id p set (Order o) x = refl
+fetch_far far new id p set (Answer r) x = off r (unfetched_answer far id set) (unfetched far id set) x.0
+
+land_rule : (order : Option Kept) (far new : FarState) (r : Reply) (es : List Event)
+    → LandRule order far new r es → Unworn r
+land_rule None far new r es x = off r answer.NoOrder refl x.reply
+land_rule (Some (Encode o)) far new r es x = off r answer.NoOrder refl x.reply
+land_rule (Some (Decode o)) far new r es (inl x) = off r _ refl x.reply
+land_rule (Some (Decode o)) far new r es (inr x) = brings_rule o.set o.position far new r es x.brings
 
 filter_rule : (frames h : ℕ) (far new : FarState) (r : Reply) (es : List Event)
     → FilterRule frames h far new r es → Unworn r
@@ -151,12 +188,14 @@ module _ {D : Type 0} (run : D → List Event → D → Type 0) (shows : D → S
 
   pub brings : (h : ℕ) (a b : Hold) (r : Reply) → Brings run shows c h a r b → Unworn r
   brings h a b r x = room_reply c.frames (Swaps run shows h) (WinsRoom run shows c) Unworn
-      (λ n b r y never. swap_rule y.0.set y.0.position n.far b.far r y.2.events y.2.rule)
+      (λ n b r y never. brings_rule y.0.set y.0.position n.far b.far r y.2.events y.2.rule)
       (λ loose nodes. refl) most_evictions a b r x
 
+  finds : (h : ℕ) (a b : Hold) (r : Reply) → FindsWhere run shows h a r b → Unworn r
+  finds h a b r x = found (state_of x.rule.1.word) x.rule.1.word h x.events r x.rule.1.answer
+
   comes : (h : ℕ) (a b : Hold) (r : Reply) → ComesIn run shows c h a r b → Unworn r
-  comes h a b r (not_far x never) =
-      found (state_of x.rule.1.word) x.rule.1.word h x.events r x.rule.1.answer
+  comes h a b r (not_far x never) = finds h a b r x
   comes h a b r (was_far m x bring) = brings h m b r bring
 
   once : (h : ℕ) (a b : Hold) (r : Reply) → OnceHere (ComesIn run shows c h) (reads h) a r b → Unworn r
@@ -182,7 +221,31 @@ module _ {D : Type 0} (run : D → List Event → D → Type 0) (shows : D → S
   does job.Rebuild none a b r x = rebuild_step a.far b.far r x.1
   does (job.Crash node) none a b r x = crash_turn node a.far b.far r x.1
   does (job.Join node) none a b r x = join_turn node a.far b.far r x.1
+  does (job.Fetch handle) none a b r x = absurd x.1
+  does job.Land none a b r x = absurd x.1
   does j none a b r x = absurd none
+
+  -- ---- with the order that a seat keeps
+  fetches : (h : ℕ) (order keeps : Option Kept) (a b : Hold) (r : Reply)
+      → FetchesBy (desk_orders run shows c) h order a r keeps b → Unworn r
+  fetches h order keeps a b r (was_near x never same) = finds h a b r x
+  fetches h order keeps a b r (was_away m g find rows is same) = off r (fetching_reply g)
+      (fetch_far m.far b.far rows.0.set rows.0.position rows.3.set g rows.3.state) is
+
+  lands : (order : Option Kept) (a b : Hold) (r : Reply)
+      → WithRoom c.frames (Lands run shows order) (WinsRoom run shows c) most_evictions a r b
+      → Unworn r
+  lands order a b r x = room_reply c.frames (Lands run shows order) (WinsRoom run shows c) Unworn
+      (λ n b r y never. land_rule order n.far b.far r y.events y.rule)
+      (λ loose nodes. refl) most_evictions a b r x
+
+  does_with : (j : Job) → WritesNone j → (order keeps : Option Kept) (a b : Hold) (r : Reply)
+      → DoesWith run shows c j order a r keeps b → Unworn r
+  does_with (job.Fetch handle) none order keeps a b r x = fetches handle.n order keeps a b r x
+  does_with job.Land none order keeps a b r x = lands order a b r x.0
+  does_with job.Gather none order keeps a b r x = absurd none
+  does_with job.Install none order keeps a b r x = absurd none
+  does_with j none order keeps a b r x = absurd x
 
   -- such a turn is answered Worn where 2^40 were counted, and nowhere else
   pub worn_last : (j : Job) → WritesNone j → (a b : Hold) (r : Reply)
@@ -191,3 +254,10 @@ module _ {D : Type 0} (run : D → List Event → D → Type 0) (shows : D → S
   worn_last j none a b r (done few x) is =
       let e : true ≡ false = sym (ap is_worn is)
       ∙ does j none (record { desk = a.desk; far = counted a.far j }) b r x in absurd (true≢false e)
+
+  pub worn_with : (j : Job) → WritesNone j → (order keeps : Option Kept) (a b : Hold) (r : Reply)
+      → TurnedWith run shows c j order a r keeps b → r ≡ answer.Worn → a.far.counts.turns ≡ 2 ^ 40
+  worn_with j none order keeps a b r (with_worn end e kept same ran) is = end
+  worn_with j none order keeps a b r (with_done few x) is =
+      let e : true ≡ false = sym (ap is_worn is)
+      ∙ does_with j none order keeps (once_counted a j) b r x in absurd (true≢false e)

@@ -252,7 +252,7 @@ module _ (t : Turn) (world : WorldState) (seal : Seal) where
   abbrev crammed : Turn
   crammed = record t { job = job.Make (1 ∷ []); reply = Some (replies.NoRoom 364 1 6) }
 
-  told_too_early : (s : Script) → t.gave.code.k ≡ 2 → is_wide t.gave (job.Make (1 ∷ [])) ≡ false
+  told_too_early : (s : Script) → t.gave.code.k ≡ 2 → is_wide t.gave 1 ≡ false
       → sealed_record seal ≡ view_of (crammed ∷ [])
       → IsRun s (told_of world seal (answer 1 2 (Make a (1 ∷ [])) (replies.NoRoom 364 1 6) ∷ []) [])
       → ⊥
@@ -261,7 +261,7 @@ module _ (t : Turn) (world : WorldState) (seal : Seal) where
       (replies.NoRoom 364 1 6)) v.turns) under is.backs.tells.0)
     where
       by : IsTurnFor (Some (job.Make (1 ∷ []))) None (replies.NoRoom 364 1 6) crammed ⊎ ⊥ → ⊥
-      by (inl for_it) = false≢true (sym for_it.2 ∙ comes_again t.gave (job.Make (1 ∷ [])) 364 1
+      by (inl for_it) = false≢true (sym for_it.2 ∙ comes_again t.gave 1 364 1
           (omega (arith, two)) (omega (arith, two)) (inl narrow))
       by (inr none) = none
 

@@ -36,35 +36,35 @@ use Rattle.cb_rule.specs.Promised.{EntriesStand, EntryGoesOn, Wrote}
 use Rattle.cb_rule.proofs.Laws.{by_case, claimed_written, far_written, times_has}
 use Rattle.cb_record.specs.Backs.{Backs, EntersAt, Tells, WroteLines}
 use Rattle.cb_record.specs.Lists.{HasOne}
-use Rattle.cb_record.specs.Needs.{IsJobFor, IsLastOf, IsOwnTurn, IsTurnFor, Meets, need_of, own_job, the_object}
+use Rattle.cb_record.specs.Needs.{IsJobFor, IsLastOf, IsOwnTurn, IsTurnFor, MayBringIn, Meets}
+use Rattle.cb_record.specs.Needs.{need_of, own_job, the_object}
 use Rattle.cb_record.specs.Needs.Need.{AWorn}
 use Rattle.cb_record.specs.Told.{Told, tolds}
 use Rattle.cb_record.specs.Upheld.{as_part}
 use Rattle.cb_core.specs.Jobs.{NeedsNoOrder}
 use Rattle.cb_shared.proofs.Laws.{asked_alone}
-use Rattle.cb_shared.specs.Turning.{Did, DidAs, ReadsByPin, slate_run, slate_shows}
+use Rattle.cb_shared.specs.Turning.{Did, DidAs, DidBy, ReadsByPin, slate_run, slate_shows}
 use Rattle.cb_lanes.specs.Asked.{HasLineReply, asked}
 use Rattle.cb_app.specs.ByLane.{by_lane, lanes_up_to, of_lane}
 use Rattle.cb_app.specs.Telling.{TellsWorn}
 use Rattle.cb_app.proofs.AnswersTold.{InThreads, RunsIn, find_for}
-use Rattle.cb_app.proofs.NeverWorn.{WritesNone, worn_last}
+use Rattle.cb_app.proofs.NeverWorn.{WritesNone, worn_last, worn_with}
 use Rattle.cb_app.proofs.RangeTold.{written}
 use Rattle.cb_app.proofs.TurnHistory.{number_of}
 use Rattle.cb_app.proofs.WornLast.{ClaimsFoundHere, HadLast, by_pin, free_last, write_last}
 
 -- ---- one turn
--- such a job hands no order out and takes none
-writes_alone : (j : Job) → WritesNone j → NeedsNoOrder j
-writes_alone job.Gather none = absurd none
-writes_alone job.Install none = absurd none
-writes_alone (job.Fetch handle) none = absurd none
-writes_alone job.Land none = absurd none
-writes_alone j none = tt
-
 turn_worn : (c : Config) (t : Turn) → Did c t → WritesNone t.job → t.reply ≡ Some answer.Worn
     → turn_number t ≡ 2 ^ 40
-turn_worn c t did none is = worn_last slate_run slate_shows ReadsByPin by_pin c t.job none _ _
-    answer.Worn (asked_alone c t t.job (Some answer.Worn) (writes_alone t.job none) refl is did) refl
+turn_worn c t did none is =
+    by (subst (λ (o : Option Reply). DidBy c t.job t.order o t.keeps t.start t.acts t.took t.gave)
+    is did)
+  where
+    by : DidBy c t.job t.order (Some answer.Worn) t.keeps t.start t.acts t.took t.gave
+        → turn_number t ≡ 2 ^ 40
+    by (inl x) = worn_last slate_run slate_shows ReadsByPin by_pin c t.job none _ _ answer.Worn x.0 refl
+    by (inr x) = worn_with slate_run slate_shows ReadsByPin by_pin c t.job none t.order t.keeps _ _
+        answer.Worn x refl
 
 -- ---- the turn that a line needs is of such a job, where the line's own is
 abbrev IsNoWrite : Option Job → Type 0
@@ -75,10 +75,15 @@ own_turn : (own : Option Job) (j : Job) → IsNoWrite own → own ≡ Some j →
 own_turn None j none is = absurd (let e : None ≡ Some j = is in cc)
 own_turn (Some k) j none is = subst WritesNone (same_Some k j is) none
 
+brought_none : (h : ℕ) (j : Job) → MayBringIn h j → WritesNone j
+brought_none h j (inl swap) = subst WritesNone (sym swap) tt
+brought_none h j (inr (inl fetch)) = subst WritesNone (sym fetch) tt
+brought_none h j (inr (inr land)) = subst WritesNone (sym land) tt
+
 for_it : (own : Option Job) (h : Option ℕ) (j : Job) → IsNoWrite own → IsJobFor own h j → WritesNone j
 for_it own None j none is = own_turn own j none is
 for_it own (Some h) j none (inl is) = own_turn own j none is
-for_it own (Some h) j none (inr is) = subst WritesNone (sym is) tt
+for_it own (Some h) j none (inr brings) = brought_none h j brings
 
 -- ---- lists
 one_there : {A : Type 0} (P : A → Type 0) (xs : List A) → HasOne P xs → (x : A) × Has x xs × P x
@@ -316,7 +321,7 @@ module _ (c : Config) (v : View) (w : WorldState) (closed : IsClosed Did 1 c v w
 
       by : IsJobFor (Some (job.Free (the_object h))) (Some h) z.0.job → 2 ^ 40 ≤ count
       by (inl own) = freed_worn z.0 z.1 h (sym (same_Some _ _ own)) z.2.0
-      by (inr swap) = unwriting z.0 z.1 (subst WritesNone (sym swap) tt) z.2.0
+      by (inr brings) = unwriting z.0 z.1 (brought_none h z.0.job brings) z.2.0
 
   worn_line : (h : Option ℕ) (q : Request) → RunsIn q → IsReplyOf q answer.Worn
       → Meets (as_part v) (need_of h q answer.Worn) → 2 ^ 40 ≤ count

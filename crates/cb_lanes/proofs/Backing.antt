@@ -129,10 +129,10 @@ job_for own None j k is same = is ∙ ap (λ (z : Job). Some z) (sym same)
 
 -- the turn itself is what the line needs, where it is not made again
 abbrev pub IsLast : Turn → Reply → Type 0
-IsLast t r = is_to_try_again t.gave t.job (Some r) ≡ false
+IsLast t r = is_to_try_again t.gave t.order t.job (Some r) ≡ false
 
 last_turn : (t : Turn) (r : Reply) → t.reply ≡ Some r → IsLast t r → tries_again t ≡ false
-last_turn t r reply last = ap (is_to_try_again t.gave t.job) reply ∙ last
+last_turn t r reply last = ap (is_to_try_again t.gave t.order t.job) reply ∙ last
 
 pub its_turn : (c : Config) (own : Option Job) (h : Option ℕ) (j : Job) (r : Reply) (v : View) (d : Part)
     → own ≡ Some j → (x : TurnAdds c j (Ok r) v d) → IsLast x.turn r
@@ -147,12 +147,13 @@ pub its_swap : (c : Config) (own : Option Job) (h : ℕ) (r : Reply) (v : View) 
     → (x : TurnAdds c (job.Swap (the_handle h)) (Ok r) v d) → IsLast x.turn r
     → HasOne (IsTurnFor own (Some h) r) (x.turn ∷ [])
 its_swap c own h r v d x last =
-    inl (x.reply_is, inr x.job_is, last_turn x.turn r x.reply_is last)
+    inl (x.reply_is, inr (inl x.job_is), last_turn x.turn r x.reply_is last)
 
 -- a turn that answers its call is not
 pub is_last : (c : Config) (j : Job) (r : Reply) (v : View) (d : Part)
     → (x : TurnAdds c j (Ok r) v d) → again_in d.turns ≡ false → IsLast x.turn r
-is_last c j r v d x off = sym (ap (is_to_try_again x.turn.gave x.turn.job) x.reply_is)
+is_last c j r v d x off =
+    sym (ap (is_to_try_again x.turn.gave x.turn.order x.turn.job) x.reply_is)
     ∙ sym (part_again c j (Ok r) v d x) ∙ off
 
 -- ---- what a line adds that was answered so

@@ -1,5 +1,5 @@
 -- Worked jobs of lines, and answers that need a turn: each row, and what breaks one part alone.
-use Rattle.std.proofs.Common.{◌≡◌, ℕ, ◌+◌, ◌*◌, true, false, List, [], ◌∷◌, Option, Some, None, refl, inr, ⊎_elim, arith}
+use Rattle.std.proofs.Common.{◌≡◌, ℕ, ◌+◌, ◌*◌, true, false, List, [], ◌∷◌, Option, Some, None, refl, ap, inl, inr, ⊎_elim, arith}
 use Rattle.cb_ptr.specs.declared.word.State.TheVariants as state
 use Rattle.cb_types.specs.declared.job.Job.{Job}
 use Rattle.cb_types.specs.declared.job.Job.TheVariants as job
@@ -14,7 +14,7 @@ use Rattle.cb_rule.specs.declared.view.Seen.{Seen}
 use Rattle.cb_rule.specs.declared.view.View.{View}
 use Rattle.cb_record.specs.Backs.{pins_at, turn_at}
 use Rattle.cb_record.specs.Deeds.{happening}
-use Rattle.cb_record.specs.Needs.{FindsEmpty, FindsPast, FindsPins, IsFreedAs, IsJobFor, IsOwnTurn, IsPinnedAs, Meets, need_of, own_job, the_object}
+use Rattle.cb_record.specs.Needs.{FindsEmpty, FindsPast, FindsPins, IsFreedAs, IsJobFor, IsOwnTurn, IsPinnedAs, MayBringIn, Meets, need_of, own_job, the_object}
 use Rattle.cb_record.specs.Needs.Need.{Nothing, AFreed, APinned, ATurn}
 use Rattle.cb_record.specs.Parts.{Part, grown, nothing_more, sum}
 use Rattle.cb_record.specs.Upheld.{as_part}
@@ -55,19 +55,58 @@ no_own_jobs : (own (request.Pin name) ≡ None) × (own (request.Peek name) ≡ 
     × (own_job None (request.Free name) ≡ None) × (own_job None (request.Filter name) ≡ None)
 no_own_jobs = (refl, refl, refl, refl, refl, refl, refl, refl)
 
--- ---- a job for a line is its own, or brings its object in
+-- ---- a job for a line is its own, or may bring its object in
 for_its_own : IsJobFor (Some job.Evict) None job.Evict
 for_its_own = refl
 
+its_own_on_an_object : IsJobFor (Some (job.Free (the_object 3))) (Some 3) (job.Free (the_object 3))
+its_own_on_an_object = inl refl
+
 for_its_object : IsJobFor None (Some 3) (job.Swap (the_object 3))
-for_its_object = inr refl
+    × IsJobFor None (Some 3) (job.Fetch (the_object 3)) × IsJobFor None (Some 3) job.Land
+for_its_object = (inr (inl refl), inr (inr (inl refl)), inr (inr (inr refl)))
 
 for_another_s : IsJobFor (Some job.Evict) None job.Begin → ⊥
 for_another_s i = absurd (let e = i in cc)
 
 -- a line without an object brings none in
-for_no_object : IsJobFor None None (job.Swap (the_object 3)) → ⊥
-for_no_object i = absurd (let e = i in cc)
+for_no_object : (IsJobFor None None (job.Swap (the_object 3)) → ⊥)
+    × (IsJobFor None None (job.Fetch (the_object 3)) → ⊥) × (IsJobFor None None job.Land → ⊥)
+for_no_object = (
+  λ i. absurd (let e = i in cc),
+  λ i. absurd (let e = i in cc),
+  λ i. absurd (let e = i in cc),
+)
+
+-- another object is brought in by other jobs, but for a landing, which may be that of any
+abbrev object_in : Job → ℕ
+object_in (job.Swap handle) = handle.n
+object_in (job.Fetch handle) = handle.n
+object_in other = 0
+
+pub swaps_another : MayBringIn 3 (job.Swap (the_object 4)) → ⊥
+swaps_another (inl is) = let e : 4 ≡ 3 = ap object_in is in omega (arith, e)
+swaps_another (inr (inl is)) = absurd (let e = is in cc)
+swaps_another (inr (inr is)) = absurd (let e = is in cc)
+
+fetches_another : MayBringIn 3 (job.Fetch (the_object 4)) → ⊥
+fetches_another (inl is) = absurd (let e = is in cc)
+fetches_another (inr (inl is)) = let e : 4 ≡ 3 = ap object_in is in omega (arith, e)
+fetches_another (inr (inr is)) = absurd (let e = is in cc)
+
+lands_any : (h : ℕ) → MayBringIn h job.Land
+lands_any h = inr (inr refl)
+
+-- no other job brings one in, not even one that names it or takes an order
+a_read_does_not : MayBringIn 3 (job.Read (the_object 3)) → ⊥
+a_read_does_not (inl is) = absurd (let e = is in cc)
+a_read_does_not (inr (inl is)) = absurd (let e = is in cc)
+a_read_does_not (inr (inr is)) = absurd (let e = is in cc)
+
+an_install_does_not : MayBringIn 3 job.Install → ⊥
+an_install_does_not (inl is) = absurd (let e = is in cc)
+an_install_does_not (inr (inl is)) = absurd (let e = is in cc)
+an_install_does_not (inr (inr is)) = absurd (let e = is in cc)
 
 -- ---- the turns that refusals need, and what needs nothing
 turns_needed : {lost : _} →

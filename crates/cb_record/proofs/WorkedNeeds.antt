@@ -16,6 +16,7 @@ use Rattle.cb_record.specs.Needs.{ArePeeked, FindsEmpty, FindsPast, FindsPins, I
 use Rattle.cb_record.specs.Needs.Need.{Nothing, ARead, APin, APeek, AFreed, APinned, AnEnd, AWorn, ATurn}
 use Rattle.cb_record.specs.Parts.{nothing_more}
 use Rattle.cb_record.proofs.Replied.{same_bytes}
+use Rattle.cb_record.proofs.WorkedJobs.{swaps_another}
 
 -- ---- what answers need
 read_needs : need_of (Some 3) (request.Read (97 ∷ [])) (answer.Bytes 2 (1 ∷ 2 ∷ []))
@@ -218,10 +219,6 @@ pins_told : (t : Turn) → IsTurnFor (Some (job.Free (record { n = 3 }))) (Some 
 pins_told t of = inr (inl of)
 
 -- ---- turns
-abbrev swapped : Job → ℕ
-swapped (job.Swap handle) = handle.n
-swapped other = 0
-
 -- a code of one data shard, and no span in local memory
 abbrev no_spans : FarState
 no_spans = record (empty_far 1 (record {
@@ -247,7 +244,18 @@ module _ (t : Turn) where
   }
 
   brought_in : IsTurnFor None (Some 3) (answer.NoRoom 1 0 7) (swap_told 1)
-  brought_in = (refl, inr refl, refl)
+  brought_in = (refl, inr (inl refl), refl)
+
+  not_fetched : {lost : _}
+      → IsTurnFor None (Some 3) (answer.Unavailable (record { n = 2 }) lost) (record t {
+        job = job.Fetch (the_object 3);
+        reply = Some (answer.Unavailable (record { n = 2 }) lost);
+      })
+  not_fetched = (refl, inr (inr (inl refl)), refl)
+
+  not_landed : IsTurnFor None (Some 3) (answer.NoRoom 1 0 7)
+      (record (swap_told 1) { job = job.Land })
+  not_landed = (refl, inr (inr (inr refl)), refl)
 
   -- one that is made again tells no line of too little room
   made_again : IsTurnFor None (Some 3) (answer.NoRoom 362 0 7) (swap_told 362) → ⊥
@@ -263,9 +271,7 @@ module _ (t : Turn) where
 
   other_object : IsTurnFor None (Some 3) (answer.NoRoom 1 0 7)
       (record t { job = job.Swap (the_object 4); reply = Some (answer.NoRoom 1 0 7) }) → ⊥
-  other_object i = ⊎_elim (λ (e : None ≡ Some (job.Swap (the_object 4))). cc)
-      (λ (e : job.Swap (the_object 4) ≡ job.Swap (the_object 3)).
-      let n : 4 ≡ 3 = ap swapped e in omega (arith, n)) i.1
+  other_object i = ⊎_elim (λ (e : None ≡ Some (job.Swap (the_object 4))). cc) swaps_another i.1
 
   -- the end is told by a turn of its own job alone
   end_told : Meets (record nothing_more {

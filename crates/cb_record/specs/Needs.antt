@@ -20,7 +20,7 @@ use Rattle.cb_record.specs.Lists.{HasOne}
 use Rattle.cb_record.specs.Parts as parts
 
 -- nothing; a version that was read, pinned or peeked; a freed entry; a number of pins; the end of
--- an object; its last version; or a turn with this reply, whose job is the line's own or brings its
+-- an object; its last version; or a turn with this reply, whose job is the line's own or may bring its
 -- object in, and that is not made again
 pub data Need : Type 0 where
   Nothing : Need
@@ -126,9 +126,14 @@ IsLastOf h s = (s.handle ≡ h) × (s.version ≡ 2 ^ 64 - 1)
 abbrev pub IsOwnTurn : Option Job → Reply → Turn → Type 0
 IsOwnTurn own reply t = (t.reply ≡ Some reply) × (own ≡ Some t.job)
 
--- the job is the line's own, or brings its object in
+-- The job may bring the object in: in one turn, or by two, of which one fetches its row and one lands
+-- it. A landing names no object, so it may be that of any.
+abbrev pub MayBringIn : ℕ → Job → Type 0
+MayBringIn h j = (j ≡ job.Swap (the_object h)) ⊎ ((j ≡ job.Fetch (the_object h)) ⊎ (j ≡ job.Land))
+
+-- the job is the line's own, or may bring its object in
 abbrev pub IsJobFor : Option Job → Option ℕ → Job → Type 0
-IsJobFor own (Some h) j = (own ≡ Some j) ⊎ (j ≡ job.Swap (the_object h))
+IsJobFor own (Some h) j = (own ≡ Some j) ⊎ MayBringIn h j
 IsJobFor own None j = own ≡ Some j
 
 -- so of a turn with this reply that is not made again

@@ -1,5 +1,5 @@
 -- A job that needs no order is done alone, whatever order its seat keeps.
-use Rattle.std.proofs.Common.{◌≡◌, List, [], Option, None, Some, Result, Ok, Err, inl, inr}
+use Rattle.std.proofs.Common.{◌≡◌, ℕ, List, [], Option, None, Some, Result, Ok, Err, refl, ap, inl, inr}
 use Rattle.std.specs.Prelude.{IfOk}
 use Rattle.cb_member.specs.declared.no_memory.NoMemory.{NoMemory}
 use Rattle.cb_types.specs.declared.config.Config.{Config}
@@ -8,6 +8,7 @@ use Rattle.cb_types.specs.declared.job.Job.TheVariants.{Gather, Install, Fetch, 
 use Rattle.cb_types.specs.declared.job.Job.TheVariants.{Read, Swap, Write}
 use Rattle.cb_types.specs.declared.order.Kept.{Kept}
 use Rattle.cb_types.specs.declared.reply.Reply.{Reply}
+use Rattle.cb_types.specs.declared.reply.Reply.TheVariants.{NoRoom}
 use Rattle.cb_world.specs.declared.event.Event.{Event}
 use Rattle.cb_world.specs.declared.shown.Shown.{Shown}
 use Rattle.cb_world.specs.FarState.{FarState}
@@ -20,6 +21,7 @@ use Rattle.cb_core.specs.Parts.{Holding}
 use Rattle.cb_core.specs.Turned.{once_counted, worn}
 use Rattle.cb_core.specs.Unavailable.{TurnTells}
 use Rattle.cb_rule.specs.declared.turn.Turn.{Turn}
+use Rattle.cb_rule.specs.TriesAgain.{is_to_try_again, job_pages, may_come_loose}
 use Rattle.cb_shared.specs.Calls.{IsCalled}
 use Rattle.cb_shared.specs.Turning.{Did, DidAs, DidBy, DidWith, Slate, TellsLost, held_by}
 use Rattle.cb_shared.specs.Turning.{slate_run, slate_shows}
@@ -105,3 +107,22 @@ pub tells_alone : (job : Job) (order : Option Kept) (far : FarState) (r : Result
     → IfOk r (λ reply. TellsLost job order far reply)
 tells_alone job order far (Ok r) alone tells = told_alone job order far r alone tells
 tells_alone job order far (Err e) alone tells = tt
+
+-- ---- nor is it by an order that it is made again
+-- the pages of the span for which a job needs frames are all that it is by
+pub tried_as : (far : FarState) (o p : Option Kept) (job : Job) (r : Option Reply)
+    → job_pages far o job ≡ job_pages far p job
+    → is_to_try_again far o job r ≡ is_to_try_again far p job r
+tried_as far o p job (Some (NoRoom frames loose nodes)) same =
+    ap (λ (pages : ℕ). may_come_loose far pages frames loose) same
+tried_as far o p job (Some r) same = refl
+tried_as far o p job None same = refl
+
+pages_alone : (far : FarState) (o p : Option Kept) (job : Job) → NeedsNoOrder job
+    → job_pages far o job ≡ job_pages far p job
+pages_alone far o p Land alone = absurd alone
+pages_alone far o p job alone = refl
+
+pub tried_alone : (far : FarState) (o p : Option Kept) (job : Job) (r : Option Reply)
+    → NeedsNoOrder job → is_to_try_again far o job r ≡ is_to_try_again far p job r
+tried_alone far o p job r alone = tried_as far o p job r (pages_alone far o p job alone)

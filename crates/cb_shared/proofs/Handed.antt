@@ -20,20 +20,22 @@ use Rattle.cb_evict.specs.Gathering.{gathered_order, gathered_reply}
 use Rattle.cb_swapin.specs.declared.fetching.Fetching.{Fetching}
 use Rattle.cb_swapin.specs.declared.fetching.Fetching.TheVariants as fetching
 use Rattle.cb_swapin.specs.FetchStep.{fetching_order, fetching_reply}
+use Rattle.cb_core.specs.OrderParts.{decode_in}
 use Rattle.cb_rule.specs.declared.view.View.{View}
 use Rattle.cb_rule.specs.Slot.{Sat}
-use Rattle.cb_rule.specs.TriesAgain.{is_to_try_again}
+use Rattle.cb_rule.specs.TriesAgain.{is_to_try_again, job_pages, order_pages}
 use Rattle.cb_record.specs.Parts.{nothing_more}
 use Rattle.cb_shared.specs.declared.asked.Asked.{Asked}
 use Rattle.cb_shared.specs.declared.asked.Asked.TheVariants as asks
 use Rattle.cb_shared.specs.declared.asked.Outcome.{Outcome}
 use Rattle.cb_shared.specs.declared.asked.Outcome.TheVariants as ends
 use Rattle.cb_shared.specs.Ordering.{IsAnswered, IsFetched, IsGathered, IsInstalled, IsLanded}
-use Rattle.cb_shared.specs.Ordering.{IsNoWant, behind_fetch, behind_gather, fetch_told}
-use Rattle.cb_shared.specs.Ordering.{fetched_of, gather_told, job_of, told}
+use Rattle.cb_shared.specs.Ordering.{IsNoWant, MayAsk, behind_fetch, behind_gather, fetch_told}
+use Rattle.cb_shared.specs.Ordering.{fetched_of, gather_told, job_of, order_run, told}
 use Rattle.cb_shared.specs.Seats.{SeatAt, record_at}
 use Rattle.cb_shared.specs.Turning.{answer_of, freed_of, object_of}
 use Rattle.cb_shared.specs.UnderLock.{FreedMoves, IsBelow, TurnedBy}
+use Rattle.cb_shared.proofs.DidAlone.{tried_as}
 use Rattle.cb_shared.proofs.ReadParts.{grown_nothing}
 
 no_object : (k : Asked) → object_of (job_of k) ≡ None
@@ -87,46 +89,54 @@ fetched_below c h r below = tt
 
 -- ---- whether such a turn is made again
 -- one that was not refused for want of room is not
-no_want_tried : (far : FarState) (job : Job) (r : Reply) → IsNoWant r
-    → false ≡ is_to_try_again far job (Some r)
-no_want_tried far job (answer.NoRoom frames loose nodes) none = absurd (none frames loose nodes refl)
-no_want_tried far job r none = refl
-
-gather_tried : (far : FarState) (r : Result Gathered NoMemory) → IfOk (gather_told r) IsNoWant
-    → false ≡ is_to_try_again far jobs.Gather (answer_of (gather_told r))
-gather_tried far (Ok g) none = no_want_tried far jobs.Gather (gathered_reply g) none
-gather_tried far (Err e) none = refl
-
-fetch_tried : (far : FarState) (handle : Handle) (r : Result Fetching NoMemory)
-    → IfOk (fetch_told r) IsNoWant
-    → false ≡ is_to_try_again far (jobs.Fetch handle) (answer_of (fetch_told r))
-fetch_tried far handle (Ok g) none =
-    no_want_tried far (jobs.Fetch handle) (fetching_reply g) none
-fetch_tried far handle (Err e) none = refl
+no_want_tried : (far : FarState) (order : Option Kept) (job : Job) (r : Result Reply NoMemory)
+    → IfOk r IsNoWant → false ≡ is_to_try_again far order job (answer_of r)
+no_want_tried far order job (Ok (answer.NoRoom frames loose nodes)) none =
+    absurd (none frames loose nodes refl)
+no_want_tried far order job (Ok r) none = refl
+no_want_tried far order job (Err e) none = refl
 
 -- a landing is by its reply, and the three others are not
 pub tried_none : (far : FarState) (k : Asked) (o : Outcome) → IsAnswered k o
     → ((r : Result Reply NoMemory) → o ≡ ends.Land r → ⊥)
-    → false ≡ is_to_try_again far (job_of k) (answer_of (told o))
-tried_none far asks.Gather (ends.Gather r) kind not = gather_tried far r kind.1
+    → false ≡ is_to_try_again far (order_run k) (job_of k) (answer_of (told o))
+tried_none far asks.Gather (ends.Gather r) kind not =
+    no_want_tried far None jobs.Gather (gather_told r) kind.1
 tried_none far (asks.Install done) (ends.Install r) kind not =
-    no_want_tried far jobs.Install r kind
-tried_none far (asks.Fetch handle) (ends.Fetch r) kind not = fetch_tried far handle r kind.1
+    no_want_tried far (Some (Encode done.now.order)) jobs.Install (Ok r) kind
+tried_none far (asks.Fetch handle) (ends.Fetch r) kind not =
+    no_want_tried far None (jobs.Fetch handle) (fetch_told r) kind.1
 tried_none far (asks.Land done) (ends.Land r) kind not = absurd (not r refl)
 tried_none far k o kind not = absurd kind
 
-pub tried_land : (far : FarState) (k : Asked) (r : Result Reply NoMemory) → IsAnswered k (ends.Land r)
-    → is_to_try_again far jobs.Land (answer_of r) ≡ is_to_try_again far (job_of k) (answer_of r)
+tried_land : (far : FarState) (k : Asked) (r : Result Reply NoMemory) → IsAnswered k (ends.Land r)
+    → is_to_try_again far (decode_in (order_run k)) jobs.Land (answer_of r)
+    ≡ is_to_try_again far (order_run k) (job_of k) (answer_of r)
 tried_land far (asks.Land done) r kind = refl
 tried_land far k r kind = absurd kind
 
-pub tried_by : (far : FarState) (k : Asked) (o : Outcome) (r : Result Reply NoMemory)
-    → o ≡ ends.Land r → IsAnswered k o
-    → is_to_try_again far jobs.Land (answer_of r)
-    ≡ is_to_try_again far (job_of k) (answer_of (told o))
-tried_by far k o r is kind = subst (λ (z : Outcome). is_to_try_again far jobs.Land (answer_of r)
-    ≡ is_to_try_again far (job_of k) (answer_of (told z))) (sym is)
-    (tried_land far k r (subst (IsAnswered k) is kind))
+pub tried_by : (far : FarState) (order : Option Kept) (k : Asked) (o : Outcome)
+    (r : Result Reply NoMemory) → order ≡ decode_in (order_run k) → o ≡ ends.Land r → IsAnswered k o
+    → is_to_try_again far order jobs.Land (answer_of r)
+    ≡ is_to_try_again far (order_run k) (job_of k) (answer_of (told o))
+tried_by far order k o r same is kind =
+    ap (λ (x : Option Kept). is_to_try_again far x jobs.Land (answer_of r)) same
+    ∙ tried_land far k r (subst (IsAnswered k) is kind)
+    ∙ ap (λ (z : Outcome). is_to_try_again far (order_run k) (job_of k) (answer_of (told z))) (sym is)
+
+-- by the order that was run, as by the one with which it may be asked
+pub tried_run : (c : Config) (far : FarState) (order : Option Kept) (k : Asked) (r : Option Reply)
+    → MayAsk c order k
+    → is_to_try_again far (order_run k) (job_of k) r ≡ is_to_try_again far order (job_of k) r
+tried_run c far order k r may =
+    tried_as far (order_run k) order (job_of k) r (same_pages k may)
+  where
+    same_pages : (k : Asked) → MayAsk c order k
+        → job_pages far (order_run k) (job_of k) ≡ job_pages far order (job_of k)
+    same_pages asks.Gather may = refl
+    same_pages (asks.Install done) may = refl
+    same_pages (asks.Fetch handle) may = refl
+    same_pages (asks.Land done) may = ap (order_pages far) (sym may)
 
 -- ---- what is answered is what was asked for
 pub gather_only : (o : Outcome) → IsGathered o

@@ -1,8 +1,10 @@
 //! What a turn is asked for that hands an order out, or takes one, and what it answers.
 ghost use Rattle.std.specs.Prelude.{◌≡◌};
+ghost use Rattle.cb_swapin.specs.LandRule.{done_order};
+ghost use Rattle.cb_core.specs.OrderParts.{decode_in};
 ghost use Rattle.cb_shared.specs.declared.asked.Outcome.TheVariants as ends;
 ghost use Rattle.cb_shared.specs.Ordering.{IsFetched, IsGathered, IsInstalled, IsLanded};
-ghost use Rattle.cb_shared.specs.Ordering.{fetch_told, fetched_of};
+ghost use Rattle.cb_shared.specs.Ordering.{fetch_told, fetched_of, order_run};
 
 use cb_evict::Gathered;
 use cb_orders::{DecodeDone, EncodeDone};
@@ -28,6 +30,18 @@ pub enum Outcome {
     Install(Reply),
     Fetch(Result<Fetching, NoMemory>),
     Land(Result<Reply, NoMemory>),
+}
+
+impl Asked<'_> {
+    /// The order that was run of a landing.
+    pub(crate) fn landing(&self) -> Option<&DecodeDone>
+        ensures { done_order result ≡ decode_in (order_run self.now) }
+    {
+        match self {
+            Asked::Land(done) => Some(*done),
+            _ => None,
+        }
+    }
 }
 
 impl Outcome {

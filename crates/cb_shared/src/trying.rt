@@ -4,19 +4,22 @@ ghost use Rattle.std.specs.Prelude.{◌≡◌, ◌<◌, ◌^◌, ℕ, ltb, lengt
 ghost use Rattle.std.specs.List.{list_any};
 ghost use Rattle.cb_class.specs.Class.{IsClass};
 ghost use Rattle.cb_span.specs.Contents.{Contents};
+ghost use Rattle.cb_swapin.specs.LandRule.{done_order};
 ghost use Rattle.cb_types.specs.Config.{IsAccepted};
 ghost use Rattle.cb_core.specs.Jobs.{IsJob};
 ghost use Rattle.cb_rule.specs.Locking.{Stood};
 ghost use Rattle.cb_rule.specs.TriesAgain.{home_pages, is_to_try_again, is_wide, job_pages};
-ghost use Rattle.cb_rule.specs.TriesAgain.{may_come_loose};
+ghost use Rattle.cb_rule.specs.TriesAgain.{may_come_loose, order_pages, set_pages};
 ghost use Rattle.cb_world.specs.declared.shown.Shown.{Shown};
 ghost use Rattle.cb_world.specs.FarState.{pages_at, pages_if, span_in};
 ghost use Rattle.cb_world.specs.Homes.{home_at};
-ghost use Rattle.cb_shared.specs.Ordering.{IsAnswered, job_of, told};
+ghost use Rattle.cb_world.specs.Sets.{set_in};
+ghost use Rattle.cb_shared.specs.Ordering.{IsAnswered, job_of, order_run, told};
 ghost use Rattle.cb_shared.specs.Turning.{answer_of};
 
 use crate::asked::{Asked, Outcome};
 use cb_class::{class_of, pages};
+use cb_orders::DecodeDone;
 use cb_types::{Config, Handle, Job, NoMemory, Reply};
 use cb_world::{Far, Spans};
 
@@ -31,22 +34,25 @@ const WIDE_FRAMES: u64 = 28;
 
 const WIDE_FRAMES_MORE: u64 = 2600;
 
-/// Whether a turn of this job with this reply, which leaves this far state, is made again.
+/// Whether a turn of this job with this reply, which leaves this far state, is made again. A landing
+/// is of an order that was run.
 pub(crate) fn is_to_try_again(
     config: &Config,
     far: &Far,
+    order: Option<&DecodeDone>,
     job: &Job,
     reply: &Result<Reply, NoMemory>,
 ) -> bool
     requires config { IsAccepted config.now }
     requires stood { (known : Shown) × Stood config.now known far.now }
     requires job { IsJob config.now job.now }
-    ensures { result ≡ is_to_try_again far.now job.now (answer_of reply.now) }
+    ensures { result ≡ is_to_try_again far.now (done_order order.entry) job.now
+        (answer_of reply.now) }
 {
     match reply {
-        Ok(Reply::NoRoom { frames, loose, .. }) => may_come_loose(
-            config, far, job, *frames, *loose,
-        ),
+        Ok(Reply::NoRoom { frames, loose, .. }) => {
+            may_come_loose(config, far, job_pages(config, far, order, job), *frames, *loose)
+        }
         _ => false,
     }
 }
@@ -62,51 +68,53 @@ pub(crate) fn is_order_tried_again(
     requires config { IsAccepted config.now }
     requires stood { (known : Shown) × Stood config.now known far.now }
     requires kind { IsAnswered asked.now outcome.now }
-    ensures { result ≡ is_to_try_again far.now (job_of asked.now) (answer_of (told outcome.now)) }
+    ensures { result ≡ is_to_try_again far.now (order_run asked.now) (job_of asked.now)
+        (answer_of (told outcome.now)) }
 {
     match outcome {
-        Outcome::Land(reply) => is_to_try_again(config, far, &Job::Land, reply),
+        Outcome::Land(reply) => is_to_try_again(config, far, asked.landing(), &Job::Land, reply),
         _ => false,
     }
 }
 
-/// Whether so few loose spans are a reason to try again: too few for an eviction, but with so many
-/// frames more may come loose. The spans are looked at where the count of frames leaves it open.
-fn may_come_loose(config: &Config, far: &Far, job: &Job, frames: u32, loose: u32) -> bool
+/// Whether so few loose spans are a reason to try again, where a span of so many pages needs frames:
+/// too few for an eviction, but with so many frames more may come loose. The spans are looked at
+/// where the count of frames leaves it open.
+fn may_come_loose(config: &Config, far: &Far, pages: u32, frames: u32, loose: u32) -> bool
     requires config { IsAccepted config.now }
     requires stood { (known : Shown) × Stood config.now known far.now }
-    requires job { IsJob config.now job.now }
-    ensures { result ≡ may_come_loose far.now job.now frames loose }
+    ensures { result ≡ may_come_loose far.now pages frames loose }
 {
     let k = far.code.k as u64;
     let frames = frames as u64;
     (loose as u64) < k
         && 2 * k + MOST_HELD <= frames
-        && (WIDE_FRAMES * k + WIDE_FRAMES_MORE <= frames || !is_wide(config, far, job))
+        && (WIDE_FRAMES * k + WIDE_FRAMES_MORE <= frames || !is_wide(config, far, pages))
 }
 
-/// Whether the span for which the job needs frames, or one in local memory, has more than one page.
-fn is_wide(config: &Config, far: &Far, job: &Job) -> bool
+/// Whether a span of so many pages, or one in local memory, has more than one.
+fn is_wide(config: &Config, far: &Far, pages: u32) -> bool
     requires config { IsAccepted config.now }
     requires stood { (known : Shown) × Stood config.now known far.now }
-    requires job { IsJob config.now job.now }
-    ensures { result ≡ is_wide far.now job.now }
+    ensures { result ≡ is_wide far.now pages }
 {
-    job_pages(config, far, job) > 1 || has_wide_span(&far.spans)
+    pages > 1 || has_wide_span(&far.spans)
 }
 
 /// The pages of the span for which a job needs frames: a make those of its bytes' class, a read, a
-/// write and a swap those of the set in which its object is, and any other job none.
-fn job_pages(config: &Config, far: &Far, job: &Job) -> u32
+/// write and a swap those of the set in which its object is, a landing those of its order's set, and
+/// any other job none.
+fn job_pages(config: &Config, far: &Far, order: Option<&DecodeDone>, job: &Job) -> u32
     requires stood { (known : Shown) × Stood config.now known far.now }
     requires job { IsJob config.now job.now }
-    ensures { result ≡ job_pages far.now job.now }
+    ensures { result ≡ job_pages far.now (done_order order.entry) job.now }
 {
     match job {
         Job::Make { bytes } => pages(class_of(bytes.as_slice().len() as u32)),
         Job::Read { handle } => home_pages(far, *handle),
         Job::Write { handle, .. } => home_pages(far, *handle),
         Job::Swap { handle } => home_pages(far, *handle),
+        Job::Land => order_pages(far, order),
         _ => 0,
     }
 }
@@ -117,10 +125,27 @@ fn home_pages(far: &Far, h: Handle) -> u32
     ensures { result ≡ home_pages far.now (home_at far.now.homes h.n) }
 {
     match far.homes.at(h.n) {
-        Some(home) => match far.sets.committed(home.set) {
-            Some(set) => set.pages(),
-            None => 0,
-        },
+        Some(home) => set_pages(far, home.set),
+        None => 0,
+    }
+}
+
+/// The pages of each span of the set of an order, and 0 where there is no order.
+fn order_pages(far: &Far, order: Option<&DecodeDone>) -> u32
+    ensures { result ≡ order_pages far.now (done_order order.entry) }
+{
+    match order {
+        Some(done) => set_pages(far, done.order().set),
+        None => 0,
+    }
+}
+
+/// The pages of each span of the committed set of a number, and 0 where there is none.
+fn set_pages(far: &Far, id: u64) -> u32
+    ensures { result ≡ set_pages (set_in far.now.sets id) }
+{
+    match far.sets.committed(id) {
+        Some(set) => set.pages(),
         None => 0,
     }
 }

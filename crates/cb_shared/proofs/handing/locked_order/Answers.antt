@@ -6,7 +6,7 @@ use Rattle.cb_world.specs.FarState.{FarState}
 use Rattle.cb_rule.specs.Locking.{Stood}
 use Rattle.cb_rule.specs.Slot.{Sat}
 use Rattle.cb_rule.specs.TriesAgain.{is_to_try_again}
-use Rattle.cb_shared.specs.Ordering.{MayAsk, job_of, keeps_of, told}
+use Rattle.cb_shared.specs.Ordering.{MayAsk, job_of, keeps_of, order_run, told}
 use Rattle.cb_shared.specs.Seats.{record_at}
 use Rattle.cb_shared.specs.Trying.{tries_of}
 use Rattle.cb_shared.specs.Turning.{TellsLost, answer_of}
@@ -14,6 +14,7 @@ use Rattle.cb_shared.specs.UnderLock.{TurnedBy}
 use Rattle.cb_shared.proofs.AfterTurn.{at_end, begins_taken, ends_work, of_taken, of_work}
 use Rattle.cb_shared.proofs.AfterTurn.{order_taken, order_worked, slots_taken, took_as, turn_with}
 use Rattle.cb_shared.proofs.AfterTurn.{turned_by, worked_by}
+use Rattle.cb_shared.proofs.Handed.{tried_run}
 use Rattle.cb_shared.proofs.handing.locked_order.Goals as goal
 
 pub ask_by_seat-outcome-requires-clause-of : goal.ask_by_seat-outcome-requires-clause-of
@@ -102,10 +103,19 @@ returns-clause-turn g c = let config = c.args.config.now in
     c.ask_by_seat-outcome.ensures.tells))
 
 pub returns-clause-again : goal.returns-clause-again
-returns-clause-again g c = ap (λ (m : Sat). tries_of m.0) c.give_far.ensures.at.2
+returns-clause-again g c = let config = c.args.config.now in let asked = c.args.asked.now in
+    let o = c.ask_by_seat-outcome.result in let took = c.deref_mut.result.now in
+    let gave = c.ask_by_seat-outcome.new.far in
+    let l = c.lock_far-far.new.seat in let m = c.ask_by_seat-outcome.new.seat in
+    let same = order_worked config (job_of asked) (told o) _ took gave l m
+    c.ask_by_seat-outcome.ensures.work
+    ∙ order_taken config c.lock_far-far.result c.args.seat.now l c.lock_far-far.ensures.took in
+    let may = subst (λ (x : Option Kept). MayAsk config x asked) (sym same) c.requires.may in
+    ap (λ (x : Sat). tries_of x.0) c.give_far.ensures.at.2
     ∙ ap (λ (b : Bool). Some b) (sym (c.is_order_tried_again-again.ensures
-    ∙ ap (λ (far : FarState). is_to_try_again far (job_of c.args.asked.now)
-    (answer_of (told c.ask_by_seat-outcome.result))) c.deref.ensures))
+    ∙ ap (λ (far : FarState). is_to_try_again far (order_run asked) (job_of asked)
+    (answer_of (told o))) c.deref.ensures
+    ∙ tried_run config gave (record_at m).order asked (answer_of (told o)) may))
 
 pub returns-clause-kind : goal.returns-clause-kind
 returns-clause-kind g c = c.ask_by_seat-outcome.ensures.kind

@@ -1,4 +1,4 @@
-use Rattle.std.proofs.Common.{◌∙◌, Bool, Option, Some, ap, subst, sym, arith}
+use Rattle.std.proofs.Common.{◌∙◌, Bool, Option, None, Some, ap, subst, sym, arith}
 use Rattle.cb_types.specs.declared.order.Kept.{Kept}
 use Rattle.cb_world.specs.declared.shown.Shown.{Shown}
 use Rattle.cb_world.specs.FarState.{FarState}
@@ -12,7 +12,7 @@ use Rattle.cb_shared.specs.UnderLock.{TurnedBy}
 use Rattle.cb_shared.proofs.AfterTurn.{at_end, begins_taken, ends_work, knows_taken, of_taken}
 use Rattle.cb_shared.proofs.AfterTurn.{of_work, order_taken, order_worked, pins_taken, slots_taken}
 use Rattle.cb_shared.proofs.AfterTurn.{took_as, turn_with, turned_by, worked_still}
-use Rattle.cb_shared.proofs.DidAlone.{did_alone, tells_alone}
+use Rattle.cb_shared.proofs.DidAlone.{did_alone, tells_alone, tried_alone}
 use Rattle.cb_shared.proofs.MadeFirst.{makes_new}
 use Rattle.cb_shared.proofs.turning.locked_turn.Goals as goal
 
@@ -99,8 +99,10 @@ returns-clause-turn g c = let config = c.args.config.now in let job = c.args.job
 pub returns-clause-again : goal.returns-clause-again
 returns-clause-again g c = ap (λ (m : Sat). tries_of m.0) c.give_far.ensures.at.2
     ∙ ap (λ (b : Bool). Some b) (sym (c.is_to_try_again-again.ensures
-    ∙ ap (λ (far : FarState). is_to_try_again far c.args.job.now (answer_of c.work-reply.result))
-    c.deref.ensures))
+    ∙ ap (λ (far : FarState). is_to_try_again far None c.args.job.now
+    (answer_of c.work-reply.result)) c.deref.ensures
+    ∙ tried_alone c.work-reply.new.far None (record_at c.work-reply.new.seat).order c.args.job.now
+    (answer_of c.work-reply.result) c.requires.alone))
 
 pub returns-clause-new : goal.returns-clause-new
 returns-clause-new g c = let t = took_as c.args.config.now c.deref_mut.result.now
