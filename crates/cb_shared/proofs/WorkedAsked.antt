@@ -32,7 +32,7 @@ use Rattle.cb_core.specs.Parts.{Holding}
 use Rattle.cb_core.specs.Turned.{counted}
 use Rattle.cb_core.specs.Unavailable.{IsInLost}
 use Rattle.cb_rule.specs.declared.view.View.{View}
-use Rattle.cb_rule.specs.Steps.{Knows, with_look}
+use Rattle.cb_rule.specs.Steps.{IsNewest, Knows, with_look}
 use Rattle.cb_record.specs.Parts.{Part, grown, nothing_more}
 use Rattle.cb_shared.specs.declared.asked.Asked.{Asked}
 use Rattle.cb_shared.specs.declared.asked.Asked.TheVariants as asks
@@ -42,8 +42,10 @@ use Rattle.cb_shared.specs.Calls.{the_handle}
 use Rattle.cb_shared.specs.Ordering.{AsksBelow, AsksDesk, CanRun, FetchFinds, IsAnswered, IsNoWant}
 use Rattle.cb_shared.specs.Ordering.{IsPlainFetch, IsPlainGather, MayAsk, fetched_of, handed_by}
 use Rattle.cb_shared.specs.Ordering.{keeps_of, order_run, told}
+use Rattle.cb_shared.specs.Reading.{looked_freed}
 use Rattle.cb_shared.specs.Turning.{TurnBy}
 use Rattle.cb_shared.proofs.CallSteps.{known_grown}
+use Rattle.cb_shared.proofs.ReadParts.{grown_nothing, no_looks}
 use Rattle.cb_shared.proofs.WorkedGround.{knows_made, made, part, two}
 use Rattle.cb_shared.proofs.WorkedTurns.{adds_worn, worn_part}
 use Rattle.cb_shared.proofs.WorkedUnder.{far, known, last, stood}
@@ -407,6 +409,10 @@ looks_not = refl
 abbrev Fetches : Reply → View → Type 0
 Fetches r w = FetchFinds two 1 (jobs.Fetch (the_handle 1)) (Ok r) part w
 
+-- object 1 is still known behind such a turn
+knows_still : (d : Part) (m : View) → m ≡ grown d part → Knows 1 m
+knows_still d m is = subst (Knows 1) (sym is) (known_grown 1 d part (inl (made, inl refl, refl)))
+
 abbrev fetched : View
 fetched = grown (worn_part (jobs.Fetch (the_handle 1))) part
 
@@ -435,12 +441,32 @@ fetches_and_looks (m, (e, adds, is), (d, grows, finds)) = eqb-false 1 0 refl
     ∙ ap (λ (v : View). length v.looks) is ∙ ap (λ (p : Part). length (p.looks ++ [])) adds.part
     ∙ (λ i. length (((adds.finds i).looks ++ (adds.reads i).looks) ++ [])))
 
--- with no freed entry read, of an object that the record knows
+-- behind Freed the freed entry of an object that the record knows is read
+fetches_and_reads : (m : View) → TurnBy two (jobs.Fetch (the_handle 1)) (Ok answer.Freed) part m
+    → IsNewest 1 3 m → Fetches answer.Freed (grown (looked_freed 1 3 0) m)
+fetches_and_reads m turned newest = (
+  m,
+  turned,
+  (
+    looked_freed 1 3 0,
+    refl,
+    (
+      (λ knows. record {
+        before = nothing_more;
+        last = looked_freed 1 3 0;
+        lost = no_looks 1;
+        finds = (0, 3, refl, subst (IsNewest 1 3) (grown_nothing m) newest, refl);
+        part = refl;
+      }),
+      (λ off. absurd (off (knows_still turned.0 m turned.2))),
+    ),
+  ),
+)
+
+-- with none read
 fetches_unread : (w : View) → w.seen ≡ [] → Fetches answer.Freed w → ⊥
 fetches_unread w none (m, (e, adds, is), (d, grows, finds)) =
-    let knows : Knows 1 m = subst (Knows 1) (sym is)
-    (known_grown 1 e part (inl (made, inl refl, refl))) in
-    let x = finds.0 knows in
+    let x = finds.0 (knows_still e m is) in
     let all : 0 ≡ length (d.seen ++ m.seen) =
     ap length (sym none ∙ ap (λ (v : View). v.seen) grows) in
     let parts : length d.seen ≡ length (x.last.seen ++ x.before.seen) =
