@@ -4,7 +4,6 @@ use Rattle.std.proofs.Common.{sym, ap, ◌∙◌, subst}
 use Rattle.std.specs.Prelude.{IfOk}
 use Rattle.cb_member.specs.declared.no_memory.NoMemory.{NoMemory}
 use Rattle.cb_types.specs.declared.config.Config.{Config}
-use Rattle.cb_types.specs.declared.handle.Handle.{Handle}
 use Rattle.cb_types.specs.declared.job.Job.{Job}
 use Rattle.cb_types.specs.declared.job.Job.TheVariants as jobs
 use Rattle.cb_types.specs.declared.order.DecodeOrder.{DecodeOrder}
@@ -16,10 +15,10 @@ use Rattle.cb_types.specs.declared.reply.Reply.TheVariants as answer
 use Rattle.cb_world.specs.FarState.{FarState}
 use Rattle.cb_evict.specs.declared.gathering.Gathered.{Gathered}
 use Rattle.cb_evict.specs.declared.gathering.Gathered.TheVariants as gathered
-use Rattle.cb_evict.specs.Gathering.{gathered_order, gathered_reply}
+use Rattle.cb_evict.specs.Gathering.{gathered_order}
 use Rattle.cb_swapin.specs.declared.fetching.Fetching.{Fetching}
 use Rattle.cb_swapin.specs.declared.fetching.Fetching.TheVariants as fetching
-use Rattle.cb_swapin.specs.FetchStep.{fetching_order, fetching_reply}
+use Rattle.cb_swapin.specs.FetchStep.{fetching_order}
 use Rattle.cb_core.specs.OrderParts.{decode_in}
 use Rattle.cb_rule.specs.declared.view.View.{View}
 use Rattle.cb_rule.specs.Slot.{Sat}

@@ -51,7 +51,8 @@ pub(crate) fn is_to_try_again(
 {
     match reply {
         Ok(Reply::NoRoom { frames, loose, .. }) => {
-            may_come_loose(config, far, job_pages(config, far, order, job), *frames, *loose)
+            let pages = job_pages(config, far, order, job);
+            may_come_loose(config, far, pages, *frames, *loose)
         }
         _ => false,
     }
