@@ -1,6 +1,6 @@
 -- Where each span and each set has one page, no job but a long make needs a span of more; and when a
 -- turn that was refused for want of loose spans is made again.
-use Rattle.std.proofs.Common.{◌≡◌, ◌⊎◌, ℕ, ◌+◌, ◌*◌, ◌<◌, ◌≤◌, Bool, true, false, ◌&&◌, ◌||◌, not, leb, ltb, eqb, eqb-true, length, get_or, List, Option, None, Some, sym, ap, ◌∙◌, refl, inl, inr, arith}
+use Rattle.std.proofs.Common.{◌≡◌, ◌⊎◌, ℕ, ◌+◌, ◌*◌, ◌<◌, ◌≤◌, Bool, true, false, ◌&&◌, ◌||◌, not, leb, ltb, eqb, eqb-true, length, get_or, Option, None, Some, ap, ◌∙◌, refl, inl, inr, arith}
 use Rattle.std.proofs.Math.Bool.{or-true}
 use Rattle.std.specs.List.{list_any}
 use Rattle.std.proofs.lemmas.Bool.{agree_below_at, le-leb, le-ltb, lt-ltb}

@@ -255,6 +255,7 @@ module _ {D : Type 0} (run : D → List Event → D → Type 0) (shows : D → S
       let e : true ≡ false = sym (ap is_worn is)
       ∙ does j none (record { desk = a.desk; far = counted a.far j }) b r x in absurd (true≢false e)
 
+  -- so where a seat may keep an order
   pub worn_with : (j : Job) → WritesNone j → (order keeps : Option Kept) (a b : Hold) (r : Reply)
       → TurnedWith run shows c j order a r keeps b → r ≡ answer.Worn → a.far.counts.turns ≡ 2 ^ 40
   worn_with j none order keeps a b r (with_worn end e kept same ran) is = end
