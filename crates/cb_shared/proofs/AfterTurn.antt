@@ -307,12 +307,20 @@ order_worked c job r keeps took gave p q w =
     ∙ ap (λ (x : View). (grown w.within x).order) (acted_is w.events (record_at p))
     ∙ ap (λ (l : List Turn). keeps_after l (record_at p).order) w.quiet.1
 
--- so that of a turn that keeps it
+-- so that of a turn behind which something is kept by it
+pub worked_by : (c : Config) (job : Job) (r : Result Reply NoMemory)
+    (keeps : Option Kept → Option Kept) (took gave : FarState) (p q : SeatAt)
+    → WorkBy c job r (keeps (record_at p).order) took gave p q
+    → WorkBy c job r (keeps (record_at q).order) took gave p q
+worked_by c job r keeps took gave p q w =
+    subst (λ (o : Option Kept). WorkBy c job r (keeps o) took gave p q)
+    (sym (order_worked c job r (keeps (record_at p).order) took gave p q w)) w
+
+-- and that of one that keeps it
 pub worked_still : (c : Config) (job : Job) (r : Result Reply NoMemory) (took gave : FarState)
     (p q : SeatAt) → WorkBy c job r (record_at p).order took gave p q
     → WorkBy c job r (record_at q).order took gave p q
-worked_still c job r took gave p q w = subst (λ (o : Option Kept). WorkBy c job r o took gave p q)
-    (sym (order_worked c job r (record_at p).order took gave p q w)) w
+worked_still c job r took gave p q w = worked_by c job r (λ o. o) took gave p q w
 
 pub order_taken : (c : Config) (far : FarState) (p q : SeatAt) → TakesFar c far p q
     → (record_at q).order ≡ (record_at p).order

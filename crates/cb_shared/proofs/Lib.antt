@@ -22,6 +22,7 @@ mod Recalled
 mod Rights
 mod AfterTurn
 mod Mapped
+mod Asks
 mod Turns
 mod LockAlone
 mod ReadParts
@@ -29,6 +30,7 @@ mod Bringing
 mod PinsCounted
 mod ReadTurns
 mod TurnEnds
+mod Handed
 mod ReadKept
 mod Glanced
 mod Seeking
@@ -59,6 +61,7 @@ mod WorkedMaking
 mod WorkedReplies
 mod WorkedAdds
 mod WorkedSeeking
+mod WorkedAsked
 mod WorkedRecalls
 mod Known
 pub mod Laws

@@ -1,5 +1,12 @@
 -- A turn at a desk of one kind as one at a desk of another kind.
 use Rattle.std.proofs.Common.{ℕ, suc, List, [], Option, None, Some}
+use Rattle.cb_types.specs.declared.order.Kept.{Kept}
+use Rattle.cb_evict.specs.declared.gathering.Gathered.{Gathered}
+use Rattle.cb_swapin.specs.declared.fetching.Fetching.{Fetching}
+use Rattle.cb_core.specs.OrderParts.FetchesBy.{not_far as fetch_near, was_far as fetch_far}
+use Rattle.cb_core.specs.Ordered.{DoesWith, FetchesRows, Gathers, Installs, Lands, NothingDone}
+use Rattle.cb_core.specs.Ordered.{StoppedWith, StopsWith, TurnedWith}
+use Rattle.cb_core.specs.Ordered.TurnedWith.{done as done_with, worn as worn_with}
 use Rattle.cb_types.specs.declared.config.Config.{Config}
 use Rattle.cb_types.specs.declared.handle.Handle.{Handle}
 use Rattle.cb_types.specs.declared.job.Job.{Job}
@@ -246,6 +253,55 @@ module _ {D E : Type 0} (run : D → List Event → D → Type 0) (shows : D →
   pub stopped : (c : Config) (job : Job) → IsNoRead job
       → MapsLack (Stopped run shows lacks c job) (Stopped run' shows' lacks' c job)
   stopped c job other a b x = record { few = x.few; stops = stops c job other _ b x.stops }
+
+  -- ---- the jobs that hand an order out or take one
+  nothing_done : MapsLack (NothingDone run) (NothingDone run')
+  nothing_done a b (ran, same) = (back a.desk b.desk [] ran, same)
+
+  lands_so : (order : Option Kept) → Maps (Lands run shows order) (Lands run' shows' order)
+  lands_so order a b r p = performs a.desk b.desk a.far _ _ _ p
+
+  does_with : (c : Config) (job : Job) (order : Option Kept) (a b : Holding D) (r : Reply)
+      (keeps : Option Kept) → DoesWith run shows c job order a r keeps b
+      → DoesWith run' shows' c job order (on a) r keeps (on b)
+  does_with c Gather order a b r keeps (g, p, is, kept) =
+      (g, performs a.desk b.desk a.far _ _ _ p, is, kept)
+  does_with c Install order a b r keeps (ran, step) = (back a.desk b.desk [] ran, step)
+  does_with c (Fetch handle) order a b r keeps (fetch_near find off kept) =
+      fetch_near (finds handle.n a b r find) off kept
+  does_with c (Fetch handle) order a b r keeps (fetch_far m g find (home, at, ran, step) is kept) =
+      fetch_far (on m) g (finds handle.n a m answer.NotHere find)
+      (home, at, back m.desk b.desk [] ran, step) is kept
+  does_with c Land order a b r keeps (x, kept) = (
+    with_room c.frames (Lands run shows order) (WinsRoom run shows c) (Lands run' shows' order)
+        (WinsRoom run' shows' c) (lands_so order) (wins c) most_evictions a b r x,
+    kept,
+  )
+  does_with c job order a b r keeps x = absurd x
+
+  stops_with : (c : Config) (job : Job) (order : Option Kept)
+      → MapsLack (StopsWith run shows c job order) (StopsWith run' shows' c job order)
+  stops_with c Gather order a b x = evict_lacks a b x
+  stops_with c (Fetch handle) order a b (m, find, lacks) =
+      (on m, finds handle.n a m answer.NotHere find, nothing_done m b lacks)
+  stops_with c Land order a b x = room_stops (Lands run shows order) (WinsRoom run shows c)
+      (NothingDone run) (EvictLacks run shows) (Lands run' shows' order) (WinsRoom run' shows' c)
+      (NothingDone run') (EvictLacks run' shows') (lands_so order) nothing_done (wins c) evict_lacks
+      most_evictions a b x
+  stops_with c job order a b x = absurd x
+
+  pub turned_with : (c : Config) (job : Job) (order : Option Kept) (a b : Holding D) (r : Reply)
+      (keeps : Option Kept) → TurnedWith run shows c job order a r keeps b
+      → TurnedWith run' shows' c job order (on a) r keeps (on b)
+  turned_with c job order a b r keeps (worn_with end reply kept state ran) =
+      worn_with end reply kept state (back a.desk b.desk [] ran)
+  turned_with c job order a b r keeps (done_with few x) =
+      done_with few (does_with c job order _ b r keeps x)
+
+  pub stopped_with : (c : Config) (job : Job) (order : Option Kept)
+      → MapsLack (StoppedWith run shows c job order) (StoppedWith run' shows' c job order)
+  stopped_with c job order a b x =
+      record { few = x.few; stops = stops_with c job order _ b x.stops }
 
   -- the first part of a read
   pub brought_in : (c : Config) (handle : Handle)

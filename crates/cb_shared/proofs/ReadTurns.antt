@@ -1,6 +1,6 @@
 -- A turn of the job Read, in its two parts.
 use Rattle.std.proofs.Common.{◌≡◌, ℕ, zero, suc, ◌≤◌, length, List, [], None, Some, Result, Ok, Err}
-use Rattle.std.proofs.Common.{sym, refl, ap, ◌∙◌, subst, inl, inr, ◌++◌}
+use Rattle.std.proofs.Common.{Option, sym, refl, ap, ◌∙◌, subst, inl, inr, ◌++◌}
 use Rattle.std.specs.Prelude.{IfOk}
 use Rattle.cb_member.specs.declared.no_memory.NoMemory.{NoMemory}
 use Rattle.cb_ptr.specs.declared.word.State.{State}
@@ -9,6 +9,7 @@ use Rattle.cb_ptr.specs.Word.{state_of}
 use Rattle.cb_types.specs.declared.config.Config.{Config}
 use Rattle.cb_types.specs.declared.handle.Handle.{Handle}
 use Rattle.cb_types.specs.declared.job.Job.{Job}
+use Rattle.cb_types.specs.declared.order.Kept.{Kept}
 use Rattle.cb_types.specs.declared.job.Job.TheVariants.{Read}
 use Rattle.cb_types.specs.declared.reply.Reply.{Reply}
 use Rattle.cb_types.specs.declared.reply.Reply.TheVariants as answer
@@ -39,6 +40,7 @@ use Rattle.cb_rule.specs.Steps.{AreNew, Knows, acted}
 use Rattle.cb_record.specs.Parts.{Part, grown, nothing_more}
 use Rattle.cb_shared.specs.SeatLaws.{Runs, acted_fresh, acted_is, acted_known, fresh_new}
 use Rattle.cb_shared.specs.Seats.{SeatAt, record_at}
+use Rattle.cb_shared.specs.Turning.{CountsPins}
 use Rattle.cb_shared.specs.Turning.{DidAs, IsReadReply, JobReads, Slate, TellsNoPin, Tries}
 use Rattle.cb_shared.specs.Turning.{answer_of, slate_run, slate_shows}
 use Rattle.cb_shared.specs.UnderLock.{BringAt, BroughtForRead, CameThere, HasSame, IsNoRead}
@@ -329,11 +331,11 @@ few_come p m es runs few = subst (λ (v : View). length v.pins ≤ 16)
     (sym (after_runs p m es runs)) few
 
 -- ---- any other job
-pub work_done : (c : Config) (job : Job) (r : Result Reply NoMemory) (took gave : FarState)
-    (p q : SeatAt) → IsNoRead job → NeedsNoOrder job → (record_at p).fresh ≡ []
-    → TurnAtSeat c job r (record_at p).order took gave p q
-    → WorkBy c job r (record_at p).order took gave p q
-work_done c job r took gave p q other alone none t =
+pub work_with : (c : Config) (job : Job) (r : Result Reply NoMemory) (keeps : Option Kept)
+    (took gave : FarState) (p q : SeatAt) → IsNoRead job → (record_at p).fresh ≡ []
+    → CountsPins job r (record_at p) → TurnAtSeat c job r keeps took gave p q
+    → WorkBy c job r keeps took gave p q
+work_with c job r keeps took gave p q other none pins t =
     let came : record_at q ≡ acted t.events (record_at p) = ap (λ (s : Sat). s.0) t.runs.0.2 in
     let fresh : (acted t.events (record_at p)).fresh ≡ t.more =
     ap (λ (x : View). x.fresh) (sym came) ∙ t.fresh in record {
@@ -356,15 +358,12 @@ work_done c job r took gave p q other alone none t =
       fresh = fresh;
       new = subst (λ (l : List Entry). AreNew l (record_at p)) fresh
           (fresh_new p q t.events none t.runs);
-      pins = counts_pins c job r t.events t.more took gave (record_at p)
-          (did_alone c job (record_at p).order (answer_of r) (record_at p).order (record_at p).known
-          t.events took gave alone t.did) t.runs.3 t.wrote
-          (sym (acted_fresh t.events (record_at p)) ∙ fresh);
+      pins = pins;
       stood = subst (λ (s : Shown). Stood c s gave)
           (ap (λ (x : View). x.known) came ∙ acted_known t.events (record_at p)) t.stood;
       leaves = subst (λ (s : Shown). LeavesOrders (record_at p).known took s gave)
           (ap (λ (x : View). x.known) came ∙ acted_known t.events (record_at p)) t.leaves;
-      own = subst (λ (s : Shown). KeepsOrder s gave (record_at p).order)
+      own = subst (λ (s : Shown). KeepsOrder s gave keeps)
           (ap (λ (x : View). x.known) came ∙ acted_known t.events (record_at p)) t.own;
     }
   where
@@ -372,3 +371,16 @@ work_done c job r took gave p q other alone none t =
         → JobReads job t.events r u nothing_more
     reads_none (Read handle) never r u = absurd never
     reads_none job never r u = refl
+
+-- so one that needs no order
+pub work_done : (c : Config) (job : Job) (r : Result Reply NoMemory) (took gave : FarState)
+    (p q : SeatAt) → IsNoRead job → NeedsNoOrder job → (record_at p).fresh ≡ []
+    → TurnAtSeat c job r (record_at p).order took gave p q
+    → WorkBy c job r (record_at p).order took gave p q
+work_done c job r took gave p q other alone none t =
+    work_with c job r (record_at p).order took gave p q other none
+    (counts_pins c job r t.events t.more took gave (record_at p)
+    (did_alone c job (record_at p).order (answer_of r) (record_at p).order (record_at p).known
+    t.events took gave alone t.did) t.runs.3 t.wrote
+    (sym (acted_fresh t.events (record_at p))
+    ∙ ap (λ (x : View). x.fresh) (sym (ap (λ (s : Sat). s.0) t.runs.0.2)) ∙ t.fresh)) t

@@ -1,6 +1,6 @@
 -- A turn over any desk, at the desk over a seat.
 use Rattle.std.proofs.Common.{◌≡◌, List, [], ◌++◌, Option, None, Some, Result, Ok, Err, sym, refl, ap}
-use Rattle.std.proofs.Common.{◌∙◌, subst, append-nil, inl}
+use Rattle.std.proofs.Common.{◌∙◌, subst, append-nil, inl, inr}
 use Rattle.std.specs.Prelude.{IfOk, OnErr}
 use Rattle.cb_member.specs.declared.no_memory.NoMemory.{NoMemory}
 use Rattle.cb_types.specs.declared.config.Config.{Config}
@@ -15,6 +15,8 @@ use Rattle.cb_world.specs.FarState.{FarState}
 use Rattle.cb_world.specs.Orders.{KeepsOrder, LeavesOrders}
 use Rattle.cb_world.specs.Played.{played}
 use Rattle.cb_world.specs.Sound.{Sound}
+use Rattle.cb_core.specs.Ordered.{StoppedWith, TurnedWith}
+use Rattle.cb_core.specs.OrderLeaves.{HandsOrder}
 use Rattle.cb_core.specs.Parts.{Holding}
 use Rattle.cb_core.specs.ReadTurn.{BroughtToRead, StoppedToRead}
 use Rattle.cb_core.specs.Turned.{ReadLacks, Reads, Stopped, Turned}
@@ -25,10 +27,15 @@ use Rattle.cb_rule.specs.Slot.{Sat}
 use Rattle.cb_rule.specs.Steps.{acted}
 use Rattle.cb_shared.specs.SeatLaws.{Runs, acted_fresh, acted_is, acted_known}
 use Rattle.cb_shared.specs.Seats.{SeatAt, record_at}
-use Rattle.cb_shared.specs.Turning.{DidAs, PinLacks, ReadsByPin, Slate, answer_of, held_by}
+use Rattle.cb_shared.specs.Turning.{DidAs, DidWith, PinLacks, ReadsByPin, Slate, answer_of, held_by}
 use Rattle.cb_shared.specs.Turning.{slate_run, slate_shows}
+use Rattle.cb_shared.specs.declared.asked.Asked.{Asked}
+use Rattle.cb_shared.specs.declared.asked.Outcome.{Outcome}
+use Rattle.cb_shared.specs.Ordering.{AsksDesk, MayAsk, handed_by, job_of, keeps_of, told}
 use Rattle.cb_shared.specs.UnderLock.{BringAt, BroughtForRead, IsNoRead, TurnAtSeat}
-use Rattle.cb_shared.proofs.Mapped.{brought_in, stopped, stopped_first, turned}
+use Rattle.cb_shared.proofs.Asks.{keeps_by, writes_none}
+use Rattle.cb_shared.proofs.Mapped.{brought_in, stopped, stopped_first, stopped_with, turned}
+use Rattle.cb_shared.proofs.Mapped.{turned_with}
 
 -- an order that was kept is kept where every order stays so
 pub order_left : (s : Shown) (far : FarState) (t : Shown) (new : FarState) (o : Option Kept)
@@ -116,6 +123,21 @@ module _ {D : Type 0} (at : D → SeatAt) (run : D → List Event → D → Type
         (stopped run shows (Reads run shows) (ReadLacks run shows) slate_run slate_shows ReadsByPin
         PinLacks slate_of slate_ran shown c job other a b y)
 
+    with_by : (job : Job) (r : Result Reply NoMemory) (keeps : Option Kept)
+        → IfOk r (λ q. TurnedWith run shows c job v.order a q keeps b)
+        → OnErr r (StoppedWith run shows c job v.order a b × (keeps ≡ v.order))
+        → DidWith c job v.order (answer_of r) keeps v.known es a.far b.far
+    with_by job (Ok q) keeps x y = as_slate
+        (λ z w. TurnedWith slate_run slate_shows c job v.order z q keeps w)
+        (turned_with run shows (Reads run shows) (ReadLacks run shows) slate_run slate_shows
+        ReadsByPin PinLacks slate_of slate_ran shown c job v.order a b q keeps x)
+    with_by job (Err e) keeps x y = (
+      as_slate (λ z w. StoppedWith slate_run slate_shows c job v.order z w)
+          (stopped_with run shows (Reads run shows) (ReadLacks run shows) slate_run slate_shows
+          ReadsByPin PinLacks slate_of slate_ran shown c job v.order a b y.0),
+      y.1,
+    )
+
     brought_by : (handle : Handle) → (r : Result Reply NoMemory)
         → IfOk r (λ q. BroughtToRead run shows c handle a q b)
         → OnErr r (StoppedToRead run shows c handle a b)
@@ -168,6 +190,44 @@ module _ {D : Type 0} (at : D → SeatAt) (run : D → List Event → D → Type
     leaves = l.leaves;
     own = order_left v.known a.far w.known b.far v.order l.leaves kept;
   }
+
+  -- what a turn of a job with an order leaves
+  order_at : (job : Job) (r : Result Reply NoMemory) (keeps : Option Kept)
+      → IfOk r (λ q. TurnedWith run shows c job v.order a q keeps b)
+      → OnErr r (StoppedWith run shows c job v.order a b × (keeps ≡ v.order))
+      → (z : TurnLeaves run shows c a b (λ more. more ≡ []))
+      → ((more : List Entry) → more ≡ [] → OutcomeWrites job r more)
+      → KeepsOrder (played z.events v.known) b.far keeps
+      → TurnAtSeat c job r keeps a.far b.far (at a.desk) (at b.desk)
+  order_at job r keeps x y z none own = let l = left_at (λ more. more ≡ []) z in record {
+    events = z.events;
+    more = l.more;
+    runs = back a.desk b.desk z.events z.ran;
+    did = inr (with_by z.events z.ran job r keeps x y);
+    next = l.next;
+    wrote = none l.more l.wrote;
+    fresh = l.fresh;
+    stood = l.stood;
+    leaves = l.leaves;
+    own = subst (λ (s : Shown). KeepsOrder s b.far keeps) (sym (known_is z.events z.ran)) own;
+  }
+
+  -- the order that was kept before it
+  kept_still : (W : List Entry → Type 0) (z : TurnLeaves run shows c a b W)
+      → KeepsOrder v.known a.far v.order → KeepsOrder (played z.events v.known) b.far v.order
+  kept_still W z kept = order_left v.known a.far (played z.events v.known) b.far v.order
+      (z.after v.known (shown a.desk v.known refl) stood.sound).orders kept
+
+  -- so where it was asked for
+  pub asked_at : (asked : Asked) → MayAsk c v.order asked → KeepsOrder v.known a.far v.order
+      → (o : Outcome) → AsksDesk run shows c asked o a b
+      → TurnAtSeat c (job_of asked) (told o) (keeps_of o v.order) a.far b.far (at a.desk) (at b.desk)
+  asked_at asked may kept o x = let h = x.leaves in
+      order_at (job_of asked) (told o) (keeps_of o v.order) (x.turned v.order may)
+      (x.stopped v.order may) h.leaves (λ more none. writes_none asked (told o) more none)
+      (keeps_by (KeepsOrder (played h.leaves.events v.known) b.far) tt v.order o
+      (kept_still (λ more. more ≡ []) h.leaves kept)
+      (h.kept v.known (shown a.desk v.known refl) stood.sound))
 
   pub bring_at : (handle : Handle) → (r : Result Reply NoMemory)
       → IfOk r (λ q. BroughtToRead run shows c handle a q b)

@@ -21,3 +21,4 @@ pub mod Closing
 pub mod Rights
 pub mod Calls
 pub mod Fetching
+pub mod Ordering

@@ -3,6 +3,7 @@
 #![tactic(auto)]
 
 pub mod answers;
+mod asked;
 mod board;
 mod boxed_far;
 pub mod calling;
@@ -11,8 +12,10 @@ mod crossing;
 mod filling;
 mod frames;
 mod freed;
+mod handing;
 mod handles;
 mod locking;
+mod ordering;
 pub mod pass;
 mod pinning;
 mod pins;

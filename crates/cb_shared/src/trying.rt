@@ -12,8 +12,10 @@ ghost use Rattle.cb_rule.specs.TriesAgain.{may_come_loose};
 ghost use Rattle.cb_world.specs.declared.shown.Shown.{Shown};
 ghost use Rattle.cb_world.specs.FarState.{pages_at, pages_if, span_in};
 ghost use Rattle.cb_world.specs.Homes.{home_at};
+ghost use Rattle.cb_shared.specs.Ordering.{IsAnswered, job_of, told};
 ghost use Rattle.cb_shared.specs.Turning.{answer_of};
 
+use crate::asked::{Asked, Outcome};
 use cb_class::{class_of, pages};
 use cb_types::{Config, Handle, Job, NoMemory, Reply};
 use cb_world::{Far, Spans};
@@ -45,6 +47,25 @@ pub(crate) fn is_to_try_again(
         Ok(Reply::NoRoom { frames, loose, .. }) => may_come_loose(
             config, far, job, *frames, *loose,
         ),
+        _ => false,
+    }
+}
+
+/// Whether a turn that hands an order out or takes one is made again. A landing alone may find no
+/// room.
+pub(crate) fn is_order_tried_again(
+    config: &Config,
+    far: &Far,
+    asked: &Asked<'_>,
+    outcome: &Outcome,
+) -> bool
+    requires config { IsAccepted config.now }
+    requires stood { (known : Shown) × Stood config.now known far.now }
+    requires kind { IsAnswered asked.now outcome.now }
+    ensures { result ≡ is_to_try_again far.now (job_of asked.now) (answer_of (told outcome.now)) }
+{
+    match outcome {
+        Outcome::Land(reply) => is_to_try_again(config, far, &Job::Land, reply),
         _ => false,
     }
 }

@@ -58,12 +58,13 @@ impl Shared {
     }
 
     /// Looks for the freed entry of an object, if there is one.
-    fn find_swapped<R: Wait>(&self, rt: &R, pass: &mut Pass, freed: Option<u32>)
+    pub(crate) fn find_swapped<R: Wait>(&self, rt: &R, pass: &mut Pass, freed: Option<u32>)
         requires of { IsPassOf self.now pass.old }
         requires handle { IsBelow self.now.config freed }
         ensures of { IsPassOf self.now pass.new }
         ensures finds { (d : Part) × Grows (record_of pass.old) d (record_of pass.new)
             × FindsKnown freed (record_of pass.old) d }
+        ensures order { (record_of pass.new).order ≡ (record_of pass.old).order }
     {
         let config = self.config;
         find_known(rt, &self.board.shared, &mut pass.seat, &config, freed);

@@ -1,5 +1,7 @@
-use Rattle.std.proofs.Common.{◌∙◌, sym, ap}
-use Rattle.cb_record.specs.Parts.{grown}
+use Rattle.std.proofs.Common.{◌∙◌, List, sym, ap}
+use Rattle.cb_rule.specs.declared.turn.Turn.{Turn}
+use Rattle.cb_rule.specs.declared.view.View.{View}
+use Rattle.cb_record.specs.Parts.{grown, keeps_after}
 use Rattle.cb_shared.specs.Handles.{handles_of}
 use Rattle.cb_shared.specs.Passes.{record_of}
 use Rattle.cb_shared.proofs.Glanced.{of_pass}
@@ -33,3 +35,8 @@ invariant_of-pass g c = let k = kept_known c.args.self.now.config c.args.freed
       pinned = c.args.pass.now.pinned ∙ sym (ap handles_of k.pins);
       tried = c.args.pass.now.tried ∙ sym k.tries;
     }
+
+pub returns-clause-order : goal.returns-clause-order
+returns-clause-order g c = let x = c.find_known.ensures in let v = record_of c.args.pass.now in
+    ap (λ (u : View). u.order) (view_of c.args.pass.now.seat c.find_known.new.seat (grown x.0 v) x.1)
+    ∙ ap (λ (l : List Turn). keeps_after l v.order) x.2.1

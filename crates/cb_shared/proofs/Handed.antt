@@ -1,0 +1,161 @@
+-- A turn that hands an order out, or takes one, as it stands in the record of its pass at its end.
+use Rattle.std.proofs.Common.{◌≡◌, ℕ, ◌<◌, false, Option, None, Some, Result, Ok, Err, refl}
+use Rattle.std.proofs.Common.{sym, ap, ◌∙◌, subst}
+use Rattle.std.specs.Prelude.{IfOk}
+use Rattle.cb_member.specs.declared.no_memory.NoMemory.{NoMemory}
+use Rattle.cb_types.specs.declared.config.Config.{Config}
+use Rattle.cb_types.specs.declared.handle.Handle.{Handle}
+use Rattle.cb_types.specs.declared.job.Job.{Job}
+use Rattle.cb_types.specs.declared.job.Job.TheVariants as jobs
+use Rattle.cb_types.specs.declared.order.DecodeOrder.{DecodeOrder}
+use Rattle.cb_types.specs.declared.order.EncodeOrder.{EncodeOrder}
+use Rattle.cb_types.specs.declared.order.Kept.{Kept}
+use Rattle.cb_types.specs.declared.order.Kept.TheVariants.{Encode, Decode}
+use Rattle.cb_types.specs.declared.reply.Reply.{Reply}
+use Rattle.cb_types.specs.declared.reply.Reply.TheVariants as answer
+use Rattle.cb_world.specs.FarState.{FarState}
+use Rattle.cb_evict.specs.declared.gathering.Gathered.{Gathered}
+use Rattle.cb_evict.specs.declared.gathering.Gathered.TheVariants as gathered
+use Rattle.cb_evict.specs.Gathering.{gathered_order, gathered_reply}
+use Rattle.cb_swapin.specs.declared.fetching.Fetching.{Fetching}
+use Rattle.cb_swapin.specs.declared.fetching.Fetching.TheVariants as fetching
+use Rattle.cb_swapin.specs.FetchStep.{fetching_order, fetching_reply}
+use Rattle.cb_rule.specs.declared.view.View.{View}
+use Rattle.cb_rule.specs.Slot.{Sat}
+use Rattle.cb_rule.specs.TriesAgain.{is_to_try_again}
+use Rattle.cb_record.specs.Parts.{nothing_more}
+use Rattle.cb_shared.specs.declared.asked.Asked.{Asked}
+use Rattle.cb_shared.specs.declared.asked.Asked.TheVariants as asks
+use Rattle.cb_shared.specs.declared.asked.Outcome.{Outcome}
+use Rattle.cb_shared.specs.declared.asked.Outcome.TheVariants as ends
+use Rattle.cb_shared.specs.Ordering.{IsAnswered, IsFetched, IsGathered, IsInstalled, IsLanded}
+use Rattle.cb_shared.specs.Ordering.{IsNoWant, behind_fetch, behind_gather, fetch_told}
+use Rattle.cb_shared.specs.Ordering.{fetched_of, gather_told, job_of, told}
+use Rattle.cb_shared.specs.Seats.{SeatAt, record_at}
+use Rattle.cb_shared.specs.Turning.{answer_of, freed_of, object_of}
+use Rattle.cb_shared.specs.UnderLock.{FreedMoves, IsBelow, TurnedBy}
+use Rattle.cb_shared.proofs.ReadParts.{grown_nothing}
+
+no_object : (k : Asked) → object_of (job_of k) ≡ None
+no_object asks.Gather = refl
+no_object (asks.Install done) = refl
+no_object (asks.Fetch handle) = refl
+no_object (asks.Land done) = refl
+
+none_freed : (k : Asked) (r : Result Reply NoMemory) → freed_of (job_of k) r ≡ None
+none_freed k (Ok answer.Freed) = no_object k
+none_freed k r = refl
+
+-- no freed entry is looked for under the lock
+pub stays_put : (c : Config) (k : Asked) (r : Result Reply NoMemory) (p : SeatAt)
+    → FreedMoves c (freed_of (job_of k) r) p p
+stays_put c k r p = subst (λ (o : Option ℕ). FreedMoves c o p p) (sym (none_freed k r)) (
+  nothing_more,
+  (
+    refl,
+    refl,
+    ap (λ (x : View). let z : Sat = (x, p.me.1) in z) (grown_nothing (record_at p)),
+  ),
+  (refl, refl),
+  tt,
+  refl,
+)
+
+-- what the record keeps then
+pub keeps_then : (c : Config) (job : Job) (r : Result Reply NoMemory) (keeps : Option Kept)
+    (v w : View) → TurnedBy c job r keeps v w → w.order ≡ keeps
+keeps_then c job r keeps v w t = ap (λ (x : View). x.order) t.left ∙ t.keeps_is
+
+-- that is the order that was handed out
+pub gather_handed : (r : Result Gathered NoMemory) (order new : Option Kept)
+    → new ≡ behind_gather r order
+    → IfOk r (λ g. (o : EncodeOrder) → g ≡ gathered.Order o → new ≡ Some (Encode o))
+gather_handed (Ok g) order new is = λ o e. is ∙ ap (gathered_order order) e
+gather_handed (Err x) order new is = tt
+
+pub fetch_handed : (r : Result Fetching NoMemory) (order new : Option Kept)
+    → new ≡ behind_fetch r order
+    → IfOk r (λ g. (o : DecodeOrder) → g ≡ fetching.Order o → new ≡ Some (Decode o))
+fetch_handed (Ok g) order new is = λ o e. is ∙ ap (fetching_order order) e
+fetch_handed (Err x) order new is = tt
+
+-- the object that is looked at behind a fetch is in range
+pub fetched_below : (c : Config) (h : ℕ) (r : Result Reply NoMemory) → h < c.handles
+    → IsBelow c (fetched_of h r)
+fetched_below c h (Ok answer.Freed) below = below
+fetched_below c h r below = tt
+
+-- ---- whether such a turn is made again
+-- one that was not refused for want of room is not
+no_want_tried : (far : FarState) (job : Job) (r : Reply) → IsNoWant r
+    → false ≡ is_to_try_again far job (Some r)
+no_want_tried far job (answer.NoRoom frames loose nodes) none = absurd (none frames loose nodes refl)
+no_want_tried far job r none = refl
+
+gather_tried : (far : FarState) (r : Result Gathered NoMemory) → IfOk (gather_told r) IsNoWant
+    → false ≡ is_to_try_again far jobs.Gather (answer_of (gather_told r))
+gather_tried far (Ok g) none = no_want_tried far jobs.Gather (gathered_reply g) none
+gather_tried far (Err e) none = refl
+
+fetch_tried : (far : FarState) (handle : Handle) (r : Result Fetching NoMemory)
+    → IfOk (fetch_told r) IsNoWant
+    → false ≡ is_to_try_again far (jobs.Fetch handle) (answer_of (fetch_told r))
+fetch_tried far handle (Ok g) none =
+    no_want_tried far (jobs.Fetch handle) (fetching_reply g) none
+fetch_tried far handle (Err e) none = refl
+
+-- a landing is by its reply, and the three others are not
+pub tried_none : (far : FarState) (k : Asked) (o : Outcome) → IsAnswered k o
+    → ((r : Result Reply NoMemory) → o ≡ ends.Land r → ⊥)
+    → false ≡ is_to_try_again far (job_of k) (answer_of (told o))
+tried_none far asks.Gather (ends.Gather r) kind not = gather_tried far r kind.1
+tried_none far (asks.Install done) (ends.Install r) kind not =
+    no_want_tried far jobs.Install r kind
+tried_none far (asks.Fetch handle) (ends.Fetch r) kind not = fetch_tried far handle r kind.1
+tried_none far (asks.Land done) (ends.Land r) kind not = absurd (not r refl)
+tried_none far k o kind not = absurd kind
+
+pub tried_land : (far : FarState) (k : Asked) (r : Result Reply NoMemory) → IsAnswered k (ends.Land r)
+    → is_to_try_again far jobs.Land (answer_of r) ≡ is_to_try_again far (job_of k) (answer_of r)
+tried_land far (asks.Land done) r kind = refl
+tried_land far k r kind = absurd kind
+
+pub tried_by : (far : FarState) (k : Asked) (o : Outcome) (r : Result Reply NoMemory)
+    → o ≡ ends.Land r → IsAnswered k o
+    → is_to_try_again far jobs.Land (answer_of r)
+    ≡ is_to_try_again far (job_of k) (answer_of (told o))
+tried_by far k o r is kind = subst (λ (z : Outcome). is_to_try_again far jobs.Land (answer_of r)
+    ≡ is_to_try_again far (job_of k) (answer_of (told z))) (sym is)
+    (tried_land far k r (subst (IsAnswered k) is kind))
+
+-- ---- what is answered is what was asked for
+pub gather_only : (o : Outcome) → IsGathered o
+    → ((r : Result Gathered NoMemory) → o ≡ ends.Gather r → ⊥) → ⊥
+gather_only (ends.Gather r) kind not = not r refl
+gather_only o kind not = kind
+
+pub install_only : (o : Outcome) → IsInstalled o
+    → ((r : Reply) → o ≡ ends.Install r → ⊥) → ⊥
+install_only (ends.Install r) kind not = not r refl
+install_only o kind not = kind
+
+pub fetch_only : (o : Outcome) → IsFetched o
+    → ((r : Result Fetching NoMemory) → o ≡ ends.Fetch r → ⊥) → ⊥
+fetch_only (ends.Fetch r) kind not = not r refl
+fetch_only o kind not = kind
+
+pub land_only : (o : Outcome) → IsLanded o
+    → ((r : Result Reply NoMemory) → o ≡ ends.Land r → ⊥) → ⊥
+land_only (ends.Land r) kind not = not r refl
+land_only o kind not = kind
+
+pub land_frames : (o : Outcome) (r : Result Reply NoMemory)
+    → o ≡ ends.Land r → IsLanded o → IfOk r (λ q. q ≡ answer.NoFrame → ⊥)
+land_frames o r is kind = subst IsLanded is kind
+
+-- an order that is handed out, and want of memory, are not Freed
+pub not_freed : (h : ℕ) (r : Result Fetching NoMemory)
+    → ((q : Reply) → r ≡ Ok (fetching.Answer q) → ⊥) → None ≡ fetched_of h (fetch_told r)
+not_freed h (Ok (fetching.Order o)) not = refl
+not_freed h (Ok (fetching.Answer q)) not = absurd (not q refl)
+not_freed h (Err e) not = refl
