@@ -5,8 +5,10 @@ use Rattle.std.proofs.lemmas.List.{map-append}
 use Rattle.std.proofs.lemmas.Option.{none-some}
 use Rattle.cb_member.specs.declared.no_memory.NoMemory.{NoMemory}
 use Rattle.cb_types.specs.declared.config.Field.TheVariants.{Handles}
+use Rattle.cb_types.specs.declared.handle.SetId.{SetId}
 use Rattle.cb_types.specs.declared.job.Job.{Job}
 use Rattle.cb_types.specs.declared.job.Job.TheVariants as job
+use Rattle.cb_types.specs.declared.order.EncodeOrder.{EncodeOrder}
 use Rattle.cb_types.specs.declared.reply.Reply.{Reply}
 use Rattle.cb_types.specs.declared.reply.Reply.TheVariants as answer
 use Rattle.cb_rule.specs.declared.view.View.{View}
@@ -15,22 +17,31 @@ use Rattle.cb_shared.specs.declared.runtime.Shared.{Shared}
 use Rattle.cb_record.specs.Parts.{Grows, Part}
 use Rattle.cb_shared.specs.Passes.{IsPassOf}
 use Rattle.cb_shared.specs.Turning.{answer_of}
-use Rattle.cb_workers.specs.Rules.{after_batch, after_pair, end_of, first_job, next_job, visited}
-use Rattle.cb_workers.specs.Work.{AnsweredTurn, IsOnly, deed_of, deeds_of, job_behind, lacked}
-use Rattle.cb_workers.specs.Bodies.{AddsTurns, Cuts, EndsBegun, HasMade, IsOwed, IsStopped, IsWorked, IsEnd, Lacks, Steps, one_deed, turns_alone}
+use Rattle.cb_workers.specs.Rules.{after_batch, after_begun, after_done, after_pair, end_of, first_job, next_job, visited}
+use Rattle.cb_workers.specs.Work.{AnsweredTurn, IsLackOf, IsOnly, deed_of, deeds_of, job_behind}
+use Rattle.cb_workers.specs.Bodies.{AddsTurns, Cuts, EndsBegun, HandsOver, HasMade, HasOrder, IsOwed, IsStopped, IsWorked, IsEnd, Lacks, Steps, one_deed, turns_alone}
 use Rattle.cb_workers.specs.declared.worker.Worker.{Worker}
 use Rattle.cb_workers.specs.declared.worker.Worker.TheVariants as worker
 use Rattle.cb_workers.proofs.Visits.{next_visit_below}
 use Rattle.cb_workers.proofs.Adding.{both_added, none_added}
 
 -- ---- the jobs that are due are a worker's
-batch_owed : (handles : ℕ) → (r : Reply) → IsOwed handles (after_batch r)
-batch_owed handles (answer.Batch set) = tt
-batch_owed handles (answer.Shipped position) = tt
-batch_owed handles (answer.Short positions) = tt
-batch_owed handles answer.AllShipped = tt
-batch_owed handles answer.NoNode = tt
-batch_owed handles r = tt
+begun_owed : (handles : ℕ) → (done : Job) → IsOwed handles (after_begun done)
+begun_owed handles job.Gather = tt
+begun_owed handles done = tt
+
+done_owed : (handles : ℕ) → (done : Job) → IsOwed handles (after_done done)
+done_owed handles job.Install = tt
+done_owed handles done = tt
+
+batch_owed : (handles : ℕ) → (done : Job) → (r : Reply) → IsOwed handles (after_batch done r)
+batch_owed handles done (answer.Batch set) = begun_owed handles done
+batch_owed handles done answer.Done = done_owed handles done
+batch_owed handles done (answer.Shipped position) = tt
+batch_owed handles done (answer.Short positions) = tt
+batch_owed handles done answer.AllShipped = tt
+batch_owed handles done answer.NoNode = tt
+batch_owed handles done r = tt
 
 pair_owed : (handles : ℕ) → (r : Reply) → IsOwed handles (after_pair r)
 pair_owed handles (answer.Pair a b) = tt
@@ -43,7 +54,7 @@ pair_owed handles r = tt
 next_owed : (handles : ℕ) → (w : Worker) → (before : Job) → (r : Reply) → 0 < handles
     → IsOwed handles (next_job handles w before r)
 next_owed handles worker.Filter before r some = next_visit_below handles (visited before) r some
-next_owed handles worker.Evict before r some = batch_owed handles r
+next_owed handles worker.Evict before r some = batch_owed handles before r
 next_owed handles worker.Compact before r some = pair_owed handles r
 next_owed handles worker.Rebuild before r some = tt
 
@@ -62,6 +73,45 @@ pub due_owed : (handles : ℕ) → (w : Worker) → (n : ℕ) → (due : Job) �
     → HasMade handles w n due v u → IsOwed handles due
 due_owed handles w n due v u some made =
     subst (λ j. IsOwed handles j) (sym made.due_is) (behind_owed handles w made.done some)
+
+-- ---- the order of an install
+begun_order : (done : Job) → (set : SetId) → (order : Option EncodeOrder) → (v : View)
+    → HandsOver done (answer.Batch set) order v → HasOrder (after_begun done) order v
+begun_order job.Gather set order v hands = hands
+begun_order done set order v hands = tt
+
+done_order : (done : Job) → (order : Option EncodeOrder) → (v : View)
+    → HasOrder (after_done done) order v
+done_order job.Install order v = tt
+done_order done order v = tt
+
+batch_order : (done : Job) → (r : Reply) → (order : Option EncodeOrder) → (v : View)
+    → HandsOver done r order v → HasOrder (after_batch done r) order v
+batch_order done (answer.Batch set) order v hands = begun_order done set order v hands
+batch_order done answer.Done order v hands = done_order done order v
+batch_order done (answer.Shipped position) order v hands = tt
+batch_order done (answer.Short positions) order v hands = tt
+batch_order done answer.AllShipped order v hands = tt
+batch_order done answer.NoNode order v hands = tt
+batch_order done r order v hands = tt
+
+pair_order : (r : Reply) → (order : Option EncodeOrder) → (v : View)
+    → HasOrder (after_pair r) order v
+pair_order (answer.Pair a b) order v = tt
+pair_order (answer.Stepped position) order v = tt
+pair_order (answer.Unfinished positions) order v = tt
+pair_order answer.AllStepped order v = tt
+pair_order (answer.NodeFull node) order v = tt
+pair_order r order v = tt
+
+-- an install is due behind a gather that handed an order out, and behind nothing else
+pub next_order : (handles : ℕ) → (w : Worker) → (done : Job) → (r : Reply)
+    → (order : Option EncodeOrder) → (v : View) → HandsOver done r order v
+    → HasOrder (next_job handles w done r) order v
+next_order handles worker.Filter done r order v hands = tt
+next_order handles worker.Evict done r order v hands = batch_order done r order v hands
+next_order handles worker.Compact done r order v hands = pair_order r order v
+next_order handles worker.Rebuild done r order v hands = tt
 
 -- ---- a loop over the turns
 
@@ -88,13 +138,14 @@ one_made handles w n due new v u t made (reply, next, adds) = record {
 
 pub one_lacked : (handles : ℕ) → (w : Worker) → (n turns : ℕ) → (due new : Job) → (v u t : View)
     → n < turns → HasMade handles w n due v u → Lacks due new u t → Cuts handles w turns new v t
-one_lacked handles w n turns due new v u t few made (same, adds) = record {
+one_lacked handles w n turns due new v u t few made (same, (lack, lacks, adds)) = record {
   done = made.done;
   fewer = subst (λ k. k < turns) (sym made.number) few;
   are_due = made.are_due;
   due_is = same ∙ made.due_is;
-  adds = subst (λ j. AddsTurns (lacked j ∷ deeds_of made.done) v t) (sym same)
-      (both_added (deeds_of made.done) (lacked due ∷ []) v u t made.adds adds);
+  lack = lack;
+  lacks = subst (λ j. IsLackOf j lack) (sym same) lacks;
+  adds = both_added (deeds_of made.done) lack v u t made.adds adds;
 }
 
 -- ---- the end
@@ -132,15 +183,17 @@ all_stopped handles w turns due v u t cut (ending, only, adds) = (
       fewer = cut.fewer;
       are_due = cut.are_due;
       ends = subst (λ j. IsOnly (end_of j) ending) cut.due_is only;
-      are = all.are ∙ ap (λ j. deeds_of ending ++ (lacked j ∷ deeds_of cut.done)) cut.due_is;
+      lack = cut.lack;
+      lacks = subst (λ j. IsLackOf j cut.lack) cut.due_is cut.lacks;
+      are = all.are;
     };
     alone = refl;
   },
   all.grows,
 )
   where
-    all : AddsTurns (deeds_of ending ++ (lacked due ∷ deeds_of cut.done)) v t
-    all = both_added (lacked due ∷ deeds_of cut.done) (deeds_of ending) v u t cut.adds adds
+    all : AddsTurns (deeds_of ending ++ (cut.lack ++ deeds_of cut.done)) v t
+    all = both_added (cut.lack ++ deeds_of cut.done) (deeds_of ending) v u t cut.adds adds
 
 -- ---- one end
 
@@ -165,6 +218,7 @@ IsSomeEnd (Some last) = IsEnd last
 IsSomeEnd None = ⊥
 
 is_end : (due last : Job) → end_of due ≡ Some last → IsEnd last
+is_end job.Install last e = subst IsSomeEnd e tt
 is_end job.Ship last e = subst IsSomeEnd e tt
 is_end job.Commit last e = subst IsSomeEnd e tt
 is_end job.Abort last e = subst IsSomeEnd e tt

@@ -1,6 +1,6 @@
 -- Worked examples of what the body of a worker adds to a record: a turn of the worker that evicts
 -- and the one that ends its batch; and for each part what breaks that part alone.
-use Rattle.std.proofs.Common.{◌≡◌, suc, ◌+◌, List, [], ◌∷◌, ◌++◌, length, Option, None, Some, refl, ap, ◌∙◌, lit<, arith}
+use Rattle.std.proofs.Common.{◌≡◌, suc, ◌+◌, List, [], ◌∷◌, ◌++◌, length, Option, None, Some, refl, ap, ◌∙◌, subst, inl, inr, lit<, arith}
 use Rattle.std.proofs.lemmas.List.{length-append, length-map}
 use Rattle.cb_types.specs.declared.job.Job.{Job}
 use Rattle.cb_types.specs.declared.job.Job.TheVariants as job
@@ -12,9 +12,9 @@ use Rattle.cb_world.specs.FarState.{FarState}
 use Rattle.cb_rule.specs.declared.turn.Turn.{Turn}
 use Rattle.cb_record.specs.Parts.{Part}
 use Rattle.cb_workers.specs.Bodies.{IsEnd, IsOwed, IsStopped, IsWorked, turns_alone}
-use Rattle.cb_workers.specs.Rules.{visit}
+use Rattle.cb_workers.specs.Rules.{end_of, visit}
 use Rattle.cb_record.specs.Deeds.{Deed}
-use Rattle.cb_workers.specs.Work.{AnsweredTurn, deed_of, deeds_of}
+use Rattle.cb_workers.specs.Work.{AnsweredTurn, IsLackOf, IsOnly, deed_of, deeds_of, lacked}
 use Rattle.cb_workers.specs.declared.worker.Worker.TheVariants as worker
 
 -- a turn with this job and reply, whatever was known and whatever far state it found
@@ -37,14 +37,14 @@ turn start far work reply = record {
 }
 
 abbrev pub begun : AnsweredTurn
-begun = record { job = job.Begin; reply = answer.Batch (record { n = 0 }) }
+begun = record { job = job.Gather; reply = answer.Batch (record { n = 0 }) }
 
 abbrev pub aborted : AnsweredTurn
 aborted = record { job = job.Abort; reply = answer.Done }
 
 abbrev pub two_turns : Shown → FarState → List Turn
 two_turns s far = turn s far job.Abort (Some answer.Done)
-    ∷ turn s far job.Begin (Some (answer.Batch (record { n = 0 }))) ∷ []
+    ∷ turn s far job.Gather (Some (answer.Batch (record { n = 0 }))) ∷ []
 
 pub works : (s : Shown) → (far : FarState) → IsWorked 8 worker.Evict 1 (turns_alone (two_turns s far))
 works s far = record {
@@ -84,8 +84,8 @@ not_pinned s far w = let same : 1 ≡ 0 = ap (λ (d : Part). d.ever) w.alone in 
 
 -- the second of two turns found no memory, and the batch was aborted
 pub stopped : (s : Shown) → (far : FarState) → IsStopped 8 worker.Evict 2
-    (turns_alone (turn s far job.Abort (Some answer.Done) ∷ turn s far job.Ship None
-    ∷ turn s far job.Begin (Some (answer.Batch (record { n = 0 }))) ∷ []))
+    (turns_alone (turn s far job.Abort (Some answer.Done) ∷ turn s far job.Install None
+    ∷ turn s far job.Gather (Some (answer.Batch (record { n = 0 }))) ∷ []))
 stopped s far = record {
   done = begun ∷ [];
   ending = aborted ∷ [];
@@ -93,6 +93,25 @@ stopped s far = record {
     fewer = lit< tt;
     are_due = (refl, tt);
     ends = (answer.Done, refl);
+    lack = lacked job.Install ∷ [];
+    lacks = inl refl;
+    are = refl;
+  };
+  alone = refl;
+}
+
+-- the order of an install could not be run, and the batch was aborted
+pub unrun : (s : Shown) → (far : FarState) → IsStopped 8 worker.Evict 2
+    (turns_alone (two_turns s far))
+unrun s far = record {
+  done = begun ∷ [];
+  ending = aborted ∷ [];
+  work = record {
+    fewer = lit< tt;
+    are_due = (refl, tt);
+    ends = (answer.Done, refl);
+    lack = [];
+    lacks = inr (refl, refl);
     are = refl;
   };
   alone = refl;
@@ -106,8 +125,22 @@ some_there ds es d e =
     let one : length (d ∷ es) ≡ suc (length es) = refl in
     omega (arith, all, parts, one)
 
+pub nothing_left : (due : Job) → (lack : List Deed) → (ending done : List AnsweredTurn)
+    → IsLackOf due lack → IsOnly (end_of due) ending
+    → [] ≡ deeds_of ending ++ (lack ++ deeds_of done) → ⊥
+nothing_left due lack ending done (inl one) only are =
+    some_there (deeds_of ending) (deeds_of done) (lacked due)
+    (subst (λ (ds : List Deed). [] ≡ deeds_of ending ++ (ds ++ deeds_of done)) one are)
+nothing_left due lack ending done (inr x) only are =
+    let ends = subst (λ (j : Job). IsOnly (end_of j) ending) x.0 only in
+    let all : 0 ≡ length (deeds_of ending ++ (lack ++ deeds_of done)) =
+    ap (λ (ds : List Deed). length ds) are in
+    let parts = length-append (deeds_of ending) (lack ++ deeds_of done) in
+    let one : length ending ≡ 1 = ap (λ (xs : List AnsweredTurn). length xs) ends.1 in
+    let told = length-map ending deed_of in omega (arith, all, parts, one, told)
+
 not_stopped : IsStopped 8 worker.Evict 2 (turns_alone []) → ⊥
-not_stopped w = some_there (deeds_of w.ending) (deeds_of w.done) _ w.work.are
+not_stopped w = nothing_left _ w.work.lack w.ending w.done w.work.lacks w.work.ends w.work.are
 
 -- ---- the jobs of workers
 owed : IsOwed 8 (visit 7) × IsOwed 8 job.Merge

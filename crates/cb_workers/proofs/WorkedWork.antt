@@ -1,6 +1,6 @@
 -- Worked examples of a worker's work: two turns of the worker that evicts and the one that ends its
 -- batch; and for each part what breaks that part alone.
-use Rattle.std.proofs.Common.{◌≡◌, ℕ, ◌+◌, List, [], ◌∷◌, length, Option, None, Some, refl, ap, lit<, arith}
+use Rattle.std.proofs.Common.{◌≡◌, ℕ, ◌+◌, List, [], ◌∷◌, ◌++◌, length, Option, None, Some, refl, ap, ◌∙◌, inl, inr, lit<, arith}
 use Rattle.cb_types.specs.declared.job.Job.TheVariants as job
 use Rattle.cb_types.specs.declared.reply.Reply.{Reply}
 use Rattle.cb_types.specs.declared.reply.Reply.TheVariants as answer
@@ -8,10 +8,13 @@ use Rattle.cb_types.specs.Jobs.{job_index}
 use Rattle.cb_workers.specs.declared.worker.Worker.{Worker}
 use Rattle.cb_workers.specs.declared.worker.Worker.TheVariants as worker
 use Rattle.cb_record.specs.Deeds.{Deed}
-use Rattle.cb_workers.specs.Work.{AnsweredTurn, AreJobsOf, AreDue, IsCutShort, IsWork, deed_of, deeds_of, lacked}
+use Rattle.cb_workers.specs.Work.{AnsweredTurn, AreJobsOf, AreDue, IsCutShort, IsLackOf, IsWork, deed_of, deeds_of, lacked}
 
 abbrev begun : AnsweredTurn
-begun = record { job = job.Begin; reply = answer.Batch (record { n = 0 }) }
+begun = record { job = job.Gather; reply = answer.Batch (record { n = 0 }) }
+
+abbrev installed : AnsweredTurn
+installed = record { job = job.Install; reply = answer.Done }
 
 abbrev shipped : AnsweredTurn
 shipped = record { job = job.Ship; reply = answer.Shipped 0 }
@@ -38,10 +41,10 @@ had (d ∷ earlier) = counts d.reply + had earlier
 
 -- the newest first
 abbrev two : List AnsweredTurn
-two = shipped ∷ begun ∷ []
+two = installed ∷ begun ∷ []
 
 abbrev three_deeds : List Deed
-three_deeds = deed_of aborted ∷ deed_of shipped ∷ deed_of begun ∷ []
+three_deeds = deed_of aborted ∷ deed_of installed ∷ deed_of begun ∷ []
 
 two_due : AreDue 8 worker.Evict two
 two_due = (refl, (refl, tt))
@@ -71,17 +74,17 @@ not_number w = omega (arith, w.number)
 one_more : IsWork 8 worker.Evict 1 two (aborted ∷ []) three_deeds → ⊥
 one_more w = omega (arith, w.number)
 
--- a batch begins where one begun is to be shipped
+-- a batch begins where one begun is to get its parities
 abbrev begun_twice : List AnsweredTurn
 begun_twice = begun ∷ begun ∷ []
 
 not_due : IsWork 8 worker.Evict 2 begun_twice (aborted ∷ []) (deeds_of (aborted ∷ begun_twice)) → ⊥
-not_due w = let e : 7 ≡ 8 = ap job_index (w.are_due.0) in omega (arith, e)
+not_due w = let e : 19 ≡ 20 = ap job_index (w.are_due.0) in omega (arith, e)
 
 -- the first turn ships
 not_first : IsWork 8 worker.Evict 1 (shipped ∷ []) (aborted ∷ [])
     (deeds_of (aborted ∷ shipped ∷ [])) → ⊥
-not_first w = let e : 8 ≡ 7 = ap job_index (w.are_due.0) in omega (arith, e)
+not_first w = let e : 8 ≡ 19 = ap job_index (w.are_due.0) in omega (arith, e)
 
 -- the batch is left as it is
 not_ended : IsWork 8 worker.Evict 2 two [] (deeds_of two) → ⊥
@@ -108,7 +111,7 @@ not_lacked w = let e : 0 ≡ 1 = ap (λ xs. had xs) w.are in omega (arith, e)
 
 -- ---- cut short
 abbrev cut_deeds : List Deed
-cut_deeds = deed_of aborted ∷ lacked job.Ship ∷ deed_of shipped ∷ deed_of begun ∷ []
+cut_deeds = deed_of aborted ∷ lacked job.Ship ∷ deed_of installed ∷ deed_of begun ∷ []
 
 -- the third of three turns found no memory, and the batch is aborted
 cut : IsCutShort 8 worker.Evict 3 two (aborted ∷ []) cut_deeds
@@ -116,6 +119,20 @@ cut = record {
   fewer = lit< tt;
   are_due = two_due;
   ends = (answer.Done, refl);
+  lack = lacked job.Ship ∷ [];
+  lacks = inl refl;
+  are = refl;
+}
+
+-- the order of an install could not be run: no turn was made, and the batch is aborted
+unrun : IsCutShort 8 worker.Evict 2 (begun ∷ []) (aborted ∷ [])
+    (deed_of aborted ∷ deed_of begun ∷ [])
+unrun = record {
+  fewer = lit< tt;
+  are_due = (refl, tt);
+  ends = (answer.Done, refl);
+  lack = [];
+  lacks = inr (refl, refl);
   are = refl;
 }
 
@@ -130,11 +147,37 @@ left_leaving w = let e : 0 ≡ 1 = ap (λ xs. length xs) (w.ends.1) in omega (ar
 -- the turns before it are not those that were due
 not_begun : IsCutShort 8 worker.Evict 3 (shipped ∷ []) (aborted ∷ [])
     (deed_of aborted ∷ lacked job.Ship ∷ deeds_of (shipped ∷ [])) → ⊥
-not_begun w = let e : 8 ≡ 7 = ap job_index (w.are_due.0) in omega (arith, e)
+not_begun w = let e : 8 ≡ 19 = ap job_index (w.are_due.0) in omega (arith, e)
 
 -- no turn lacked memory
 not_cut : IsCutShort 8 worker.Evict 3 two (aborted ∷ []) three_deeds → ⊥
-not_cut w = let e : 3 ≡ 4 = ap (λ xs. length xs) w.are in omega (arith, e)
+not_cut w = by w.lack w.lacks w.are
+  where
+    by : (lack : List Deed) → IsLackOf job.Ship lack
+        → three_deeds ≡ deeds_of (aborted ∷ []) ++ (lack ++ deeds_of two) → ⊥
+    by lack (inl one) are = let e : 3 ≡ 4 = ap (λ (ds : List Deed). length ds)
+        (are ∙ ap (λ (ds : List Deed). deeds_of (aborted ∷ []) ++ (ds ++ deeds_of two)) one) in
+        omega (arith, e)
+    by lack (inr x) are = let e : 8 ≡ 20 = ap job_index x.0 in omega (arith, e)
+
+-- ---- what is left of the job that is due
+lack_of_a_turn : IsLackOf job.Ship (lacked job.Ship ∷ [])
+lack_of_a_turn = inl refl
+
+-- only an install is left out
+no_ship_is_left_out : IsLackOf job.Ship [] → ⊥
+no_ship_is_left_out (inl one) =
+    let e : 0 ≡ 1 = ap (λ (ds : List Deed). length ds) one in omega (arith, e)
+no_ship_is_left_out (inr x) = let e : 8 ≡ 20 = ap job_index x.0 in omega (arith, e)
+
+-- it is no turn of another job
+no_other_turn : IsLackOf job.Install (lacked job.Ship ∷ []) → ⊥
+no_other_turn (inl one) = let e : 8 ≡ 20 = ap first_index one in omega (arith, e)
+  where
+    first_index : List Deed → ℕ
+    first_index [] = 0
+    first_index (d ∷ ds) = job_index d.job
+no_other_turn (inr x) = let e : 1 ≡ 0 = ap (λ (ds : List Deed). length ds) x.1 in omega (arith, e)
 
 -- ---- whose turns they are
 are_of : AreJobsOf worker.Evict three_deeds

@@ -1,8 +1,11 @@
 -- What the body of a worker adds to the record of its pass.
-use Rattle.std.specs.Prelude.{◌≡◌, ℕ, ◌<◌, List, [], ◌∷◌, length, map, Option, Some}
+use Rattle.std.specs.Prelude.{◌≡◌, ℕ, ◌<◌, List, [], ◌∷◌, ◌++◌, length, map, Option, Some}
 use Rattle.cb_types.specs.declared.job.Job.{Job}
 use Rattle.cb_types.specs.declared.job.Job.TheVariants as job
+use Rattle.cb_types.specs.declared.order.EncodeOrder.{EncodeOrder}
+use Rattle.cb_types.specs.declared.order.Kept.TheVariants.{Encode}
 use Rattle.cb_types.specs.declared.reply.Reply.{Reply}
+use Rattle.cb_types.specs.declared.reply.Reply.TheVariants as answer
 use Rattle.cb_rule.specs.declared.turn.Turn.{Turn}
 use Rattle.cb_rule.specs.declared.view.View.{View}
 use Rattle.cb_shared.specs.declared.pass.Pass.{Pass}
@@ -11,8 +14,8 @@ use Rattle.cb_record.specs.Parts.{Grows, Part, nothing_more}
 use Rattle.cb_shared.specs.Passes.{IsPassOf}
 use Rattle.cb_workers.specs.Rules.{end_of, next_job}
 use Rattle.cb_record.specs.Deeds.{Deed, deed}
-use Rattle.cb_workers.specs.Work.{AnsweredTurn, AreDue, IsCutShort, IsOnly, IsWork, deeds_of}
-use Rattle.cb_workers.specs.Work.{job_behind, lacked}
+use Rattle.cb_workers.specs.Work.{AnsweredTurn, AreDue, IsCutShort, IsLackOf, IsOnly, IsWork, deeds_of}
+use Rattle.cb_workers.specs.Work.{job_behind}
 use Rattle.cb_workers.specs.declared.worker.Worker.{Worker}
 
 -- turns, and nothing else: no version is written or read, no pin is taken, and no look is made
@@ -47,7 +50,8 @@ WorkerStops s w turns p q = IsPassOf s q × ((d : Part) × IsStopped s.config.ha
 -- a worker's turn may have such a job
 abbrev pub IsOwed : ℕ → Job → Type 0
 IsOwed handles (job.Filter handle) = handle.n < handles
-IsOwed handles job.Begin = Unit {0}
+IsOwed handles job.Gather = Unit {0}
+IsOwed handles job.Install = Unit {0}
 IsOwed handles job.Ship = Unit {0}
 IsOwed handles job.Commit = Unit {0}
 IsOwed handles job.Abort = Unit {0}
@@ -78,9 +82,9 @@ abbrev pub Steps : ℕ → Worker → Job → Job → View → View → Type 0
 Steps handles w old new v u = (reply : Reply) × (new ≡ next_job handles w old reply)
     × AddsTurns (one_deed old (Some reply)) v u
 
--- the turn with the job that is due found no memory
+-- there was no memory for the turn with the job that is due
 abbrev pub Lacks : Job → Job → View → View → Type 0
-Lacks old new v u = (new ≡ old) × AddsTurns (lacked old ∷ []) v u
+Lacks old new v u = (new ≡ old) × ((lack : List Deed) × IsLackOf old lack × AddsTurns lack v u)
 
 -- what was begun is ended, where this job would go on with it
 abbrev pub EndsBegun : Job → View → View → Type 0
@@ -95,10 +99,23 @@ pub record HasMade (handles : ℕ) (w : Worker) (n : ℕ) (due : Job) (v u : Vie
   pub due_is : due ≡ job_behind handles w done
   pub adds : AddsTurns (deeds_of done) v u
 
--- fewer turns were made, and that with the job that is due found no memory
+-- fewer turns were made, and there was no memory for that with the job that is due
 pub record Cuts (handles : ℕ) (w : Worker) (n : ℕ) (due : Job) (v u : View) : Type 0 where
   pub done : List AnsweredTurn
   pub fewer : length done < n
   pub are_due : AreDue handles w done
   pub due_is : due ≡ job_behind handles w done
-  pub adds : AddsTurns (lacked due ∷ deeds_of done) v u
+  pub lack : List Deed
+  pub lacks : IsLackOf due lack
+  pub adds : AddsTurns (lack ++ deeds_of done) v u
+
+-- where an install is due, there is the order that is to be run, and the record keeps it
+abbrev pub HasOrder : Job → Option EncodeOrder → View → Type 0
+HasOrder job.Install order v = (o : EncodeOrder) × (order ≡ Some o) × (v.order ≡ Some (Encode o))
+HasOrder due order v = Unit {0}
+
+-- where a gather began a batch, its order is there, and the record keeps it
+abbrev pub HandsOver : Job → Reply → Option EncodeOrder → View → Type 0
+HandsOver job.Gather (answer.Batch set) order v =
+    (o : EncodeOrder) × (order ≡ Some o) × (v.order ≡ Some (Encode o))
+HandsOver done reply order v = Unit {0}

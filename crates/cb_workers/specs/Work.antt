@@ -1,7 +1,8 @@
 -- What a worker does in all: turns, of which each has the job that the rules name behind those
 -- before it.
-use Rattle.std.specs.Prelude.{◌≡◌, ℕ, ◌<◌, List, [], ◌∷◌, ◌++◌, length, map, Option, Some, None}
+use Rattle.std.specs.Prelude.{◌≡◌, ◌⊎◌, ℕ, ◌<◌, List, [], ◌∷◌, ◌++◌, length, map, Option, Some, None}
 use Rattle.cb_types.specs.declared.job.Job.{Job}
+use Rattle.cb_types.specs.declared.job.Job.TheVariants as job
 use Rattle.cb_types.specs.declared.reply.Reply.{Reply}
 use Rattle.cb_rule.specs.Lists.{Each}
 use Rattle.cb_record.specs.Deeds.{Deed}
@@ -54,14 +55,21 @@ pub record IsWork (handles : ℕ) (w : Worker) (turns : ℕ) (done ending : List
   pub ends : IsOnly (end_of (job_behind handles w done)) ending
   pub are : deeds ≡ deeds_of (ending ++ done)
 
--- A worker made fewer turns, each with the job that was due. The next one that was due found no
--- memory, and what it had begun was ended then.
+-- What is left of the job that was due and for which there was no memory: its turn, which found
+-- none; or nothing, where it is an install whose order could not be run.
+abbrev pub IsLackOf : Job → List Deed → Type 0
+IsLackOf due lack = (lack ≡ lacked due ∷ []) ⊎ ((due ≡ job.Install) × (lack ≡ []))
+
+-- A worker made fewer turns, each with the job that was due. For the next one that was due there was
+-- no memory, and what it had begun was ended then.
 pub record IsCutShort (handles : ℕ) (w : Worker) (turns : ℕ) (done ending : List AnsweredTurn)
     (deeds : List Deed) : Type 0 where
   pub fewer : length done < turns
   pub are_due : AreDue handles w done
   pub ends : IsOnly (end_of (job_behind handles w done)) ending
-  pub are : deeds ≡ deeds_of ending ++ (lacked (job_behind handles w done) ∷ deeds_of done)
+  pub lack : List Deed
+  pub lacks : IsLackOf (job_behind handles w done) lack
+  pub are : deeds ≡ deeds_of ending ++ (lack ++ deeds_of done)
 
 -- each of these turns has a job of the worker
 abbrev pub AreJobsOf : Worker → List Deed → Type 0

@@ -1,12 +1,16 @@
 //! How a worker makes its turns.
-ghost use Rattle.std.specs.Prelude.{◌≡◌, IfOk, OnErr, IsOk, is_some};
+ghost use Rattle.std.specs.Prelude.{◌≡◌, IfOk, List, OnErr, IsOk, Some, is_some};
+ghost use Rattle.cb_types.specs.declared.job.Job.TheVariants as jobs;
+ghost use Rattle.cb_core.specs.Jobs.{NeedsNoOrder};
 ghost use Rattle.cb_shared.specs.Passes.{IsPassOf};
 ghost use Rattle.cb_shared.specs.Turning.{answer_of};
 ghost use Rattle.cb_workers.specs.Bodies.{
   AddsTurns,
   Cuts,
   EndsBegun,
+  HandsOver,
   HasMade,
+  HasOrder,
   IsEnd,
   IsOwed,
   Lacks,
@@ -15,12 +19,16 @@ ghost use Rattle.cb_workers.specs.Bodies.{
   WorkerWorks,
   one_deed,
 };
+ghost use Rattle.cb_record.specs.Deeds.{Deed};
 ghost use Rattle.cb_workers.specs.Rules.{end_of, first_job};
+ghost use Rattle.cb_workers.specs.Work.{IsLackOf};
 
 use crate::turns::end_of;
 use crate::worker::Worker;
+use cb_core::Gathered;
+use cb_orders::run_encode;
 use cb_shared::{Pass, Shared};
-use cb_types::{Gate, Job, NoMemory, Reply};
+use cb_types::{EncodeOrder, Gate, Job, NoMemory, Reply, SetId};
 use std::alloc::Global;
 use std::sync::Wait;
 
@@ -67,14 +75,16 @@ fn make_turns<R: Wait, G: Gate>(
     ensures cut { OnErr result (Cuts shared.now.config.handles worker turns due.new
         pass.old.seat.me.0 pass.new.seat.me.0) }
 {
+    let mut order = None;
     for number in 0..turns {
-        step(rt, alloc, shared, pass, worker, due)?;
+        step(rt, alloc, shared, pass, worker, due, &mut order)?;
         gate.after(worker.lane(), number);
     }
     Ok(())
 }
 
-/// A turn with the job that is due, behind which another one is due.
+/// A turn with the job that is due, behind which another one is due. An order that a gather handed
+/// out is kept for the install.
 fn step<R: Wait>(
     rt: &R,
     alloc: Global,
@@ -82,18 +92,100 @@ fn step<R: Wait>(
     pass: &mut Pass,
     worker: Worker,
     due: &mut Job,
+    order: &mut Option<EncodeOrder>,
 ) -> Result<(), NoMemory>
     requires of { IsPassOf shared.now pass.old }
     requires owed { IsOwed shared.now.config.handles due.old }
+    requires order { HasOrder due.old order.old pass.old.seat.me.0 }
+    ensures order { IfOk result (λ _. HasOrder due.new order.new pass.new.seat.me.0) }
     ensures of { IsPassOf shared.now pass.new }
     ensures steps { IfOk result (λ _. Steps shared.now.config.handles worker due.old due.new
         pass.old.seat.me.0 pass.new.seat.me.0) }
     ensures lacks { OnErr result (Lacks due.old due.new pass.old.seat.me.0
         pass.new.seat.me.0) }
 {
-    let reply = one_turn(rt, alloc, shared, pass, due)?;
+    let reply = due_turn(rt, alloc, shared, pass, due, order)?;
     *due = worker.next(shared.config().handles, due, &reply);
     Ok(())
+}
+
+/// A turn with the job that is due: a gather hands its order out, and an install takes one.
+fn due_turn<R: Wait>(
+    rt: &R,
+    alloc: Global,
+    shared: &Shared,
+    pass: &mut Pass,
+    due: &Job,
+    order: &mut Option<EncodeOrder>,
+) -> Result<Reply, NoMemory>
+    requires of { IsPassOf shared.now pass.old }
+    requires owed { IsOwed shared.now.config.handles due.now }
+    requires order { HasOrder due.now order.old pass.old.seat.me.0 }
+    ensures of { IsPassOf shared.now pass.new }
+    ensures adds { IfOk result (λ reply. AddsTurns (one_deed due.now (Some reply))
+        pass.old.seat.me.0 pass.new.seat.me.0) }
+    ensures lacks { OnErr result ((lack : List Deed) × IsLackOf due.now lack
+        × AddsTurns lack pass.old.seat.me.0 pass.new.seat.me.0) }
+    ensures hands { IfOk result (λ reply. HandsOver due.now reply order.new pass.new.seat.me.0) }
+{
+    match due {
+        Job::Gather => gather_batch(rt, alloc, shared, pass, order),
+        Job::Install => install_parities(rt, alloc, shared, pass, order),
+        _ => one_turn(rt, alloc, shared, pass, due),
+    }
+}
+
+/// A gather. Where it begins a batch, its order is kept.
+fn gather_batch<R: Wait>(
+    rt: &R,
+    alloc: Global,
+    shared: &Shared,
+    pass: &mut Pass,
+    order: &mut Option<EncodeOrder>,
+) -> Result<Reply, NoMemory>
+    requires of { IsPassOf shared.now pass.old }
+    ensures of { IsPassOf shared.now pass.new }
+    ensures adds { AddsTurns (one_deed jobs.Gather (answer_of result)) pass.old.seat.me.0
+        pass.new.seat.me.0 }
+    ensures hands { IfOk result (λ reply. HandsOver jobs.Gather reply order.new
+        pass.new.seat.me.0) }
+{
+    match shared.gather(rt, alloc, pass)? {
+        Gathered::Order(new) => {
+            let set = SetId { n: new.set };
+            *order = Some(new);
+            Ok(Reply::Batch { set })
+        }
+        Gathered::Answer(reply) => Ok(reply),
+    }
+}
+
+/// Makes the parities of the order outside of the far lock, and installs them. Where there was no
+/// memory to make them, the order is kept, and no turn was made.
+fn install_parities<R: Wait>(
+    rt: &R,
+    alloc: Global,
+    shared: &Shared,
+    pass: &mut Pass,
+    order: &mut Option<EncodeOrder>,
+) -> Result<Reply, NoMemory>
+    requires of { IsPassOf shared.now pass.old }
+    requires order { HasOrder jobs.Install order.old pass.old.seat.me.0 }
+    ensures of { IsPassOf shared.now pass.new }
+    ensures adds { IfOk result (λ reply. AddsTurns (one_deed jobs.Install (Some reply))
+        pass.old.seat.me.0 pass.new.seat.me.0) }
+    ensures same { OnErr result (pass.new ≡ pass.old) }
+{
+    match order.take() {
+        Some(given) => match run_encode(alloc, given) {
+            Ok(done) => Ok(shared.install(rt, pass, done)),
+            Err(given) => {
+                *order = Some(given);
+                Err(NoMemory)
+            }
+        },
+        None => unreachable!(),
+    }
 }
 
 /// Ends what was begun, where the job that is due would go on with it. That takes no memory. The
@@ -121,6 +213,7 @@ fn one_turn<R: Wait>(
 ) -> Result<Reply, NoMemory>
     requires of { IsPassOf shared.now pass.old }
     requires owed { IsOwed shared.now.config.handles job.now }
+    requires alone { NeedsNoOrder job.now }
     ensures of { IsPassOf shared.now pass.new }
     ensures adds { AddsTurns (one_deed job.now (answer_of result)) pass.old.seat.me.0
         pass.new.seat.me.0 }
