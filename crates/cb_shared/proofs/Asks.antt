@@ -51,8 +51,8 @@ use Rattle.cb_shared.specs.declared.asked.Asked.{Asked}
 use Rattle.cb_shared.specs.declared.asked.Asked.TheVariants as asks
 use Rattle.cb_shared.specs.declared.asked.Outcome.{Outcome}
 use Rattle.cb_shared.specs.declared.asked.Outcome.TheVariants as ends
-use Rattle.cb_shared.specs.Ordering.{AsksBelow, AsksDesk, IsNoWant, IsPlainFetch, IsPlainGather}
-use Rattle.cb_shared.specs.Ordering.{MayAsk, handed_by, job_of, keeps_of, order_run}
+use Rattle.cb_shared.specs.Ordering.{AsksBelow, AsksDesk, CanRun, IsNoWant, IsPlainFetch}
+use Rattle.cb_shared.specs.Ordering.{IsPlainGather, MayAsk, handed_by, job_of, keeps_of, order_run}
 use Rattle.cb_shared.specs.Turning.{CountsPins}
 use Rattle.cb_shared.specs.UnderLock.{IsNoRead}
 
@@ -403,6 +403,13 @@ module _ {D : Type 0} (run : D → List Event → D → Type 0) (shows : D → S
         kind = no_want r (λ e. omega (arith, none, e));
         tells = λ order may. never_lost jobs.Install a.far r (λ e. omega (arith, none, e)) none_some;
       }
+
+-- an order that is kept can be run
+pub kept_runs : (s : Shown) (far : FarState) (order : Option Kept) → KeepsOrder s far order
+    → CanRun order
+kept_runs s far None kept = tt
+kept_runs s far (Some (Encode o)) kept = kept.fits
+kept_runs s far (Some (Decode o)) kept = kept.fits
 
 -- ---- at a seat that keeps such an order
 pub run_kept : (s : Shown) (far : FarState) (c : Config) (order : Option Kept) (k : Asked)

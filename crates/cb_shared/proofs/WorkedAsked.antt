@@ -1,18 +1,20 @@
 -- Worked examples of turns that hand an order out or take one.
-use Rattle.std.proofs.Common.{◌≡◌, ℕ, [], Option, None, Some, Ok, Err, refl}
+use Rattle.std.proofs.Common.{◌≡◌, ℕ, zero, suc, ◌<◌, List, [], ◌∷◌, length, get_or, Option, None}
+use Rattle.std.proofs.Common.{Some, Ok, Err, refl, arith}
 use Rattle.std.specs.Borrow.{Bor}
 use Rattle.cb_member.specs.declared.no_memory.NoMemory.{NoMemory}
 use Rattle.cb_types.specs.declared.config.Config.{Config}
 use Rattle.cb_types.specs.declared.handle.SetId.{SetId}
+use Rattle.cb_types.specs.declared.order.DecodeOrder.{DecodeOrder}
 use Rattle.cb_types.specs.declared.order.EncodeOrder.{EncodeOrder}
 use Rattle.cb_types.specs.declared.order.Kept.{Kept}
-use Rattle.cb_types.specs.declared.order.Kept.TheVariants.{Encode}
+use Rattle.cb_types.specs.declared.order.Kept.TheVariants.{Decode, Encode}
 use Rattle.cb_types.specs.declared.reply.Reply.TheVariants as answer
 use Rattle.cb_orders.specs.Done.{EncodeDoneState}
 use Rattle.cb_evict.specs.declared.gathering.Gathered.TheVariants as gathered
 use Rattle.cb_shared.specs.declared.asked.Asked.TheVariants as asks
 use Rattle.cb_shared.specs.declared.asked.Outcome.TheVariants as ends
-use Rattle.cb_shared.specs.Ordering.{IsAnswered, MayAsk, fetched_of, handed_by, keeps_of, told}
+use Rattle.cb_shared.specs.Ordering.{CanRun, IsAnswered, MayAsk, fetched_of, handed_by, keeps_of, told}
 
 abbrev order_of : ℕ → EncodeOrder
 order_of n = record { set = n; k = 2; r = 1; rows = [] }
@@ -33,6 +35,38 @@ handed = refl
 
 tells_batch : told (ends.Gather (Ok (gathered.Order (order_of 3)))) ≡ Ok (answer.Batch third)
 tells_batch = refl
+
+-- an order with its rows can be run; one without a row can't, of either kind
+abbrev small : EncodeOrder
+small = record { set = 3; k = 1; r = 1; rows = [] ∷ [] }
+
+one_row : (i : ℕ) (d : List ℕ) → i < 1 → length (get_or small.rows i d) ≡ 0
+one_row zero d low = refl
+one_row (suc i) d low = absurd (omega (arith, low))
+
+can_run : CanRun None × CanRun (Some (Encode small))
+can_run = (
+  tt,
+  record {
+    range = record {
+      data_least = omega arith;
+      data_most = omega arith;
+      parities_least = omega arith;
+      parities_most = omega arith;
+    };
+    count = refl;
+    lengths = one_row;
+  },
+)
+
+can_not_encode : CanRun kept → ⊥
+can_not_encode x = let few : 0 ≡ 2 = x.count in omega (arith, few)
+
+abbrev no_rows : DecodeOrder
+no_rows = record { set = 3; position = 0; k = 2; r = 1; present = []; rows = [] }
+
+can_not_decode : CanRun (Some (Decode no_rows)) → ⊥
+can_not_decode x = let few : 0 ≡ 2 = x.count in omega (arith, few)
 
 -- a refusal leaves the one before, and so does want of memory
 refused : keeps_of (ends.Gather (Ok (gathered.Answer (answer.Leaving third)))) kept ≡ kept

@@ -9,6 +9,7 @@ use Rattle.cb_types.specs.declared.order.Kept.{Kept}
 use Rattle.cb_types.specs.declared.order.Kept.TheVariants.{Encode, Decode}
 use Rattle.cb_types.specs.declared.reply.Reply.{Reply}
 use Rattle.cb_types.specs.declared.reply.Reply.TheVariants as answer
+use Rattle.cb_types.specs.Orders.{IsDecodable, IsEncodable}
 use Rattle.cb_world.specs.declared.event.Event.{Event}
 use Rattle.cb_world.specs.declared.shown.Shown.{Shown}
 use Rattle.cb_evict.specs.declared.gathering.Gathered.{Gathered}
@@ -100,6 +101,12 @@ handed_by (ends.Gather r) = gather_hands r
 handed_by (ends.Install r) = None
 handed_by (ends.Fetch r) = fetch_hands r
 handed_by (ends.Land r) = None
+
+-- such an order can be run
+abbrev pub CanRun : Option Kept → Type 0
+CanRun None = Unit {0}
+CanRun (Some (Encode o)) = IsEncodable o
+CanRun (Some (Decode o)) = IsDecodable o
 
 -- an order is handed out exactly where a batch begins, and where rows are fetched: no other reply
 -- tells of one

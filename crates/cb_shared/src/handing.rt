@@ -8,9 +8,11 @@ ghost use Rattle.cb_types.specs.declared.order.Kept.TheVariants.{Encode, Decode}
 ghost use Rattle.cb_types.specs.declared.reply.Reply.TheVariants as answer;
 ghost use Rattle.cb_evict.specs.declared.gathering.Gathered.TheVariants as gathered;
 ghost use Rattle.cb_evict.specs.InstallRule.{kept_behind};
+ghost use Rattle.cb_core.specs.OrderLeaves.{fetch_hands, gather_hands};
 ghost use Rattle.cb_swapin.specs.declared.fetching.Fetching.TheVariants as fetching;
-ghost use Rattle.cb_shared.specs.Ordering.{FetchFinds, IsAnswered, IsPlainFetch, IsPlainGather};
-ghost use Rattle.cb_shared.specs.Ordering.{MayAsk, behind_landing, fetch_told, gather_told, job_of, keeps_of, told};
+ghost use Rattle.cb_shared.specs.Ordering.{CanRun, FetchFinds, IsAnswered, IsPlainFetch, IsPlainGather};
+ghost use Rattle.cb_shared.specs.Ordering.{MayAsk, behind_landing, fetch_told, gather_told, handed_by};
+ghost use Rattle.cb_shared.specs.Ordering.{job_of, keeps_of, told};
 ghost use Rattle.cb_shared.specs.Passes.{IsAtRest, IsPassOf, record_of};
 ghost use Rattle.cb_shared.specs.Seats.{IsOf, record_at};
 ghost use Rattle.cb_shared.specs.Trying.{tries_of};
@@ -34,7 +36,7 @@ use std::sync::Wait;
 impl Shared {
     /// A turn of the job Gather, as `turn` makes one: spans begin to leave, and the order to make
     /// their parities is handed out, which the pass keeps from here in place of the one that it
-    /// had. It is handed out exactly where the job answers Batch. Else the answer is a refusal, and
+    /// had. It can be run, and is handed out exactly where the job answers Batch. Else the answer is a refusal, and
     /// the pass keeps what it kept; so it does where there is no memory. Waits for the lock.
     pub fn gather<R: Wait>(
         &self,
@@ -49,6 +51,7 @@ impl Shared {
         ensures handed { IfOk result (λ g. (o : EncodeOrder) → g ≡ gathered.Order o
             → (record_of pass.new).order ≡ Some (Encode o)) }
         ensures plain { IsPlainGather result }
+        ensures runs { CanRun (gather_hands result) }
     {
         let _alloc = alloc;
         let outcome = self.ask(rt, pass, &Asked::Gather);
@@ -71,11 +74,11 @@ impl Shared {
     }
 
     /// A turn of the job Fetch, as `turn` makes one: the order to make the row of a far object is
-    /// handed out, which the pass keeps from here in place of the one that it had. It is handed out
-    /// exactly where the job answers Fetched. Else the answer tells where the object is or why
-    /// there is no order, and the pass keeps what it kept; so it does where there is no memory.
-    /// Behind Freed it looks at the object, whose freed entry is read where the pass knows it.
-    /// Waits for the lock.
+    /// handed out, which the pass keeps from here in place of the one that it had. It can be run,
+    /// and is handed out exactly where the job answers Fetched. Else the answer tells where the
+    /// object is or why there is no order, and the pass keeps what it kept; so it does where there
+    /// is no memory. Behind Freed it looks at the object, whose freed entry is read where the pass
+    /// knows it. Waits for the lock.
     pub fn fetch<R: Wait>(
         &self,
         rt: &R,
@@ -91,6 +94,7 @@ impl Shared {
         ensures handed { IfOk result (λ g. (o : DecodeOrder) → g ≡ fetching.Order o
             → (record_of pass.new).order ≡ Some (Decode o)) }
         ensures plain { IsPlainFetch result }
+        ensures runs { CanRun (fetch_hands result) }
     {
         let _alloc = alloc;
         let outcome = self.ask(rt, pass, &Asked::Fetch(h));
@@ -132,6 +136,7 @@ impl Shared {
             (record_of pass.new) }
         ensures keeps { (record_of pass.new).order ≡ keeps_of result (record_of pass.old).order }
         ensures kind { IsAnswered asked.now result }
+        ensures runs { CanRun (handed_by result) }
     {
         let config = self.config;
         let top = &self.board.shared;
@@ -160,6 +165,7 @@ fn locked_order<R: Wait>(
         (keeps_of result.0 (record_at seat.old).order) (record_at seat.old) (record_at seat.new) }
     ensures again { tries_of (record_at seat.new) ≡ Some result.1 }
     ensures kind { IsAnswered asked.now result.0 }
+    ensures runs { CanRun (handed_by result.0) }
 {
     let mut far = lock_far(rt, top, seat, config);
     let outcome = ask_by_seat(rt, top, seat, config, &mut *far.state, asked);

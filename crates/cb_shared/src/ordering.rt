@@ -5,8 +5,8 @@ ghost use Rattle.cb_world.specs.declared.shown.Shown.{Shown};
 ghost use Rattle.cb_world.specs.Orders.{KeepsOrder};
 ghost use Rattle.cb_world.specs.Sound.{Sound};
 ghost use Rattle.cb_world.specs.World.{AreCounted, IsConfigured};
-ghost use Rattle.cb_shared.specs.Ordering.{AsksBelow, AsksDesk, IsAnswered, MayAsk, job_of, keeps_of};
-ghost use Rattle.cb_shared.specs.Ordering.{order_run, told};
+ghost use Rattle.cb_shared.specs.Ordering.{AsksBelow, AsksDesk, CanRun, IsAnswered, MayAsk, handed_by};
+ghost use Rattle.cb_shared.specs.Ordering.{job_of, keeps_of, order_run, told};
 ghost use Rattle.cb_shared.specs.Seats.{IsOf, record_at};
 ghost use Rattle.cb_shared.specs.Turning.{TellsLost};
 ghost use Rattle.cb_shared.specs.UnderLock.{IsBeginning, WorkBy};
@@ -63,6 +63,7 @@ pub(crate) fn ask_by_seat<R: Wait>(
     ensures work { WorkBy config.now (job_of asked.now) (told result)
         (keeps_of result (record_at seat.old).order) far.old far.new seat.old seat.new }
     ensures kind { IsAnswered asked.now result }
+    ensures runs { CanRun (handed_by result) }
     ensures tells { IfOk (told result) (λ reply.
         TellsLost (job_of asked.now) (record_at seat.old).order far.old reply) }
 {

@@ -109,3 +109,6 @@ returns-clause-again g c = ap (λ (m : Sat). tries_of m.0) c.give_order.ensures.
 
 pub returns-clause-kind : goal.returns-clause-kind
 returns-clause-kind g c = c.ask_by_seat-outcome.ensures.kind
+
+pub returns-clause-runs : goal.returns-clause-runs
+returns-clause-runs g c = c.ask_by_seat-outcome.ensures.runs

@@ -5,7 +5,7 @@ use Rattle.cb_shared.specs.Ordering.{job_of, keeps_of, order_run, told}
 use Rattle.cb_shared.specs.Seats.{record_at}
 use Rattle.cb_shared.specs.UnderLock.{WorkBy}
 use Rattle.cb_shared.proofs.AfterTurn.{holds_begun}
-use Rattle.cb_shared.proofs.Asks.{asks_below, asks_no_pins, asks_no_read, run_kept}
+use Rattle.cb_shared.proofs.Asks.{asks_below, asks_no_pins, asks_no_read, kept_runs, run_kept}
 use Rattle.cb_shared.proofs.ReadTurns.{work_with}
 use Rattle.cb_shared.proofs.Turns.{asked_at, turn_ran}
 use Rattle.cb_shared.proofs.ordering.ask_by_seat.Goals as goal
@@ -59,6 +59,10 @@ returns-clause-work g c = let b = c.requires.begins in let k = c.args.asked.now 
 
 pub returns-clause-kind : goal.returns-clause-kind
 returns-clause-kind g c = c.ask-outcome.ensures.kind
+
+pub returns-clause-runs : goal.returns-clause-runs
+returns-clause-runs g c = kept_runs _ _ _ (c.ask-outcome.ensures.leaves.kept
+    (record_at c.args.seat.now).known refl c.requires.begins.stood.sound)
 
 pub returns-clause-tells : goal.returns-clause-tells
 returns-clause-tells g c =

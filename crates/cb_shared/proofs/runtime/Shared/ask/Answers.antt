@@ -42,6 +42,9 @@ returns-clause-keeps g c = keeps_then c.args.self.now.config (job_of c.args.aske
 pub returns-clause-kind : goal.returns-clause-kind
 returns-clause-kind g c = c.locked_order-outcome.ensures.kind
 
+pub returns-clause-runs : goal.returns-clause-runs
+returns-clause-runs g c = c.locked_order-outcome.ensures.runs
+
 pub invariant_of-pass : goal.invariant_of-pass
 invariant_of-pass g c = let k = c.args.asked.now in let r = told c.locked_order-outcome.result.0 in
     let m = c.locked_order-outcome.new.seat in let f = stays_put c.args.self.now.config k r m in

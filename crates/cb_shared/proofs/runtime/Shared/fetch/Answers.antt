@@ -3,7 +3,7 @@ use Rattle.cb_types.specs.declared.job.Job.TheVariants.{Fetch}
 use Rattle.cb_record.specs.Parts.{Grows, Part}
 use Rattle.cb_shared.specs.declared.asked.Asked.TheVariants as asks
 use Rattle.cb_shared.specs.declared.asked.Outcome.{Outcome}
-use Rattle.cb_shared.specs.Ordering.{IsAnswered, fetch_told, keeps_of, told}
+use Rattle.cb_shared.specs.Ordering.{CanRun, IsAnswered, fetch_told, handed_by, keeps_of, told}
 use Rattle.cb_shared.specs.Passes.{record_of}
 use Rattle.cb_shared.specs.Seeking.{FindsKnown}
 use Rattle.cb_shared.specs.Turning.{TurnBy}
@@ -43,3 +43,7 @@ returns-clause-handed g c = let order = (record_of c.args.pass.now).order in
 pub returns-clause-plain : goal.returns-clause-plain
 returns-clause-plain g c = (subst (IsAnswered (asks.Fetch c.args.h))
     c.into_fetching-fetching.ensures c.ask-outcome.ensures.kind).0
+
+pub returns-clause-runs : goal.returns-clause-runs
+returns-clause-runs g c = subst (λ (o : Outcome). CanRun (handed_by o))
+    c.into_fetching-fetching.ensures c.ask-outcome.ensures.runs

@@ -2,7 +2,7 @@ use Rattle.std.proofs.Common.{◌∙◌, ap, subst}
 use Rattle.cb_types.specs.declared.job.Job.TheVariants.{Gather}
 use Rattle.cb_shared.specs.declared.asked.Asked.TheVariants as asks
 use Rattle.cb_shared.specs.declared.asked.Outcome.{Outcome}
-use Rattle.cb_shared.specs.Ordering.{IsAnswered, keeps_of, told}
+use Rattle.cb_shared.specs.Ordering.{CanRun, IsAnswered, handed_by, keeps_of, told}
 use Rattle.cb_shared.specs.Passes.{record_of}
 use Rattle.cb_shared.specs.Turning.{TurnBy}
 use Rattle.cb_shared.proofs.Handed.{gather_handed}
@@ -24,3 +24,7 @@ returns-clause-handed g c = let order = (record_of c.args.pass.now).order in
 pub returns-clause-plain : goal.returns-clause-plain
 returns-clause-plain g c =
     (subst (IsAnswered asks.Gather) c.into_gathered.ensures c.ask-outcome.ensures.kind).0
+
+pub returns-clause-runs : goal.returns-clause-runs
+returns-clause-runs g c =
+    subst (λ (o : Outcome). CanRun (handed_by o)) c.into_gathered.ensures c.ask-outcome.ensures.runs
