@@ -1,28 +1,26 @@
 -- What follows from a worker's work: each of its turns has a job of that worker, and there are at
 -- least as many turns as it owes.
-use Rattle.std.proofs.Common.{◌≡◌, ℕ, ◌+◌, ◌≤◌, List, [], ◌∷◌, ◌++◌, length, Option, None, Some, refl, sym, ap, ◌∙◌, subst, inl, inr, arith}
+use Rattle.std.proofs.Common.{◌≡◌, ℕ, ◌+◌, ◌≤◌, List, [], ◌∷◌, ◌++◌, length, Option, None, Some, refl, sym, ap, ◌∙◌, subst, arith}
 use Rattle.std.proofs.lemmas.List.{length-append, length-map, map-append}
 use Rattle.std.proofs.lemmas.Option.{none-some}
 use Rattle.cb_types.specs.declared.job.Job.{Job}
 use Rattle.cb_types.specs.declared.job.Job.TheVariants as job
 use Rattle.cb_types.specs.declared.reply.Reply.{Reply}
 use Rattle.cb_types.specs.declared.reply.Reply.TheVariants as answer
-use Rattle.cb_workers.specs.Rules.{after_batch, after_begun, after_done, after_pair, end_of, first_job, next_job, owner}
+use Rattle.cb_workers.specs.Rules.{after_batch, after_done, after_pair, end_of, first_job, next_job}
+use Rattle.cb_workers.specs.Rules.{owner}
 use Rattle.cb_record.specs.Deeds.{Deed}
-use Rattle.cb_workers.specs.Work.{AnsweredTurn, AreDue, AreJobsOf, IsCutShort, IsLackOf, IsOnly, IsWork, deed_of, deeds_of, job_behind}
+use Rattle.cb_workers.specs.Work.{AnsweredTurn, AreDue, AreJobsOf, IsCutShort, IsOnly, IsWork, deed_of}
+use Rattle.cb_workers.specs.Work.{deeds_of, job_behind, lack_of}
 use Rattle.cb_workers.specs.declared.worker.Worker.{Worker}
 use Rattle.cb_workers.specs.declared.worker.Worker.TheVariants as worker
-
-behind_begun : (done : Job) → owner (after_begun done) ≡ Some worker.Evict
-behind_begun job.Gather = refl
-behind_begun done = refl
 
 behind_done : (done : Job) → owner (after_done done) ≡ Some worker.Evict
 behind_done job.Install = refl
 behind_done done = refl
 
 batch_of : (done : Job) → (r : Reply) → owner (after_batch done r) ≡ Some worker.Evict
-batch_of done (answer.Batch set) = behind_begun done
+batch_of done (answer.Batch set) = refl
 batch_of done answer.Done = behind_done done
 batch_of done (answer.Shipped position) = refl
 batch_of done (answer.Short positions) = refl
@@ -51,7 +49,8 @@ first_of worker.Evict = refl
 first_of worker.Compact = refl
 first_of worker.Rebuild = refl
 
-behind_of : (handles : ℕ) → (w : Worker) → (done : List AnsweredTurn)
+-- the job that is due is the worker's
+pub behind_of : (handles : ℕ) → (w : Worker) → (done : List AnsweredTurn)
     → owner (job_behind handles w done) ≡ Some w
 behind_of handles w [] = first_of w
 behind_of handles w (a ∷ earlier) = next_of handles w a.job a.reply
@@ -88,11 +87,10 @@ both_of : (w : Worker) → (ds es : List Deed) → AreJobsOf w ds → AreJobsOf 
 both_of w [] es some more = more
 both_of w (d ∷ ds) es some more = (some.0, both_of w ds es some.1 more)
 
--- and so is what was left of the one for which there was no memory
-lack_of : (w : Worker) → (due : Job) → (lack : List Deed) → owner due ≡ Some w
-    → IsLackOf due lack → AreJobsOf w lack
-lack_of w due lack is (inl one) = subst (AreJobsOf w) (sym one) (is, tt)
-lack_of w due lack is (inr none) = subst (AreJobsOf w) (sym none.1) tt
+-- and so is what is left where there was no memory
+lack_is_of : (w : Worker) → (due : Job) → owner due ≡ Some w → AreJobsOf w (lack_of due)
+lack_is_of w job.Install is = tt
+lack_is_of w due is = (is, tt)
 
 pub work_is_of : (handles : ℕ) → (w : Worker) → (n : ℕ) → (done ending : List AnsweredTurn)
     → (deeds : List Deed) → IsWork handles w n done ending deeds → AreJobsOf w deeds
@@ -105,10 +103,10 @@ work_is_of handles w n done ending deeds work =
 pub cut_is_of : (handles : ℕ) → (w : Worker) → (n : ℕ) → (done ending : List AnsweredTurn)
     → (deeds : List Deed) → IsCutShort handles w n done ending deeds → AreJobsOf w deeds
 cut_is_of handles w n done ending deeds work = subst (AreJobsOf w) (sym work.are)
-    (both_of w (deeds_of ending) (work.lack ++ deeds_of done)
+    (both_of w (deeds_of ending) (lack_of (job_behind handles w done) ++ deeds_of done)
     (ending_of w (job_behind handles w done) ending _ refl (behind_of handles w done) work.ends)
-    (both_of w work.lack (deeds_of done)
-    (lack_of w (job_behind handles w done) work.lack (behind_of handles w done) work.lacks)
+    (both_of w (lack_of (job_behind handles w done)) (deeds_of done)
+    (lack_is_of w (job_behind handles w done) (behind_of handles w done))
     (done_of handles w done work.are_due)))
 
 pub work_is_done : (handles : ℕ) → (w : Worker) → (n : ℕ) → (done ending : List AnsweredTurn)

@@ -90,8 +90,13 @@ ends_with c job.Abort is t did = did.stops
 ends_with c job.Part is t did = did.stops.1
 ends_with c work is t did = absurd is
 
--- and neither hands an order out nor takes one
-end_alone : (work : Job) → IsEnd work → NeedsNoOrder work
+-- it is a worker's, and neither hands an order out nor takes one
+pub end_owed : (handles : ℕ) → (work : Job) → IsEnd work → IsOwed handles work
+end_owed handles job.Abort is = tt
+end_owed handles job.Part is = tt
+end_owed handles work is = absurd is
+
+pub end_alone : (work : Job) → IsEnd work → NeedsNoOrder work
 end_alone job.Abort is = tt
 end_alone job.Part is = tt
 end_alone work is = absurd is

@@ -1,41 +1,47 @@
 -- How turns come to be a worker's work.
-use Rattle.std.proofs.Common.{◌≡◌, ℕ, ◌+◌, ◌<◌, List, [], ◌∷◌, ◌++◌, length, Option, None, Some, Result, Ok, Err, IsOk, OnErr, refl, sym, ap, ◌∙◌, subst, arith}
+use Rattle.std.proofs.Common.{◌≡◌, ℕ, ◌+◌, ◌<◌, List, [], ◌∷◌, ◌++◌, length, map, Option, None, Some}
+use Rattle.std.proofs.Common.{Result, Ok, Err, IfOk, IsOk, OnErr, refl, sym, ap, ◌∙◌, subst, arith}
 use Rattle.std.proofs.lemmas.Bool.{false≢true}
 use Rattle.std.proofs.lemmas.List.{map-append}
 use Rattle.std.proofs.lemmas.Option.{none-some}
 use Rattle.cb_member.specs.declared.no_memory.NoMemory.{NoMemory}
 use Rattle.cb_types.specs.declared.config.Field.TheVariants.{Handles}
-use Rattle.cb_types.specs.declared.handle.SetId.{SetId}
 use Rattle.cb_types.specs.declared.job.Job.{Job}
 use Rattle.cb_types.specs.declared.job.Job.TheVariants as job
 use Rattle.cb_types.specs.declared.order.EncodeOrder.{EncodeOrder}
+use Rattle.cb_types.specs.declared.order.Kept.TheVariants.{Encode}
 use Rattle.cb_types.specs.declared.reply.Reply.{Reply}
 use Rattle.cb_types.specs.declared.reply.Reply.TheVariants as answer
+use Rattle.cb_evict.specs.declared.gathering.Gathered.{Gathered}
+use Rattle.cb_evict.specs.declared.gathering.Gathered.TheVariants as gathered
+use Rattle.cb_core.specs.OrderLeaves.{gather_hands}
 use Rattle.cb_rule.specs.declared.view.View.{View}
 use Rattle.cb_shared.specs.declared.pass.Pass.{Pass}
 use Rattle.cb_shared.specs.declared.runtime.Shared.{Shared}
+use Rattle.cb_record.specs.Deeds.{deed}
 use Rattle.cb_record.specs.Parts.{Grows, Part}
+use Rattle.cb_shared.specs.Ordering.{CanRun, IsPlainGather, gather_told}
 use Rattle.cb_shared.specs.Passes.{IsPassOf}
 use Rattle.cb_shared.specs.Turning.{answer_of}
-use Rattle.cb_workers.specs.Rules.{after_batch, after_begun, after_done, after_pair, end_of, first_job, next_job, visited}
-use Rattle.cb_workers.specs.Work.{AnsweredTurn, IsLackOf, IsOnly, deed_of, deeds_of, job_behind}
-use Rattle.cb_workers.specs.Bodies.{AddsTurns, Cuts, EndsBegun, HandsOver, HasMade, HasOrder, IsOwed, IsStopped, IsWorked, IsEnd, Lacks, Steps, one_deed, turns_alone}
+use Rattle.cb_workers.specs.Rules.{after_batch, after_done, after_pair, end_of, first_job, next_job}
+use Rattle.cb_workers.specs.Rules.{owner, visited}
+use Rattle.cb_workers.specs.Work.{AnsweredTurn, IsOnly, deed_of, deeds_of, job_behind, lack_of}
+use Rattle.cb_workers.specs.Bodies.{AddsTurns, Cuts, EndsBegun, HandsOver, HasMade, HasOrder, IsEnd}
+use Rattle.cb_workers.specs.Bodies.{IsOwed, IsStopped, IsWorked, Lacks, Steps, TellsNoBatch, one_deed}
+use Rattle.cb_workers.specs.Bodies.{turns_alone}
 use Rattle.cb_workers.specs.declared.worker.Worker.{Worker}
 use Rattle.cb_workers.specs.declared.worker.Worker.TheVariants as worker
 use Rattle.cb_workers.proofs.Visits.{next_visit_below}
 use Rattle.cb_workers.proofs.Adding.{both_added, none_added}
+use Rattle.cb_workers.proofs.Laws.{behind_of}
 
 -- ---- the jobs that are due are a worker's
-begun_owed : (handles : ℕ) → (done : Job) → IsOwed handles (after_begun done)
-begun_owed handles job.Gather = tt
-begun_owed handles done = tt
-
 done_owed : (handles : ℕ) → (done : Job) → IsOwed handles (after_done done)
 done_owed handles job.Install = tt
 done_owed handles done = tt
 
 batch_owed : (handles : ℕ) → (done : Job) → (r : Reply) → IsOwed handles (after_batch done r)
-batch_owed handles done (answer.Batch set) = begun_owed handles done
+batch_owed handles done (answer.Batch set) = tt
 batch_owed handles done answer.Done = done_owed handles done
 batch_owed handles done (answer.Shipped position) = tt
 batch_owed handles done (answer.Short positions) = tt
@@ -74,26 +80,25 @@ pub due_owed : (handles : ℕ) → (w : Worker) → (n : ℕ) → (due : Job) �
 due_owed handles w n due v u some made =
     subst (λ j. IsOwed handles j) (sym made.due_is) (behind_owed handles w made.done some)
 
--- ---- the order of an install
-begun_order : (done : Job) → (set : SetId) → (order : Option EncodeOrder) → (v : View)
-    → HandsOver done (answer.Batch set) order v → HasOrder (after_begun done) order v
-begun_order job.Gather set order v hands = hands
-begun_order done set order v hands = tt
+pub due_own : (handles : ℕ) → (w : Worker) → (n : ℕ) → (due : Job) → (v u : View)
+    → HasMade handles w n due v u → owner due ≡ Some w
+due_own handles w n due v u made = ap (λ j. owner j) made.due_is ∙ behind_of handles w made.done
 
+-- ---- the order of an install
 done_order : (done : Job) → (order : Option EncodeOrder) → (v : View)
     → HasOrder (after_done done) order v
 done_order job.Install order v = tt
 done_order done order v = tt
 
 batch_order : (done : Job) → (r : Reply) → (order : Option EncodeOrder) → (v : View)
-    → HandsOver done r order v → HasOrder (after_batch done r) order v
-batch_order done (answer.Batch set) order v hands = begun_order done set order v hands
-batch_order done answer.Done order v hands = done_order done order v
-batch_order done (answer.Shipped position) order v hands = tt
-batch_order done (answer.Short positions) order v hands = tt
-batch_order done answer.AllShipped order v hands = tt
-batch_order done answer.NoNode order v hands = tt
-batch_order done r order v hands = tt
+    → owner done ≡ Some worker.Evict → HandsOver done r order v → HasOrder (after_batch done r) order v
+batch_order done (answer.Batch set) order v own hands = hands own set refl
+batch_order done answer.Done order v own hands = done_order done order v
+batch_order done (answer.Shipped position) order v own hands = tt
+batch_order done (answer.Short positions) order v own hands = tt
+batch_order done answer.AllShipped order v own hands = tt
+batch_order done answer.NoNode order v own hands = tt
+batch_order done r order v own hands = tt
 
 pair_order : (r : Reply) → (order : Option EncodeOrder) → (v : View)
     → HasOrder (after_pair r) order v
@@ -104,14 +109,58 @@ pair_order answer.AllStepped order v = tt
 pair_order (answer.NodeFull node) order v = tt
 pair_order r order v = tt
 
--- an install is due behind a gather that handed an order out, and behind nothing else
+-- an install is due where a batch began, and its order is at hand then
 pub next_order : (handles : ℕ) → (w : Worker) → (done : Job) → (r : Reply)
-    → (order : Option EncodeOrder) → (v : View) → HandsOver done r order v
+    → (order : Option EncodeOrder) → (v : View) → owner done ≡ Some w → HandsOver done r order v
     → HasOrder (next_job handles w done r) order v
-next_order handles worker.Filter done r order v hands = tt
-next_order handles worker.Evict done r order v hands = batch_order done r order v hands
-next_order handles worker.Compact done r order v hands = pair_order r order v
-next_order handles worker.Rebuild done r order v hands = tt
+next_order handles worker.Filter done r order v own hands = tt
+next_order handles worker.Evict done r order v own hands = batch_order done r order v own hands
+next_order handles worker.Compact done r order v own hands = pair_order r order v
+next_order handles worker.Rebuild done r order v own hands = tt
+
+-- a gather puts the order at hand that it handed out, and is answered Batch for no other reason
+pub gather_over : (r : Result Gathered NoMemory) → (order : Option EncodeOrder) → (v : View)
+    → IsPlainGather r → CanRun (gather_hands r)
+    → IfOk r (λ g. (o : EncodeOrder) → g ≡ gathered.Order o → v.order ≡ Some (Encode o))
+    → IfOk r (λ g. (o : EncodeOrder) → g ≡ gathered.Order o → order ≡ Some o)
+    → IfOk (gather_told r) (λ reply. HandsOver job.Gather reply order v)
+gather_over (Ok (gathered.Order o)) order v plain runs kept there = λ own set is. record {
+  given = o;
+  there = there o refl;
+  kept = kept o refl;
+  runs = runs;
+}
+gather_over (Ok (gathered.Answer r)) order v plain runs kept there =
+    λ own set is. absurd (plain set is)
+gather_over (Err e) order v plain runs kept there = tt
+
+-- a turn that tells of no batch puts none there
+pub none_over : (done : Job) → (r : Result Reply NoMemory) → (order : Option EncodeOrder) → (v : View)
+    → IfOk r (λ reply. owner done ≡ Some worker.Evict → TellsNoBatch reply)
+    → IfOk r (λ reply. HandsOver done reply order v)
+none_over done (Ok reply) order v none = λ own set is. absurd (none own set is)
+none_over done (Err e) order v none = tt
+
+-- ---- a turn with the job that is due
+pub turn_answered : (due : Job) → (r : Result Reply NoMemory) → (v u : View)
+    → AddsTurns (one_deed due (answer_of r)) v u
+    → IfOk r (λ reply. AddsTurns (one_deed due (Some reply)) v u)
+turn_answered due (Ok reply) v u adds = adds
+turn_answered due (Err e) v u adds = tt
+
+-- that found no memory
+pub turn_lacked : (due : Job) → (r : Result Reply NoMemory) → (v u : View)
+    → (due ≡ job.Install → ⊥) → AddsTurns (one_deed due (answer_of r)) v u
+    → OnErr r (AddsTurns (lack_of due) v u)
+turn_lacked due (Ok reply) v u other adds = tt
+turn_lacked job.Install (Err e) v u other adds = absurd (other refl)
+turn_lacked due (Err e) v u other adds = adds
+
+-- an install for which there was none made no turn
+pub install_lacked : (r : Result Reply NoMemory) → (v u : View) → OnErr r (u ≡ v)
+    → OnErr r (AddsTurns [] v u)
+install_lacked (Ok reply) v u same = tt
+install_lacked (Err e) v u same = subst (λ w. AddsTurns [] v w) (sym same) (none_added v)
 
 -- ---- a loop over the turns
 
@@ -138,14 +187,13 @@ one_made handles w n due new v u t made (reply, next, adds) = record {
 
 pub one_lacked : (handles : ℕ) → (w : Worker) → (n turns : ℕ) → (due new : Job) → (v u t : View)
     → n < turns → HasMade handles w n due v u → Lacks due new u t → Cuts handles w turns new v t
-one_lacked handles w n turns due new v u t few made (same, (lack, lacks, adds)) = record {
+one_lacked handles w n turns due new v u t few made (same, adds) = record {
   done = made.done;
   fewer = subst (λ k. k < turns) (sym made.number) few;
   are_due = made.are_due;
   due_is = same ∙ made.due_is;
-  lack = lack;
-  lacks = subst (λ j. IsLackOf j lack) (sym same) lacks;
-  adds = both_added (deeds_of made.done) lack v u t made.adds adds;
+  adds = subst (λ j. AddsTurns (lack_of j ++ deeds_of made.done) v t) (sym same)
+      (both_added (deeds_of made.done) (lack_of due) v u t made.adds adds);
 }
 
 -- ---- the end
@@ -183,17 +231,16 @@ all_stopped handles w turns due v u t cut (ending, only, adds) = (
       fewer = cut.fewer;
       are_due = cut.are_due;
       ends = subst (λ j. IsOnly (end_of j) ending) cut.due_is only;
-      lack = cut.lack;
-      lacks = subst (λ j. IsLackOf j cut.lack) cut.due_is cut.lacks;
-      are = all.are;
+      are = subst (λ j. map deed all.turns ≡ deeds_of ending ++ (lack_of j ++ deeds_of cut.done))
+          cut.due_is all.are;
     };
     alone = refl;
   },
   all.grows,
 )
   where
-    all : AddsTurns (deeds_of ending ++ (cut.lack ++ deeds_of cut.done)) v t
-    all = both_added (cut.lack ++ deeds_of cut.done) (deeds_of ending) v u t cut.adds adds
+    all : AddsTurns (deeds_of ending ++ (lack_of due ++ deeds_of cut.done)) v t
+    all = both_added (lack_of due ++ deeds_of cut.done) (deeds_of ending) v u t cut.adds adds
 
 -- ---- one end
 
@@ -217,7 +264,7 @@ abbrev IsSomeEnd : Option Job → Type 0
 IsSomeEnd (Some last) = IsEnd last
 IsSomeEnd None = ⊥
 
-is_end : (due last : Job) → end_of due ≡ Some last → IsEnd last
+pub is_end : (due last : Job) → end_of due ≡ Some last → IsEnd last
 is_end job.Install last e = subst IsSomeEnd e tt
 is_end job.Ship last e = subst IsSomeEnd e tt
 is_end job.Commit last e = subst IsSomeEnd e tt

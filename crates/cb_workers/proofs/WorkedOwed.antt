@@ -26,14 +26,15 @@ of_pairs : (owner job.Pair ≡ Some worker.Compact) × (owner job.Patch ≡ Some
     × (owner job.Merge ≡ Some worker.Compact)
 of_pairs = (refl, refl, refl)
 
-of_none : (owner job.Begin ≡ None) × (owner job.Land ≡ None) × (owner (job.Make []) ≡ None) × (owner (job.Read (record { n = 2 })) ≡ None)
+of_none : (owner job.Begin ≡ None) × (owner job.Land ≡ None) × (owner (job.Make []) ≡ None)
+    × (owner (job.Read (record { n = 2 })) ≡ None)
     × (owner (job.Swap (record { n = 2 })) ≡ None) × (owner job.Compact ≡ None)
     × (owner (job.Crash (record { n = 2 })) ≡ None)
 of_none = (refl, refl, refl, refl, refl, refl, refl)
 
 -- ---- which turns a worker may owe
-owed : IsOwed 8 job.Gather × IsOwed 8 job.Install × IsOwed 8 job.Ship × IsOwed 8 job.Commit × IsOwed 8 job.Abort
-    × IsOwed 8 job.Pair × IsOwed 8 job.Patch × IsOwed 8 job.Part × IsOwed 8 job.Rebuild
+owed : IsOwed 8 job.Gather × IsOwed 8 job.Install × IsOwed 8 job.Ship × IsOwed 8 job.Commit
+    × IsOwed 8 job.Abort × IsOwed 8 job.Pair × IsOwed 8 job.Patch × IsOwed 8 job.Part × IsOwed 8 job.Rebuild
 owed = (tt, tt, tt, tt, tt, tt, tt, tt, tt)
 
 no_begin_is_owed : IsOwed 8 job.Begin → ⊥
@@ -61,8 +62,8 @@ no_merge_ends is = is
 no_gather_ends : IsEnd job.Gather → ⊥
 no_gather_ends is = is
 
-ends_of_others : (end_of job.Gather ≡ None) × (end_of (job.Make []) ≡ None) × (end_of job.Evict ≡ None)
-    × (end_of job.Compact ≡ None) × (end_of (job.Swap (record { n = 2 })) ≡ None)
+ends_of_others : (end_of job.Gather ≡ None) × (end_of (job.Make []) ≡ None)
+    × (end_of job.Evict ≡ None) × (end_of job.Compact ≡ None) × (end_of (job.Swap (record { n = 2 })) ≡ None)
 ends_of_others = (refl, refl, refl, refl, refl)
 
 -- a turn that was refused begins the next batch, or the next pair

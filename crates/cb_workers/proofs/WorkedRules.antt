@@ -4,7 +4,8 @@ use Rattle.std.specs.Prelude.{◌≡◌, [], ◌∷◌, None, Some, refl}
 use Rattle.cb_types.specs.declared.job.Job.TheVariants as job
 use Rattle.cb_types.specs.declared.reply.Reply.TheVariants as answer
 use Rattle.cb_workers.specs.declared.worker.Worker.TheVariants as worker
-use Rattle.cb_workers.specs.Rules.{after_batch, after_begun, after_done, after_pair, end_of, first_job, lane_of, next_job, owner, visit}
+use Rattle.cb_workers.specs.Rules.{after_batch, after_done, after_pair, end_of, first_job, lane_of}
+use Rattle.cb_workers.specs.Rules.{next_job, owner, visit}
 
 numbers : (lane_of worker.Filter ≡ record { n = 16 }) × (lane_of worker.Evict ≡ record { n = 17 })
     × (lane_of worker.Compact ≡ record { n = 18 }) × (lane_of worker.Rebuild ≡ record { n = 19 })
@@ -42,9 +43,6 @@ batches_begin : (after_batch job.Commit (answer.Set (record { n = 4 })) ≡ job.
     × (after_batch job.Install (answer.Changed (record { n = 4 })) ≡ job.Gather)
 batches_begin = (refl, refl, refl, refl, refl, refl, refl)
 
-behind_begun : (after_begun job.Gather ≡ job.Install) × (after_begun job.Ship ≡ job.Gather)
-behind_begun = (refl, refl)
-
 behind_done : (after_done job.Install ≡ job.Ship) × (after_done job.Abort ≡ job.Gather)
 behind_done = (refl, refl)
 
@@ -71,7 +69,8 @@ rebuilds : (first_job worker.Rebuild ≡ job.Rebuild)
 rebuilds = (refl, refl)
 
 -- ---- what ends a worker's turns
-ends : (end_of job.Install ≡ Some job.Abort) × (end_of job.Ship ≡ Some job.Abort) × (end_of job.Commit ≡ Some job.Abort)
+ends : (end_of job.Install ≡ Some job.Abort) × (end_of job.Ship ≡ Some job.Abort)
+    × (end_of job.Commit ≡ Some job.Abort)
     × (end_of job.Abort ≡ Some job.Abort) × (end_of job.Patch ≡ Some job.Part)
     × (end_of job.Merge ≡ Some job.Part) × (end_of job.Part ≡ Some job.Part)
 ends = (refl, refl, refl, refl, refl, refl, refl)

@@ -1,6 +1,6 @@
 -- Worked examples of the parts of a worker's work, and of the work as what a pass adds to its
 -- record: what meets each definition, and what breaks one part alone.
-use Rattle.std.proofs.Common.{◌≡◌, ℕ, suc, ◌+◌, ◌<◌, List, [], ◌∷◌, ◌++◌, length, map, Option, None, Some, refl, sym, ap, ◌∙◌, subst, inl, inr, lit<, arith}
+use Rattle.std.proofs.Common.{◌≡◌, ℕ, suc, ◌+◌, ◌<◌, List, [], ◌∷◌, ◌++◌, length, map, Option, None, Some, refl, sym, ap, ◌∙◌, subst, lit<, arith}
 use Rattle.std.proofs.lemmas.List.{length-append, length-map}
 use Rattle.cb_types.specs.declared.job.Job.{Job}
 use Rattle.cb_types.specs.declared.job.Job.TheVariants as job
@@ -18,9 +18,10 @@ use Rattle.cb_shared.specs.declared.runtime.Shared.{Shared}
 use Rattle.cb_shared.specs.Passes.{IsPassOf}
 use Rattle.cb_workers.specs.Bodies.{AddsTurns, Cuts, EndsBegun, HasMade, IsStopped, IsWorked, Lacks, Steps, WorkerStops, WorkerWorks, one_deed, turns_alone}
 use Rattle.cb_workers.specs.Rules.{after_visit, next_visit, visit, visited}
-use Rattle.cb_workers.specs.Work.{AnsweredTurn, AreDue, IsLackOf, IsOnly, deed_of, deeds_of, job_behind, lacked}
+use Rattle.cb_workers.specs.Work.{AnsweredTurn, AreDue, IsOnly, deed_of, deeds_of, job_behind, lack_of}
 use Rattle.cb_workers.specs.declared.worker.Worker.TheVariants as worker
-use Rattle.cb_workers.proofs.WorkedBodies.{aborted, begun, deeds_in, nothing_left, stopped, turn, two_turns, works}
+use Rattle.cb_workers.proofs.WorkedBodies.{aborted, begun, cut_turns, deeds_in, nothing_left, stopped}
+use Rattle.cb_workers.proofs.WorkedBodies.{turn, two_turns, works}
 
 -- ---- the filter's handles
 visits : (visited (visit 2) ≡ 2) × (visited job.Gather ≡ 0)
@@ -146,27 +147,22 @@ module _ (s : Shown) (far : FarState) (v : View) where
   lacks_begin = turn s far job.Gather None
 
   lacks : Lacks job.Gather job.Gather v (with_turns (lacks_begin ∷ []))
-  lacks = (
-    refl,
-    (lacked job.Gather ∷ [], inl refl, record { turns = lacks_begin ∷ []; are = refl; grows = refl }),
-  )
+  lacks = (refl, record { turns = lacks_begin ∷ []; are = refl; grows = refl })
 
-  -- nothing is left of an install whose order could not be run
-  lacks_the_run : Lacks job.Install job.Install v (with_turns [])
-  lacks_the_run = (refl, ([], inr (refl, refl), adds_none))
+  -- nothing is left where there was none to run the order of an install
+  lacks_before : Lacks job.Install job.Install v (with_turns [])
+  lacks_before = (refl, adds_none)
+
+  lacks_an_install : Lacks job.Install job.Install v (with_turns (turn s far job.Install None ∷ []))
+      → ⊥
+  lacks_an_install x =
+      let e : 0 ≡ 1 = count_added _ (turn s far job.Install None ∷ []) v x.1 in omega (arith, e)
 
   lacks_and_goes_on : (u : View) → Lacks job.Gather job.Ship v u → ⊥
   lacks_and_goes_on u x = let e : 8 ≡ 19 = ap job_index x.0 in omega (arith, e)
 
   lacks_nothing : Lacks job.Gather job.Gather v (with_turns (begins ∷ [])) → ⊥
-  lacks_nothing x = by x.1.0 x.1.1 x.1.2
-    where
-      by : (lack : List Deed) → IsLackOf job.Gather lack
-          → AddsTurns lack v (with_turns (begins ∷ [])) → ⊥
-      by lack (inl one) adds = let e : 1 ≡ 0 = ap has_reply (one_added _ _ v
-          (subst (λ (ds : List Deed). AddsTurns ds v (with_turns (begins ∷ []))) one adds)) in
-          omega (arith, e)
-      by lack (inr x) adds = let e : 19 ≡ 20 = ap job_index x.0 in omega (arith, e)
+  lacks_nothing x = let e : 1 ≡ 0 = ap has_reply (one_added _ _ v x.1) in omega (arith, e)
 
   -- ---- the end of what was begun
   ends : EndsBegun job.Ship v (with_turns (did job.Abort answer.Done ∷ []))
@@ -244,8 +240,6 @@ module _ (s : Shown) (far : FarState) (v : View) where
     fewer = lit< tt;
     are_due = tt;
     due_is = refl;
-    lack = lacked job.Gather ∷ [];
-    lacks = inl refl;
     adds = record { turns = lacks_begin ∷ []; are = refl; grows = refl };
   }
 
@@ -257,16 +251,12 @@ module _ (s : Shown) (far : FarState) (v : View) where
       ap job_index (x.due_is ∙ rebuilds_alone x.done) in omega (arith, e)
 
   cuts_with_memory : Cuts 8 worker.Evict 1 job.Gather v (with_turns (begins ∷ [])) → ⊥
-  cuts_with_memory x = go x.done x.lack x.fewer x.lacks x.adds
+  cuts_with_memory x = go x.done x.fewer x.adds
     where
-      go : (done : List AnsweredTurn) (lack : List Deed) → length done < 1
-          → IsLackOf job.Gather lack
-          → AddsTurns (lack ++ deeds_of done) v (with_turns (begins ∷ [])) → ⊥
-      go [] lack few (inl one) adds = let e : 1 ≡ 0 = ap has_reply (one_added _ _ v
-          (subst (λ (ds : List Deed). AddsTurns (ds ++ []) v (with_turns (begins ∷ []))) one adds)) in
-          omega (arith, e)
-      go [] lack few (inr x) adds = let e : 19 ≡ 20 = ap job_index x.0 in omega (arith, e)
-      go (a ∷ earlier) lack few lacks adds = omega (arith, few)
+      go : (done : List AnsweredTurn) → length done < 1
+          → AddsTurns (lack_of job.Gather ++ deeds_of done) v (with_turns (begins ∷ [])) → ⊥
+      go [] few adds = let e : 1 ≡ 0 = ap has_reply (one_added _ _ v adds) in omega (arith, e)
+      go (a ∷ earlier) few adds = omega (arith, few)
 
 -- ---- the work of a pass of the runtime
 module _ (s : Shared) (p q : Pass) (known : Shown) (far : FarState) where
@@ -306,34 +296,30 @@ module _ (s : Shared) (p q : Pass) (known : Shown) (far : FarState) where
         length-append d.turns p.seat.me.0.turns,
       )
 
-  abbrev cut_turns : List Turn
-  cut_turns = turn known far job.Abort (Some answer.Done) ∷ turn known far job.Install None
-      ∷ turn known far job.Gather (Some (answer.Batch (record { n = 0 }))) ∷ []
-
   pass_stops : IsPassOf s q → s.config.handles ≡ 8
-      → Grows p.seat.me.0 (turns_alone cut_turns) q.seat.me.0 → WorkerStops s worker.Evict 2 p q
+      → Grows p.seat.me.0 (turns_alone (cut_turns known far)) q.seat.me.0
+      → WorkerStops s worker.Evict 3 p q
   pass_stops of eight grows = (
     of,
     (
-      turns_alone cut_turns,
-      subst (λ (n : ℕ). IsStopped n worker.Evict 2 (turns_alone cut_turns)) (sym eight)
+      turns_alone (cut_turns known far),
+      subst (λ (n : ℕ). IsStopped n worker.Evict 3 (turns_alone (cut_turns known far))) (sym eight)
           (stopped known far),
       grows,
     ),
   )
 
-  stops_elsewhere : (IsPassOf s q → ⊥) → WorkerStops s worker.Evict 2 p q → ⊥
+  stops_elsewhere : (IsPassOf s q → ⊥) → WorkerStops s worker.Evict 3 p q → ⊥
   stops_elsewhere n w = n w.0
 
-  stops_not : q.seat.me.0 ≡ grown nothing_more p.seat.me.0 → WorkerStops s worker.Evict 2 p q → ⊥
+  stops_not : q.seat.me.0 ≡ grown nothing_more p.seat.me.0 → WorkerStops s worker.Evict 3 p q → ⊥
   stops_not as_before w =
       let d = w.1.0 in let k = w.1.1 in
       let same : length p.seat.me.0.turns ≡ length (d.turns ++ p.seat.me.0.turns) =
       ap (λ (u : View). length u.turns) (sym as_before ∙ w.1.2) in
       let none : length d.turns ≡ 0 =
       omega (arith, same, length-append d.turns p.seat.me.0.turns) in
-      nothing_left _ k.work.lack k.ending k.done k.work.lacks k.work.ends
-      (sym (bare d.turns none) ∙ k.work.are)
+      nothing_left _ k.ending k.done k.work.ends (sym (bare d.turns none) ∙ k.work.are)
     where
       bare : (ts : List Turn) → length ts ≡ 0 → map deed ts ≡ []
       bare [] none = refl

@@ -1,6 +1,6 @@
 -- Worked examples of a worker's work: two turns of the worker that evicts and the one that ends its
 -- batch; and for each part what breaks that part alone.
-use Rattle.std.proofs.Common.{◌≡◌, ℕ, ◌+◌, List, [], ◌∷◌, ◌++◌, length, Option, None, Some, refl, ap, ◌∙◌, inl, inr, lit<, arith}
+use Rattle.std.proofs.Common.{◌≡◌, ℕ, ◌+◌, List, [], ◌∷◌, ◌++◌, length, Option, None, Some, refl, ap, lit<, arith}
 use Rattle.cb_types.specs.declared.job.Job.TheVariants as job
 use Rattle.cb_types.specs.declared.reply.Reply.{Reply}
 use Rattle.cb_types.specs.declared.reply.Reply.TheVariants as answer
@@ -8,7 +8,8 @@ use Rattle.cb_types.specs.Jobs.{job_index}
 use Rattle.cb_workers.specs.declared.worker.Worker.{Worker}
 use Rattle.cb_workers.specs.declared.worker.Worker.TheVariants as worker
 use Rattle.cb_record.specs.Deeds.{Deed}
-use Rattle.cb_workers.specs.Work.{AnsweredTurn, AreJobsOf, AreDue, IsCutShort, IsLackOf, IsWork, deed_of, deeds_of, lacked}
+use Rattle.cb_workers.specs.Work.{AnsweredTurn, AreJobsOf, AreDue, IsCutShort, IsWork, deed_of}
+use Rattle.cb_workers.specs.Work.{deeds_of, lack_of, lacked}
 
 abbrev begun : AnsweredTurn
 begun = record { job = job.Gather; reply = answer.Batch (record { n = 0 }) }
@@ -119,22 +120,23 @@ cut = record {
   fewer = lit< tt;
   are_due = two_due;
   ends = (answer.Done, refl);
-  lack = lacked job.Ship ∷ [];
-  lacks = inl refl;
   are = refl;
 }
 
--- the order of an install could not be run: no turn was made, and the batch is aborted
+-- there was no memory to run the order of an install: no turn was made, and the batch is aborted
 unrun : IsCutShort 8 worker.Evict 2 (begun ∷ []) (aborted ∷ [])
     (deed_of aborted ∷ deed_of begun ∷ [])
 unrun = record {
   fewer = lit< tt;
   are_due = (refl, tt);
   ends = (answer.Done, refl);
-  lack = [];
-  lacks = inr (refl, refl);
   are = refl;
 }
+
+-- the install stands there as a turn without memory
+not_unmade : IsCutShort 8 worker.Evict 2 (begun ∷ []) (aborted ∷ [])
+    (deed_of aborted ∷ lacked job.Install ∷ deed_of begun ∷ []) → ⊥
+not_unmade w = let e : 3 ≡ 2 = ap (λ xs. length xs) w.are in omega (arith, e)
 
 -- what found no memory was no turn of those that it owes
 not_fewer : IsCutShort 8 worker.Evict 2 two (aborted ∷ []) cut_deeds → ⊥
@@ -151,33 +153,12 @@ not_begun w = let e : 8 ≡ 19 = ap job_index (w.are_due.0) in omega (arith, e)
 
 -- no turn lacked memory
 not_cut : IsCutShort 8 worker.Evict 3 two (aborted ∷ []) three_deeds → ⊥
-not_cut w = by w.lack w.lacks w.are
-  where
-    by : (lack : List Deed) → IsLackOf job.Ship lack
-        → three_deeds ≡ deeds_of (aborted ∷ []) ++ (lack ++ deeds_of two) → ⊥
-    by lack (inl one) are = let e : 3 ≡ 4 = ap (λ (ds : List Deed). length ds)
-        (are ∙ ap (λ (ds : List Deed). deeds_of (aborted ∷ []) ++ (ds ++ deeds_of two)) one) in
-        omega (arith, e)
-    by lack (inr x) are = let e : 8 ≡ 20 = ap job_index x.0 in omega (arith, e)
+not_cut w = let e : 3 ≡ 4 = ap (λ xs. length xs) w.are in omega (arith, e)
 
--- ---- what is left of the job that is due
-lack_of_a_turn : IsLackOf job.Ship (lacked job.Ship ∷ [])
-lack_of_a_turn = inl refl
-
--- only an install is left out
-no_ship_is_left_out : IsLackOf job.Ship [] → ⊥
-no_ship_is_left_out (inl one) =
-    let e : 0 ≡ 1 = ap (λ (ds : List Deed). length ds) one in omega (arith, e)
-no_ship_is_left_out (inr x) = let e : 8 ≡ 20 = ap job_index x.0 in omega (arith, e)
-
--- it is no turn of another job
-no_other_turn : IsLackOf job.Install (lacked job.Ship ∷ []) → ⊥
-no_other_turn (inl one) = let e : 8 ≡ 20 = ap first_index one in omega (arith, e)
-  where
-    first_index : List Deed → ℕ
-    first_index [] = 0
-    first_index (d ∷ ds) = job_index d.job
-no_other_turn (inr x) = let e : 1 ≡ 0 = ap (λ (ds : List Deed). length ds) x.1 in omega (arith, e)
+-- what is left where there was no memory: an install alone leaves nothing
+lacks : (lack_of job.Gather ≡ lacked job.Gather ∷ []) × (lack_of job.Ship ≡ lacked job.Ship ∷ [])
+    × (lack_of job.Install ≡ [])
+lacks = (refl, refl, refl)
 
 -- ---- whose turns they are
 are_of : AreJobsOf worker.Evict three_deeds

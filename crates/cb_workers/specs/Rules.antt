@@ -33,22 +33,16 @@ next_visit handles h reply = if ltb (suc h) handles then suc h else 0
 abbrev pub after_visit : ℕ → Job → Reply → Job
 after_visit handles done reply = visit (next_visit handles (visited done) reply)
 
--- Batch tells of a gather that a batch began, whose order is to be run and installed.
-abbrev pub after_begun : Job → Job
-after_begun job.Gather = job.Install
-after_begun done = job.Gather
-
--- Done tells of an install that the batch has its parities and is to be shipped, and of an abort that
--- it is given up.
+-- a batch that has its parities is shipped; behind one that was given up the next is gathered
 abbrev pub after_done : Job → Job
 after_done job.Install = job.Ship
 after_done done = job.Gather
 
--- The parities of a batch are made outside of the far lock, by its order, and installed. Then it is
--- shipped until all its rows stand, committed, and shipped again where that came short; it is aborted
--- where no node can take a row. Else the next batch is gathered.
+-- The order of a batch that began is run outside of the far lock, and its parities are installed.
+-- Then the batch is shipped until all its rows stand, committed, and shipped again where that came
+-- short; it is aborted where no node can take a row. Else the next batch is gathered.
 abbrev pub after_batch : Job → Reply → Job
-after_batch done (answer.Batch set) = after_begun done
+after_batch done (answer.Batch set) = job.Install
 after_batch done answer.Done = after_done done
 after_batch done (answer.Shipped position) = job.Ship
 after_batch done (answer.Short positions) = job.Ship

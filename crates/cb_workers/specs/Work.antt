@@ -1,6 +1,6 @@
 -- What a worker does in all: turns, of which each has the job that the rules name behind those
 -- before it.
-use Rattle.std.specs.Prelude.{◌≡◌, ◌⊎◌, ℕ, ◌<◌, List, [], ◌∷◌, ◌++◌, length, map, Option, Some, None}
+use Rattle.std.specs.Prelude.{◌≡◌, ℕ, ◌<◌, List, [], ◌∷◌, ◌++◌, length, map, Option, Some, None}
 use Rattle.cb_types.specs.declared.job.Job.{Job}
 use Rattle.cb_types.specs.declared.job.Job.TheVariants as job
 use Rattle.cb_types.specs.declared.reply.Reply.{Reply}
@@ -55,10 +55,11 @@ pub record IsWork (handles : ℕ) (w : Worker) (turns : ℕ) (done ending : List
   pub ends : IsOnly (end_of (job_behind handles w done)) ending
   pub are : deeds ≡ deeds_of (ending ++ done)
 
--- What is left of the job that was due and for which there was no memory: its turn, which found
--- none; or nothing, where it is an install whose order could not be run.
-abbrev pub IsLackOf : Job → List Deed → Type 0
-IsLackOf due lack = (lack ≡ lacked due ∷ []) ⊎ ((due ≡ job.Install) × (lack ≡ []))
+-- What is left where there was no memory for the job that was due: its turn, which found none. An
+-- install takes no memory, but its order is run before it: where that found none, no turn was made.
+abbrev pub lack_of : Job → List Deed
+lack_of job.Install = []
+lack_of due = lacked due ∷ []
 
 -- A worker made fewer turns, each with the job that was due. For the next one that was due there was
 -- no memory, and what it had begun was ended then.
@@ -67,9 +68,7 @@ pub record IsCutShort (handles : ℕ) (w : Worker) (turns : ℕ) (done ending : 
   pub fewer : length done < turns
   pub are_due : AreDue handles w done
   pub ends : IsOnly (end_of (job_behind handles w done)) ending
-  pub lack : List Deed
-  pub lacks : IsLackOf (job_behind handles w done) lack
-  pub are : deeds ≡ deeds_of ending ++ (lack ++ deeds_of done)
+  pub are : deeds ≡ deeds_of ending ++ (lack_of (job_behind handles w done) ++ deeds_of done)
 
 -- each of these turns has a job of the worker
 abbrev pub AreJobsOf : Worker → List Deed → Type 0

@@ -1,7 +1,6 @@
 ghost use Rattle.std.specs.Prelude.{◌≡◌, ◌<◌, Option};
 ghost use Rattle.cb_workers.specs.Rules.{
   after_batch,
-  after_begun,
   after_done,
   after_pair,
   after_visit,
@@ -50,21 +49,11 @@ pub(crate) fn after_batch(job: &Job, reply: &Reply) -> Job
     ensures { result ≡ after_batch job.now reply.now }
 {
     match reply {
-        Reply::Batch { .. } => after_begun(job),
+        Reply::Batch { .. } => Job::Install,
         Reply::Done => after_done(job),
         Reply::Shipped { .. } | Reply::Short { .. } => Job::Ship,
         Reply::AllShipped => Job::Commit,
         Reply::NoNode => Job::Abort,
-        _ => Job::Gather,
-    }
-}
-
-/// A batch that a gather began gets its parities by an install.
-fn after_begun(job: &Job) -> Job
-    ensures { result ≡ after_begun job.now }
-{
-    match job {
-        Job::Gather => Job::Install,
         _ => Job::Gather,
     }
 }

@@ -1,7 +1,10 @@
 //! How a worker makes its turns.
-ghost use Rattle.std.specs.Prelude.{◌≡◌, IfOk, List, OnErr, IsOk, Some, is_some};
+ghost use Rattle.std.specs.Prelude.{◌≡◌, IfOk, OnErr, IsOk, Some, is_some};
 ghost use Rattle.cb_types.specs.declared.job.Job.TheVariants as jobs;
+ghost use Rattle.cb_types.specs.declared.order.EncodeOrder.{EncodeOrder};
+ghost use Rattle.cb_evict.specs.declared.gathering.Gathered.TheVariants as gathered;
 ghost use Rattle.cb_core.specs.Jobs.{NeedsNoOrder};
+ghost use Rattle.cb_shared.specs.Ordering.{gather_told};
 ghost use Rattle.cb_shared.specs.Passes.{IsPassOf};
 ghost use Rattle.cb_shared.specs.Turning.{answer_of};
 ghost use Rattle.cb_workers.specs.Bodies.{
@@ -11,17 +14,19 @@ ghost use Rattle.cb_workers.specs.Bodies.{
   HandsOver,
   HasMade,
   HasOrder,
+  IsAtHand,
   IsEnd,
   IsOwed,
   Lacks,
   Steps,
+  TellsNoBatch,
   WorkerStops,
   WorkerWorks,
   one_deed,
 };
-ghost use Rattle.cb_record.specs.Deeds.{Deed};
-ghost use Rattle.cb_workers.specs.Rules.{end_of, first_job};
-ghost use Rattle.cb_workers.specs.Work.{IsLackOf};
+ghost use Rattle.cb_workers.specs.Rules.{end_of, first_job, owner};
+ghost use Rattle.cb_workers.specs.Work.{lack_of};
+ghost use Rattle.cb_workers.specs.declared.worker.Worker.TheVariants as worker;
 
 use crate::turns::end_of;
 use crate::worker::Worker;
@@ -56,7 +61,7 @@ pub(crate) fn work<R: Wait, G: Gate>(
 }
 
 /// So many turns, as long as there is memory. What is left is the job that is due: the next one, or
-/// that which found no memory.
+/// that for which there was no memory.
 fn make_turns<R: Wait, G: Gate>(
     rt: &R,
     alloc: Global,
@@ -83,8 +88,8 @@ fn make_turns<R: Wait, G: Gate>(
     Ok(())
 }
 
-/// A turn with the job that is due, behind which another one is due. An order that a gather handed
-/// out is kept for the install.
+/// A turn with the job that is due, behind which another one is due. The order of a batch is kept
+/// at hand until its install.
 fn step<R: Wait>(
     rt: &R,
     alloc: Global,
@@ -96,9 +101,10 @@ fn step<R: Wait>(
 ) -> Result<(), NoMemory>
     requires of { IsPassOf shared.now pass.old }
     requires owed { IsOwed shared.now.config.handles due.old }
+    requires own { owner due.old ≡ Some worker }
     requires order { HasOrder due.old order.old pass.old.seat.me.0 }
-    ensures order { IfOk result (λ _. HasOrder due.new order.new pass.new.seat.me.0) }
     ensures of { IsPassOf shared.now pass.new }
+    ensures order { IfOk result (λ _. HasOrder due.new order.new pass.new.seat.me.0) }
     ensures steps { IfOk result (λ _. Steps shared.now.config.handles worker due.old due.new
         pass.old.seat.me.0 pass.new.seat.me.0) }
     ensures lacks { OnErr result (Lacks due.old due.new pass.old.seat.me.0
@@ -109,7 +115,7 @@ fn step<R: Wait>(
     Ok(())
 }
 
-/// A turn with the job that is due: a gather hands its order out, and an install takes one.
+/// A turn with the job that is due: a gather puts an order at hand, and an install takes it.
 fn due_turn<R: Wait>(
     rt: &R,
     alloc: Global,
@@ -124,44 +130,39 @@ fn due_turn<R: Wait>(
     ensures of { IsPassOf shared.now pass.new }
     ensures adds { IfOk result (λ reply. AddsTurns (one_deed due.now (Some reply))
         pass.old.seat.me.0 pass.new.seat.me.0) }
-    ensures lacks { OnErr result ((lack : List Deed) × IsLackOf due.now lack
-        × AddsTurns lack pass.old.seat.me.0 pass.new.seat.me.0) }
+    ensures lacks { OnErr result (AddsTurns (lack_of due.now) pass.old.seat.me.0
+        pass.new.seat.me.0) }
     ensures hands { IfOk result (λ reply. HandsOver due.now reply order.new pass.new.seat.me.0) }
 {
     match due {
-        Job::Gather => gather_batch(rt, alloc, shared, pass, order),
+        Job::Gather => take_order(shared.gather(rt, alloc, pass), order),
         Job::Install => install_parities(rt, alloc, shared, pass, order),
         _ => one_turn(rt, alloc, shared, pass, due),
     }
 }
 
-/// A gather. Where it begins a batch, its order is kept.
-fn gather_batch<R: Wait>(
-    rt: &R,
-    alloc: Global,
-    shared: &Shared,
-    pass: &mut Pass,
+/// The reply of a gather so answered. An order that it handed out is at hand from here.
+fn take_order(
+    answer: Result<Gathered, NoMemory>,
     order: &mut Option<EncodeOrder>,
 ) -> Result<Reply, NoMemory>
-    requires of { IsPassOf shared.now pass.old }
-    ensures of { IsPassOf shared.now pass.new }
-    ensures adds { AddsTurns (one_deed jobs.Gather (answer_of result)) pass.old.seat.me.0
-        pass.new.seat.me.0 }
-    ensures hands { IfOk result (λ reply. HandsOver jobs.Gather reply order.new
-        pass.new.seat.me.0) }
+    ensures told { result ≡ gather_told answer }
+    ensures handed { IfOk answer (λ g. (o : EncodeOrder) → g ≡ gathered.Order o
+        → order.new ≡ Some o) }
 {
-    match shared.gather(rt, alloc, pass)? {
-        Gathered::Order(new) => {
-            let set = SetId { n: new.set };
-            *order = Some(new);
+    match answer {
+        Ok(Gathered::Order(given)) => {
+            let set = SetId { n: given.set };
+            *order = Some(given);
             Ok(Reply::Batch { set })
         }
-        Gathered::Answer(reply) => Ok(reply),
+        Ok(Gathered::Answer(reply)) => Ok(reply),
+        Err(e) => Err(e),
     }
 }
 
-/// Makes the parities of the order outside of the far lock, and installs them. Where there was no
-/// memory to make them, the order is kept, and no turn was made.
+/// Runs the order that is at hand, outside of the far lock, and installs its parities. Where there
+/// was no memory for them, no turn was made.
 fn install_parities<R: Wait>(
     rt: &R,
     alloc: Global,
@@ -170,21 +171,19 @@ fn install_parities<R: Wait>(
     order: &mut Option<EncodeOrder>,
 ) -> Result<Reply, NoMemory>
     requires of { IsPassOf shared.now pass.old }
-    requires order { HasOrder jobs.Install order.old pass.old.seat.me.0 }
+    requires order { IsAtHand order.old pass.old.seat.me.0 }
     ensures of { IsPassOf shared.now pass.new }
     ensures adds { IfOk result (λ reply. AddsTurns (one_deed jobs.Install (Some reply))
         pass.old.seat.me.0 pass.new.seat.me.0) }
     ensures same { OnErr result (pass.new ≡ pass.old) }
+    ensures begins { IfOk result TellsNoBatch }
 {
-    match order.take() {
-        Some(given) => match run_encode(alloc, given) {
-            Ok(done) => Ok(shared.install(rt, pass, done)),
-            Err(given) => {
-                *order = Some(given);
-                Err(NoMemory)
-            }
-        },
-        None => unreachable!(),
+    let Some(given) = order.take() else {
+        unreachable!()
+    };
+    match run_encode(alloc, given) {
+        Ok(done) => Ok(shared.install(rt, pass, done)),
+        Err(_) => Err(NoMemory),
     }
 }
 
@@ -217,6 +216,8 @@ fn one_turn<R: Wait>(
     ensures of { IsPassOf shared.now pass.new }
     ensures adds { AddsTurns (one_deed job.now (answer_of result)) pass.old.seat.me.0
         pass.new.seat.me.0 }
+    ensures begins { IfOk result (λ reply. owner job.now ≡ Some worker.Evict
+        → TellsNoBatch reply) }
     ensures memory { IsEnd job.now → IsOk result }
 {
     shared.turn_within(rt, alloc, pass, job)
