@@ -109,6 +109,18 @@ pair_order answer.AllStepped order v = tt
 pair_order (answer.NodeFull node) order v = tt
 pair_order r order v = tt
 
+-- no worker begins with one
+first_none : (w : Worker) → (order : Option EncodeOrder) → (v : View) → HasOrder (first_job w) order v
+first_none worker.Filter order v = tt
+first_none worker.Evict order v = tt
+first_none worker.Compact order v = tt
+first_none worker.Rebuild order v = tt
+
+pub first_order : (w : Worker) → (due : Job) → (order : Option EncodeOrder) → (v : View)
+    → due ≡ first_job w → HasOrder due order v
+first_order w due order v first =
+    subst (λ (j : Job). HasOrder j order v) (sym first) (first_none w order v)
+
 -- an install is due where a batch began, and its order is at hand then
 pub next_order : (handles : ℕ) → (w : Worker) → (done : Job) → (r : Reply)
     → (order : Option EncodeOrder) → (v : View) → owner done ≡ Some w → HandsOver done r order v
@@ -157,10 +169,11 @@ turn_lacked job.Install (Err e) v u other adds = absurd (other refl)
 turn_lacked due (Err e) v u other adds = adds
 
 -- an install for which there was none made no turn
-pub install_lacked : (r : Result Reply NoMemory) → (v u : View) → OnErr r (u ≡ v)
-    → OnErr r (AddsTurns [] v u)
-install_lacked (Ok reply) v u same = tt
-install_lacked (Err e) v u same = subst (λ w. AddsTurns [] v w) (sym same) (none_added v)
+pub install_lacked : (r : Result Reply NoMemory) → (p q : Pass) → OnErr r (q ≡ p)
+    → OnErr r (AddsTurns [] p.seat.me.0 q.seat.me.0)
+install_lacked (Ok reply) p q same = tt
+install_lacked (Err e) p q same =
+    subst (λ (x : Pass). AddsTurns [] p.seat.me.0 x.seat.me.0) (sym same) (none_added p.seat.me.0)
 
 -- ---- a loop over the turns
 
