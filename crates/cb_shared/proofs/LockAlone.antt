@@ -75,40 +75,25 @@ may_give c job reply keeps me far e = record {
   own = e.own;
 }
 
-pub gives_lock_at : (first : ℕ) (c k : Config) → k ≡ c → (slots id : ℕ) (me : Sat) (job j : Job)
-    (reply r : Option Reply) (keeps o : Option Kept) → j ≡ job → r ≡ reply → o ≡ keeps
-    → (far : FarState) (n : ℕ) → 1 ≤ me.0.share
+pub gives_lock_at : (first : ℕ) (c k : Config) → k ≡ c → (slots id : ℕ) (me : Sat) (job : Job)
+    (reply : Option Reply) (keeps : Option Kept) (far : FarState) (n : ℕ) → 1 ≤ me.0.share
     → me.1 ≡ (0, Some far) ∷ [] → IsEnding c job reply keeps far me.0 → n ≡ 2 * far.counts.turns
     → Allows (Ruled (Locked Did) first k) slots id me 0 (λ _. n)
-    (λ _. gave j r o [] (made_by_turn j r) (step slots 0 n 0 none) me n)
-gives_lock_at first c k key slots id me job j reply r keeps o ej er eo far n live carried ends is =
-    subst (λ (x : Job). Allows (Ruled (Locked Did) first k) slots id me 0 (λ _. n)
-    (λ _. gave x r o [] (made_by_turn x r) (step slots 0 n 0 none) me n)) (sym ej)
-    (subst (λ (x : Option Reply). Allows (Ruled (Locked Did) first k) slots id me 0 (λ _. n)
-    (λ _. gave job x o [] (made_by_turn job x) (step slots 0 n 0 none) me n)) (sym er)
-    (subst (λ (x : Option Kept). Allows (Ruled (Locked Did) first k) slots id me 0 (λ _. n)
-    (λ _. gave job reply x [] (made_by_turn job reply) (step slots 0 n 0 none) me n)) (sym eo)
-    (at_key first c k slots id me 0 (λ _. n)
+    (λ _. gave job reply keeps [] (made_by_turn job reply) (step slots 0 n 0 none) me n)
+gives_lock_at first c k key slots id me job reply keeps far n live carried ends is =
+    at_key first c k slots id me 0 (λ _. n)
     (λ _. gave job reply keeps [] (made_by_turn job reply) (step slots 0 n 0 none) me n) key
     (gives_lock Did first c slots id me job reply keeps far [] (made_by_turn job reply) n live carried
-    (may_give c job reply keeps me far ends) is))))
+    (may_give c job reply keeps me far ends) is)
 
 -- what the step tells of the seat
-pub gives_far : (c : Config) (job j : Job) (reply r : Option Reply) (keeps o : Option Kept)
-    → j ≡ job → r ≡ reply → o ≡ keeps
-    → (far : FarState) (p q : SeatAt) → (record_at p).config ≡ c → q.table_id ≡ p.table_id
-    → q.id ≡ p.id
-    → HasGiven j r o far [] (made_by_turn j r) p.me q.me → GivesFar c job reply keeps far p q
-gives_far c job j reply r keeps o ej er eo far p q key table id h = record {
+pub gives_far : (c : Config) (job : Job) (reply : Option Reply) (keeps : Option Kept)
+    (far : FarState) (p q : SeatAt) → (record_at p).config ≡ c → q.table_id ≡ p.table_id
+    → q.id ≡ p.id → HasGiven job reply keeps far [] (made_by_turn job reply) p.me q.me
+    → GivesFar c job reply keeps far p q
+gives_far c job reply keeps far p q key table id h = record {
   entries = h.entries;
-  at = (
-    table,
-    id,
-    h.given ∙ (λ i. (
-      gave_lock (ej i) (er i) (eo i) far h.entries [] (made_by_turn (ej i) (er i)) (record_at p),
-      [],
-    )),
-  );
+  at = (table, id, h.given);
   written = subst (λ (x : Config). Each (λ (e : Entry). e.handle < x.handles)
       ((record_at p).fresh ++ (record_at p).written)) key h.written;
 }

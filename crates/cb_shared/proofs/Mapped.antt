@@ -1,10 +1,8 @@
 -- A turn at a desk of one kind as one at a desk of another kind.
 use Rattle.std.proofs.Common.{ℕ, suc, List, [], Option, None, Some}
 use Rattle.cb_types.specs.declared.order.Kept.{Kept}
-use Rattle.cb_evict.specs.declared.gathering.Gathered.{Gathered}
-use Rattle.cb_swapin.specs.declared.fetching.Fetching.{Fetching}
 use Rattle.cb_core.specs.OrderParts.FetchesBy.{not_far as fetch_near, was_far as fetch_far}
-use Rattle.cb_core.specs.Ordered.{DoesWith, FetchesRows, Gathers, Installs, Lands, NothingDone}
+use Rattle.cb_core.specs.Ordered.{DoesWith, Lands, NothingDone}
 use Rattle.cb_core.specs.Ordered.{StoppedWith, StopsWith, TurnedWith}
 use Rattle.cb_core.specs.Ordered.TurnedWith.{done as done_with, worn as worn_with}
 use Rattle.cb_types.specs.declared.config.Config.{Config}

@@ -1,5 +1,5 @@
 -- The pages of a span of the class of a length.
-use Rattle.std.proofs.Common.{◌≡◌, ℕ, ◌<◌, leb, get_or, ap, sym, arith}
+use Rattle.std.proofs.Common.{◌≡◌, ℕ, leb, get_or, ap, sym, arith}
 use Rattle.std.specs.Prelude.{slice_index}
 use Rattle.std.specs.List.{position_or_len}
 use Rattle.std.proofs.lemmas.Bool.{le-leb, lt-leb}

@@ -16,7 +16,6 @@ use Rattle.cb_world.specs.Orders.{KeepsOrder, LeavesOrders}
 use Rattle.cb_world.specs.Played.{played}
 use Rattle.cb_world.specs.Sound.{Sound}
 use Rattle.cb_core.specs.Ordered.{StoppedWith, TurnedWith}
-use Rattle.cb_core.specs.OrderLeaves.{HandsOrder}
 use Rattle.cb_core.specs.Parts.{Holding}
 use Rattle.cb_core.specs.ReadTurn.{BroughtToRead, StoppedToRead}
 use Rattle.cb_core.specs.Turned.{ReadLacks, Reads, Stopped, Turned}
@@ -31,7 +30,7 @@ use Rattle.cb_shared.specs.Turning.{DidAs, DidWith, PinLacks, ReadsByPin, Slate,
 use Rattle.cb_shared.specs.Turning.{slate_run, slate_shows}
 use Rattle.cb_shared.specs.declared.asked.Asked.{Asked}
 use Rattle.cb_shared.specs.declared.asked.Outcome.{Outcome}
-use Rattle.cb_shared.specs.Ordering.{AsksDesk, MayAsk, handed_by, job_of, keeps_of, told}
+use Rattle.cb_shared.specs.Ordering.{AsksDesk, MayAsk, job_of, keeps_of, told}
 use Rattle.cb_shared.specs.UnderLock.{BringAt, BroughtForRead, IsNoRead, TurnAtSeat}
 use Rattle.cb_shared.proofs.Asks.{keeps_by, writes_none}
 use Rattle.cb_shared.proofs.Mapped.{brought_in, stopped, stopped_first, stopped_with, turned}

@@ -4,7 +4,6 @@ use Rattle.std.proofs.Common.{replicate, Option, None, Some, Ok, refl, sym, ap, 
 use Rattle.std.proofs.Common.{inr, lit≤, arith}
 use Rattle.std.proofs.lemmas.Bool.{eqb-false}
 use Rattle.cb_ptr.specs.Word.{state_number, state_of}
-use Rattle.cb_types.specs.declared.config.Config.{Config}
 use Rattle.cb_types.specs.declared.handle.Handle.{Handle}
 use Rattle.cb_types.specs.declared.job.Job.{Job}
 use Rattle.cb_types.specs.declared.job.Job.TheVariants as job
@@ -25,7 +24,7 @@ use Rattle.cb_rule.specs.declared.turn.Turn.{Turn}
 use Rattle.cb_rule.specs.declared.view.Look.{Look}
 use Rattle.cb_rule.specs.declared.view.View.{View}
 use Rattle.cb_rule.specs.Lists.{Has}
-use Rattle.cb_rule.specs.Steps.{AreNew, Knows, look_at, opener}
+use Rattle.cb_rule.specs.Steps.{AreNew, Knows, look_at}
 use Rattle.cb_record.specs.Parts.{Part, grown, nothing_more}
 use Rattle.cb_shared.specs.Trying.{again_in, newest_tries, tries_of}
 use Rattle.cb_shared.specs.Turning.{AreLooksAt, CountsPins, Did, DidAs, JobReads, KnowsOf}

@@ -146,9 +146,9 @@ IsAnswered (asks.Install done) o = IsInstalled o
 IsAnswered (asks.Fetch handle) o = IsFetched o
 IsAnswered (asks.Land done) o = IsLanded o
 
--- What such a turn does over any desk, by each order that it may be asked with: its reply and
--- what is kept behind it are those of the job, an order that is handed out is kept then, and it is answered
--- Unavailable exactly where it is to be.
+-- What such a turn does over any desk, by each order that it may be asked with: its reply and what
+-- is kept behind it are those of the job, an order that is handed out is kept then, and it is
+-- answered Unavailable exactly where it is to be.
 pub record AsksDesk {D : Type 0} (run : D → List Event → D → Type 0) (shows : D → Shown → Type 0)
     (c : Config) (asked : Asked) (o : Outcome) (a b : Holding D) : Type 0 where
   pub turned : (order : Option Kept) → MayAsk c order asked

@@ -10,9 +10,9 @@ ghost use Rattle.cb_evict.specs.declared.gathering.Gathered.TheVariants as gathe
 ghost use Rattle.cb_evict.specs.InstallRule.{kept_behind};
 ghost use Rattle.cb_core.specs.OrderLeaves.{fetch_hands, gather_hands};
 ghost use Rattle.cb_swapin.specs.declared.fetching.Fetching.TheVariants as fetching;
-ghost use Rattle.cb_shared.specs.Ordering.{CanRun, FetchFinds, IsAnswered, IsPlainFetch, IsPlainGather};
-ghost use Rattle.cb_shared.specs.Ordering.{MayAsk, behind_landing, fetch_told, gather_told, handed_by};
-ghost use Rattle.cb_shared.specs.Ordering.{job_of, keeps_of, told};
+ghost use Rattle.cb_shared.specs.Ordering.{CanRun, FetchFinds, IsAnswered, IsPlainFetch};
+ghost use Rattle.cb_shared.specs.Ordering.{IsPlainGather, MayAsk, behind_fetch, behind_gather, behind_landing};
+ghost use Rattle.cb_shared.specs.Ordering.{fetch_told, gather_told, handed_by, job_of, keeps_of, told};
 ghost use Rattle.cb_shared.specs.Passes.{IsAtRest, IsPassOf, record_of};
 ghost use Rattle.cb_shared.specs.Seats.{IsOf, record_at};
 ghost use Rattle.cb_shared.specs.Trying.{tries_of};
@@ -21,7 +21,7 @@ ghost use Rattle.cb_shared.specs.UnderLock.{TurnedBy};
 
 use crate::asked::{Asked, Outcome, fetched_of};
 use crate::board::{SeatAt, Top};
-use crate::locking::{give_order, lock_far};
+use crate::locking::{give_far, lock_far};
 use crate::ordering::ask_by_seat;
 use crate::pass::Pass;
 use crate::runtime::Shared;
@@ -36,8 +36,9 @@ use std::sync::Wait;
 impl Shared {
     /// A turn of the job Gather, as `turn` makes one: spans begin to leave, and the order to make
     /// their parities is handed out, which the pass keeps from here in place of the one that it
-    /// had. It can be run, and is handed out exactly where the job answers Batch. Else the answer is a refusal, and
-    /// the pass keeps what it kept; so it does where there is no memory. Waits for the lock.
+    /// had. It can be run, and is handed out exactly where the job answers Batch. Else the answer
+    /// is a refusal, and the pass keeps what it kept; so it does where there is no memory. Waits
+    /// for the lock.
     pub fn gather<R: Wait>(
         &self,
         rt: &R,
@@ -48,6 +49,8 @@ impl Shared {
         ensures of { IsPassOf self.now pass.new }
         ensures turn { TurnBy self.now.config jobs.Gather (gather_told result) (record_of pass.old)
             (record_of pass.new) }
+        ensures keeps { (record_of pass.new).order
+            ≡ behind_gather result (record_of pass.old).order }
         ensures handed { IfOk result (λ g. (o : EncodeOrder) → g ≡ gathered.Order o
             → (record_of pass.new).order ≡ Some (Encode o)) }
         ensures plain { IsPlainGather result }
@@ -91,6 +94,8 @@ impl Shared {
         ensures of { IsPassOf self.now pass.new }
         ensures turn { FetchFinds self.now.config h.n (jobs.Fetch h) (fetch_told result)
             (record_of pass.old) (record_of pass.new) }
+        ensures keeps { (record_of pass.new).order
+            ≡ behind_fetch result (record_of pass.old).order }
         ensures handed { IfOk result (λ g. (o : DecodeOrder) → g ≡ fetching.Order o
             → (record_of pass.new).order ≡ Some (Decode o)) }
         ensures plain { IsPlainFetch result }
@@ -170,6 +175,6 @@ fn locked_order<R: Wait>(
     let mut far = lock_far(rt, top, seat, config);
     let outcome = ask_by_seat(rt, top, seat, config, &mut *far.state, asked);
     let again = is_order_tried_again(config, &far.state, asked, &outcome);
-    give_order::<Brand>(top, seat, config, asked, &outcome, far);
+    give_far::<Brand, _>(top, seat, config, (asked, &outcome), far);
     (outcome, again)
 }

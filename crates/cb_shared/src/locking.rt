@@ -2,15 +2,12 @@
 ghost use Rattle.std.specs.Prelude.{◌≡◌, ◌%◌, ◌^◌, ◌<◌, [], ◌∷◌, Some, None};
 ghost use Rattle.cb_world.specs.FarState.{FarState};
 ghost use Rattle.cb_shared.specs.Seats.{IsOf, Moves, record_at};
-ghost use Rattle.cb_shared.specs.Ordering.{job_of, keeps_of, told};
-ghost use Rattle.cb_shared.specs.Turning.{answer_of};
 ghost use Rattle.cb_shared.specs.UnderLock.{GivesFar, IsEnding, TakesFar};
 
-use crate::asked::{Asked, Outcome};
 use crate::board::{SeatAt, Top};
 use crate::boxed_far::BoxedFar;
 use crate::plays::{Deed, GiveLock, Opening, TakeLock};
-use cb_types::{Config, Job, NoMemory, Reply};
+use cb_types::Config;
 use std::marker::Brand;
 use std::sync::Wait;
 use std::{hint, mem};
@@ -90,58 +87,23 @@ fn turns_of(far: &BoxedFar) -> u64
 }
 
 /// Puts the far state into its slot, gives the lock back, and wakes one who waits for it. The
-/// lock's word is twice the count of turns then. The seat keeps the order that it kept.
-pub(crate) fn give_far<W: Deed>(
+/// lock's word is twice the count of turns then. What the turn was asked for and answered is told,
+/// so that the deed is picked by it.
+pub(crate) fn give_far<W: Deed, T: Copy>(
     top: &Top,
     seat: &mut SeatAt,
     config: &Config,
-    job: &Job,
-    reply: &Result<Reply, NoMemory>,
+    told: T,
     far: BoxedFar,
 )
     requires of { IsOf top.now.table_id top.now.key config.now seat.old }
-    requires picks { (W.job ≡ job.now) × (W.reply ≡ answer_of reply.now)
-        × (W.keeps ≡ (record_at seat.old).order) }
     requires slot { seat.old.me.1 ≡ (0, None) ∷ [] }
     requires few { far.counts.turns < 2 ^ 63 }
-    requires ends { IsEnding config.now job.now (answer_of reply.now) (record_at seat.old).order far
-        (record_at seat.old) }
-    ensures { GivesFar config.now job.now (answer_of reply.now) (record_at seat.old).order far
-        seat.old seat.new }
+    requires ends { IsEnding config.now W.job W.reply W.keeps far (record_at seat.old) }
+    ensures { GivesFar config.now W.job W.reply W.keeps far seat.old seat.new }
 {
     let _config = config;
-    let _job = job;
-    let _reply = reply;
-    let word = 2 * turns_of(&far);
-    // The slot was empty, so that there is nothing to drop.
-    mem::forget(top.exchange(seat, 0, Some(far)));
-    top.store::<GiveLock<W>>(seat, 0, word);
-    top.wake_one(0);
-}
-
-/// As `give_far`, behind a turn that handed an order out or took one: the seat keeps the order that
-/// is kept behind it.
-pub(crate) fn give_order<W: Deed>(
-    top: &Top,
-    seat: &mut SeatAt,
-    config: &Config,
-    asked: &Asked<'_>,
-    outcome: &Outcome,
-    far: BoxedFar,
-)
-    requires of { IsOf top.now.table_id top.now.key config.now seat.old }
-    requires picks { (W.job ≡ job_of asked.now) × (W.reply ≡ answer_of (told outcome.now))
-        × (W.keeps ≡ keeps_of outcome.now (record_at seat.old).order) }
-    requires slot { seat.old.me.1 ≡ (0, None) ∷ [] }
-    requires few { far.counts.turns < 2 ^ 63 }
-    requires ends { IsEnding config.now (job_of asked.now) (answer_of (told outcome.now))
-        (keeps_of outcome.now (record_at seat.old).order) far (record_at seat.old) }
-    ensures { GivesFar config.now (job_of asked.now) (answer_of (told outcome.now))
-        (keeps_of outcome.now (record_at seat.old).order) far seat.old seat.new }
-{
-    let _config = config;
-    let _asked = asked;
-    let _outcome = outcome;
+    let _told = told;
     let word = 2 * turns_of(&far);
     // The slot was empty, so that there is nothing to drop.
     mem::forget(top.exchange(seat, 0, Some(far)));

@@ -129,6 +129,6 @@ fn locked_turn<R: Wait>(
     let mut far = lock_far(rt, top, seat, config);
     let reply = work(rt, top, seat, config, &mut *far.state, alloc, job);
     let again = is_to_try_again(config, &far.state, job, &reply);
-    give_far::<Brand>(top, seat, config, job, &reply, far);
+    give_far::<Brand, _>(top, seat, config, (job, &reply), far);
     (reply, again)
 }

@@ -40,8 +40,8 @@ is_order_tried_again-again-requires-clause-stood g c =
     subst (λ (far : FarState). (known : Shown) × Stood c.args.config.now known far)
     (sym c.deref.ensures) (_, c.ask_by_seat-outcome.ensures.work.stood)
 
-pub give_order-requires-clause-of : goal.give_order-requires-clause-of
-give_order-requires-clause-of g c = of_work c.args.top.now.table_id c.args.top.now.key
+pub give_far-requires-clause-of : goal.give_far-requires-clause-of
+give_far-requires-clause-of g c = of_work c.args.top.now.table_id c.args.top.now.key
     c.args.config.now (job_of c.args.asked.now) (told c.ask_by_seat-outcome.result) _
     c.deref_mut.result.now c.ask_by_seat-outcome.new.far c.lock_far-far.new.seat
     c.ask_by_seat-outcome.new.seat (of_taken c.args.top.now.table_id c.args.top.now.key
@@ -50,18 +50,18 @@ give_order-requires-clause-of g c = of_work c.args.top.now.table_id c.args.top.n
     c.args.seat.now c.lock_far-far.new.seat (c.deref_mut.ensures.value ∙ c.far.view_is)
     c.lock_far-far.ensures.took)) c.ask_by_seat-outcome.ensures.work
 
-pub give_order-requires-clause-slot : goal.give_order-requires-clause-slot
-give_order-requires-clause-slot g c =
+pub give_far-requires-clause-slot : goal.give_far-requires-clause-slot
+give_far-requires-clause-slot g c =
     ap (λ (m : Sat). m.1) c.ask_by_seat-outcome.ensures.work.moves.2
     ∙ slots_taken c.args.config.now c.lock_far-far.result c.args.seat.now c.lock_far-far.new.seat
     c.requires.slots c.lock_far-far.ensures.took
 
-pub give_order-requires-clause-few : goal.give_order-requires-clause-few
-give_order-requires-clause-few g c =
+pub give_far-requires-clause-few : goal.give_far-requires-clause-few
+give_far-requires-clause-few g c =
     let n = c.ask_by_seat-outcome.ensures.work.stood.counted.turns in omega (arith, n)
 
-pub give_order-requires-clause-ends : goal.give_order-requires-clause-ends
-give_order-requires-clause-ends g c = let config = c.args.config.now in
+pub give_far-requires-clause-ends : goal.give_far-requires-clause-ends
+give_far-requires-clause-ends g c = let config = c.args.config.now in
     let job = job_of c.args.asked.now in let o = c.ask_by_seat-outcome.result in
     let took = c.deref_mut.result.now in let gave = c.ask_by_seat-outcome.new.far in
     let l = c.lock_far-far.new.seat in let m = c.ask_by_seat-outcome.new.seat in
@@ -76,11 +76,11 @@ returns-clause-same g c = let config = c.args.config.now in
     let job = job_of c.args.asked.now in let o = c.ask_by_seat-outcome.result in
     let took = c.deref_mut.result.now in let gave = c.ask_by_seat-outcome.new.far in
     let l = c.lock_far-far.new.seat in let m = c.ask_by_seat-outcome.new.seat in
-    at_end config job (told o) _ took gave c.args.seat.now l m c.give_order.new.seat
+    at_end config job (told o) _ took gave c.args.seat.now l m c.give_far.new.seat
     (took_as config took c.lock_far-far.result c.args.seat.now l
     (c.deref_mut.ensures.value ∙ c.far.view_is) c.lock_far-far.ensures.took)
     (worked_by config job (told o) (keeps_of o) took gave l m c.ask_by_seat-outcome.ensures.work)
-    c.give_order.ensures
+    c.give_far.ensures
 
 pub returns-clause-turn : goal.returns-clause-turn
 returns-clause-turn g c = let config = c.args.config.now in
@@ -92,17 +92,17 @@ returns-clause-turn g c = let config = c.args.config.now in
     (c.deref_mut.ensures.value ∙ c.far.view_is) c.lock_far-far.ensures.took in
     let w = c.ask_by_seat-outcome.ensures.work in let same = order_taken config took p l t in
     subst (λ (x : Option Kept). TurnedBy config job r (keeps_of o x) (record_at p)
-    (record_at c.give_order.new.seat))
+    (record_at c.give_far.new.seat))
     (order_worked config job r _ took gave l m w ∙ same)
-    (turned_by config job r (keeps_of o (record_at m).order) took p l c.give_order.new.seat
+    (turned_by config job r (keeps_of o (record_at m).order) took p l c.give_far.new.seat
     c.requires.rest t (turn_with config job r (keeps_of o (record_at m).order) took gave l m
-    c.give_order.new.seat (worked_by config job r (keeps_of o) took gave l m w)
-    c.give_order.ensures)
+    c.give_far.new.seat (worked_by config job r (keeps_of o) took gave l m w)
+    c.give_far.ensures)
     (subst (λ (x : Option Kept). IfOk r (λ reply. TellsLost job x took reply)) same
     c.ask_by_seat-outcome.ensures.tells))
 
 pub returns-clause-again : goal.returns-clause-again
-returns-clause-again g c = ap (λ (m : Sat). tries_of m.0) c.give_order.ensures.at.2
+returns-clause-again g c = ap (λ (m : Sat). tries_of m.0) c.give_far.ensures.at.2
     ∙ ap (λ (b : Bool). Some b) (sym (c.is_order_tried_again-again.ensures
     ∙ ap (λ (far : FarState). is_to_try_again far (job_of c.args.asked.now)
     (answer_of (told c.ask_by_seat-outcome.result))) c.deref.ensures))

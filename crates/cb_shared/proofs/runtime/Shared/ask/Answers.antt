@@ -1,5 +1,4 @@
 use Rattle.std.proofs.Common.{◌∙◌, sym, ap}
-use Rattle.cb_rule.specs.Slot.{Sat}
 use Rattle.cb_shared.specs.Handles.{handles_of}
 use Rattle.cb_shared.specs.Ordering.{job_of, told}
 use Rattle.cb_shared.specs.Passes.{record_of}

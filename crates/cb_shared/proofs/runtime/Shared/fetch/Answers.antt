@@ -34,11 +34,15 @@ returns-clause-turn g c = (
       c.find_swapped.ensures.finds,
 )
 
+pub returns-clause-keeps : goal.returns-clause-keeps
+returns-clause-keeps g c = c.find_swapped.ensures.order ∙ c.ask-outcome.ensures.keeps
+    ∙ ap (λ (o : Outcome). keeps_of o (record_of c.args.pass.now).order)
+    c.into_fetching-fetching.ensures
+
 pub returns-clause-handed : goal.returns-clause-handed
-returns-clause-handed g c = let order = (record_of c.args.pass.now).order in
-    fetch_handed c.into_fetching-fetching.result order (record_of c.find_swapped.new.pass).order
-    (c.find_swapped.ensures.order ∙ c.ask-outcome.ensures.keeps
-    ∙ ap (λ (o : Outcome). keeps_of o order) c.into_fetching-fetching.ensures)
+returns-clause-handed g c = fetch_handed c.into_fetching-fetching.result
+    (record_of c.args.pass.now).order (record_of c.find_swapped.new.pass).order
+    (returns-clause-keeps g c)
 
 pub returns-clause-plain : goal.returns-clause-plain
 returns-clause-plain g c = (subst (IsAnswered (asks.Fetch c.args.h))

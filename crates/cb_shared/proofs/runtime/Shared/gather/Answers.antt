@@ -16,10 +16,13 @@ returns-clause-turn g c = subst (λ (o : Outcome). TurnBy c.args.self.now.config
     (record_of c.args.pass.now) (record_of c.ask-outcome.new.pass)) c.into_gathered.ensures
     c.ask-outcome.ensures.turn
 
+pub returns-clause-keeps : goal.returns-clause-keeps
+returns-clause-keeps g c = c.ask-outcome.ensures.keeps
+    ∙ ap (λ (o : Outcome). keeps_of o (record_of c.args.pass.now).order) c.into_gathered.ensures
+
 pub returns-clause-handed : goal.returns-clause-handed
-returns-clause-handed g c = let order = (record_of c.args.pass.now).order in
-    gather_handed c.into_gathered.result order (record_of c.ask-outcome.new.pass).order
-    (c.ask-outcome.ensures.keeps ∙ ap (λ (o : Outcome). keeps_of o order) c.into_gathered.ensures)
+returns-clause-handed g c = gather_handed c.into_gathered.result (record_of c.args.pass.now).order
+    (record_of c.ask-outcome.new.pass).order (returns-clause-keeps g c)
 
 pub returns-clause-plain : goal.returns-clause-plain
 returns-clause-plain g c =

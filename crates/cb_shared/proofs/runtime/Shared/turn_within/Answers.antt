@@ -1,4 +1,4 @@
-use Rattle.std.proofs.Common.{◌∙◌, ℕ, Bool, Some, sym, ap, subst}
+use Rattle.std.proofs.Common.{◌∙◌, ℕ, sym, ap, subst}
 use Rattle.std.specs.Prelude.{Option}
 use Rattle.crossbeam_utils.specs.Padded.{padded_value}
 use Rattle.cb_rule.specs.Slot.{Sat}
