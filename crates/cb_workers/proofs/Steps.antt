@@ -169,11 +169,13 @@ turn_lacked job.Install (Err e) v u other adds = absurd (other refl)
 turn_lacked due (Err e) v u other adds = adds
 
 -- an install for which there was none made no turn
-pub install_lacked : (r : Result Reply NoMemory) → (p q : Pass) → OnErr r (q ≡ p)
-    → OnErr r (AddsTurns [] p.seat.me.0 q.seat.me.0)
-install_lacked (Ok reply) p q same = tt
-install_lacked (Err e) p q same =
-    subst (λ (x : Pass). AddsTurns [] p.seat.me.0 x.seat.me.0) (sym same) (none_added p.seat.me.0)
+pub install_lacked : (due : Job) → (r : Result Reply NoMemory) → (p q : Pass) → due ≡ job.Install
+    → OnErr r (q ≡ p) → OnErr r (AddsTurns (lack_of due) p.seat.me.0 q.seat.me.0)
+install_lacked due (Ok reply) p q is same = tt
+install_lacked due (Err e) p q is same =
+    subst (λ (x : Pass). AddsTurns (lack_of due) p.seat.me.0 x.seat.me.0) (sym same)
+    (subst (λ (j : Job). AddsTurns (lack_of j) p.seat.me.0 p.seat.me.0) (sym is)
+    (none_added p.seat.me.0))
 
 -- ---- a loop over the turns
 
