@@ -1,6 +1,6 @@
 -- How turns come to be a worker's work.
 use Rattle.std.proofs.Common.{◌≡◌, ℕ, ◌+◌, ◌<◌, List, [], ◌∷◌, ◌++◌, length, map, Option, None, Some}
-use Rattle.std.proofs.Common.{Result, Ok, Err, IfOk, IsOk, OnErr, refl, sym, ap, ◌∙◌, subst, arith}
+use Rattle.std.proofs.Common.{Result, Ok, Err, IsOk, OnErr, refl, sym, ap, ◌∙◌, subst, arith}
 use Rattle.std.proofs.lemmas.Bool.{false≢true}
 use Rattle.std.proofs.lemmas.List.{map-append}
 use Rattle.std.proofs.lemmas.Option.{none-some}
@@ -9,25 +9,20 @@ use Rattle.cb_types.specs.declared.config.Field.TheVariants.{Handles}
 use Rattle.cb_types.specs.declared.job.Job.{Job}
 use Rattle.cb_types.specs.declared.job.Job.TheVariants as job
 use Rattle.cb_types.specs.declared.order.EncodeOrder.{EncodeOrder}
-use Rattle.cb_types.specs.declared.order.Kept.TheVariants.{Encode}
 use Rattle.cb_types.specs.declared.reply.Reply.{Reply}
 use Rattle.cb_types.specs.declared.reply.Reply.TheVariants as answer
-use Rattle.cb_evict.specs.declared.gathering.Gathered.{Gathered}
-use Rattle.cb_evict.specs.declared.gathering.Gathered.TheVariants as gathered
-use Rattle.cb_core.specs.OrderLeaves.{gather_hands}
 use Rattle.cb_rule.specs.declared.view.View.{View}
 use Rattle.cb_shared.specs.declared.pass.Pass.{Pass}
 use Rattle.cb_shared.specs.declared.runtime.Shared.{Shared}
 use Rattle.cb_record.specs.Deeds.{deed}
 use Rattle.cb_record.specs.Parts.{Grows, Part}
-use Rattle.cb_shared.specs.Ordering.{CanRun, IsPlainGather, gather_told}
 use Rattle.cb_shared.specs.Passes.{IsPassOf}
 use Rattle.cb_shared.specs.Turning.{answer_of}
 use Rattle.cb_workers.specs.Rules.{after_batch, after_done, after_pair, end_of, first_job, next_job}
 use Rattle.cb_workers.specs.Rules.{owner, visited}
 use Rattle.cb_workers.specs.Work.{AnsweredTurn, IsOnly, deed_of, deeds_of, job_behind, lack_of}
 use Rattle.cb_workers.specs.Bodies.{AddsTurns, Cuts, EndsBegun, HandsOver, HasMade, HasOrder, IsEnd}
-use Rattle.cb_workers.specs.Bodies.{IsOwed, IsStopped, IsWorked, Lacks, Steps, TellsNoBatch, one_deed}
+use Rattle.cb_workers.specs.Bodies.{IsOwed, IsStopped, IsWorked, Lacks, Steps, one_deed}
 use Rattle.cb_workers.specs.Bodies.{turns_alone}
 use Rattle.cb_workers.specs.declared.worker.Worker.{Worker}
 use Rattle.cb_workers.specs.declared.worker.Worker.TheVariants as worker
@@ -129,44 +124,6 @@ next_order handles worker.Filter done r order v own hands = tt
 next_order handles worker.Evict done r order v own hands = batch_order done r order v own hands
 next_order handles worker.Compact done r order v own hands = pair_order r order v
 next_order handles worker.Rebuild done r order v own hands = tt
-
--- a gather puts the order at hand that it handed out, and is answered Batch for no other reason
-pub gather_over : (r : Result Gathered NoMemory) → (order : Option EncodeOrder) → (v : View)
-    → IsPlainGather r → CanRun (gather_hands r)
-    → IfOk r (λ g. (o : EncodeOrder) → g ≡ gathered.Order o → v.order ≡ Some (Encode o))
-    → IfOk r (λ g. (o : EncodeOrder) → g ≡ gathered.Order o → order ≡ Some o)
-    → IfOk (gather_told r) (λ reply. HandsOver job.Gather reply order v)
-gather_over (Ok (gathered.Order o)) order v plain runs kept there = λ own set is. record {
-  given = o;
-  there = there o refl;
-  kept = kept o refl;
-  runs = runs;
-}
-gather_over (Ok (gathered.Answer r)) order v plain runs kept there =
-    λ own set is. absurd (plain set is)
-gather_over (Err e) order v plain runs kept there = tt
-
--- a turn that tells of no batch puts none there
-pub none_over : (done : Job) → (r : Result Reply NoMemory) → (order : Option EncodeOrder) → (v : View)
-    → IfOk r (λ reply. owner done ≡ Some worker.Evict → TellsNoBatch reply)
-    → IfOk r (λ reply. HandsOver done reply order v)
-none_over done (Ok reply) order v none = λ own set is. absurd (none own set is)
-none_over done (Err e) order v none = tt
-
--- ---- a turn with the job that is due
-pub turn_answered : (due : Job) → (r : Result Reply NoMemory) → (v u : View)
-    → AddsTurns (one_deed due (answer_of r)) v u
-    → IfOk r (λ reply. AddsTurns (one_deed due (Some reply)) v u)
-turn_answered due (Ok reply) v u adds = adds
-turn_answered due (Err e) v u adds = tt
-
--- that found no memory
-pub turn_lacked : (due : Job) → (r : Result Reply NoMemory) → (v u : View)
-    → (due ≡ job.Install → ⊥) → AddsTurns (one_deed due (answer_of r)) v u
-    → OnErr r (AddsTurns (lack_of due) v u)
-turn_lacked due (Ok reply) v u other adds = tt
-turn_lacked job.Install (Err e) v u other adds = absurd (other refl)
-turn_lacked due (Err e) v u other adds = adds
 
 -- an install for which there was none made no turn
 pub install_lacked : (due : Job) → (r : Result Reply NoMemory) → (p q : Pass) → due ≡ job.Install

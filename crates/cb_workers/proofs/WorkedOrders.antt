@@ -5,7 +5,7 @@ use Rattle.std.proofs.lemmas.Option.{none-some, same_Some}
 use Rattle.cb_types.specs.declared.job.Job.TheVariants as job
 use Rattle.cb_types.specs.declared.order.EncodeOrder.{EncodeOrder}
 use Rattle.cb_types.specs.declared.order.Kept.{Kept}
-use Rattle.cb_types.specs.declared.order.Kept.TheVariants.{Encode, Decode}
+use Rattle.cb_types.specs.declared.order.Kept.TheVariants.{Encode}
 use Rattle.cb_types.specs.declared.reply.Reply.TheVariants as answer
 use Rattle.cb_types.specs.Orders.{IsEncodable}
 use Rattle.cb_rule.specs.declared.view.View.{View}
