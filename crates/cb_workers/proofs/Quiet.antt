@@ -40,15 +40,6 @@ quiet handles work owed = record {
   writes = λ r more is. is;
 }
 
--- such a job hands no order out and takes none, but for a gather and an install
-pub owed_alone : (handles : ℕ) → (work : Job) → IsOwed handles work → (work ≡ job.Gather → ⊥)
-    → (work ≡ job.Install → ⊥) → NeedsNoOrder work
-owed_alone handles job.Gather owed gathers installs = absurd (gathers refl)
-owed_alone handles job.Install owed gathers installs = absurd (installs refl)
-owed_alone handles (job.Fetch handle) owed gathers installs = absurd owed
-owed_alone handles job.Land owed gathers installs = absurd owed
-owed_alone handles work owed gathers installs = tt
-
 writes_none : (work : Job) → IsQuietWork work → (r : Result Reply NoMemory) → (more : List Entry)
     → OutcomeWrites work r more → more ≡ []
 writes_none work q (Ok r) more is = q.writes r more is
