@@ -25,10 +25,11 @@ use Rattle.cb_shared.specs.declared.answers.WriteAnswer.TheVariants as writes
 use Rattle.cb_shared.specs.declared.pass.Pin.{Pin}
 use Rattle.cb_shared.specs.Calls.{AtThis, LooksOf, ReadGives, ReadStops, StopsInVain, TurnGives}
 use Rattle.cb_shared.specs.Calls.{TurnStops, WriteAnswers, WriteStops}
+use Rattle.cb_shared.specs.Ordering.{FetchFinds}
 use Rattle.cb_shared.specs.Passes.{IsPinOf}
 use Rattle.cb_shared.specs.Pinning.{PinGives}
 use Rattle.cb_shared.specs.Seeking.{TurnFinds}
-use Rattle.cb_shared.specs.Turning.{TurnAdds, with_own}
+use Rattle.cb_shared.specs.Turning.{TurnAdds, TurnBy, with_own}
 use Rattle.cb_shared.specs.Writing.{WriteGives}
 
 -- what the record v knew the record w knows
@@ -157,10 +158,19 @@ stops_keep : (on : ℕ → Type 0) (vain want : Turn → Type 0) (v w : View)
 stops_keep on vain want v w x h known = grows_keeps x.last x.between w x.left h
     (grows_keeps x.tries.0 v x.between x.tries.2 h known)
 
+pub turned_keeps : (c : Config) (job : Job) (r : Result Reply NoMemory) (v w : View)
+    → TurnBy c job r v w → Keeps v w
+turned_keeps c job r v w t = owns_keeps _ t.0 v w t.2
+
 pub turn_keeps : (c : Config) (job : Job) (r : Result Reply NoMemory) (v w : View)
     → TurnFinds c job r v w → Keeps v w
 turn_keeps c job r v w (m, t, (d, grew, finds)) h known =
-    grows_keeps d m w grew h (owns_keeps _ t.0 v m t.2 h known)
+    grows_keeps d m w grew h (turned_keeps c job r v m t h known)
+
+pub fetch_keeps : (c : Config) (on : ℕ) (job : Job) (r : Result Reply NoMemory) (v w : View)
+    → FetchFinds c on job r v w → Keeps v w
+fetch_keeps c on job r v w (m, t, (d, grew, finds)) h known =
+    grows_keeps d m w grew h (turned_keeps c job r v m t h known)
 
 pub read_keeps : (c : Config) (h : ℕ) (r : Result Reply NoMemory) (v w : View)
     → IfOk r (λ x. ReadGives c h x v w) → OnErr r (ReadStops c h v w) → Keeps v w

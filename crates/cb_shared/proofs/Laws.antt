@@ -6,9 +6,10 @@ pub use Rattle.cb_shared.proofs.CallSteps.{read_lacks, so_far, stops_then}
 pub use Rattle.cb_shared.proofs.CallSteps.{stops_wider, tries_then, tries_wider, turn_ends}
 pub use Rattle.cb_shared.proofs.CallSteps.{turn_in_vain, turn_without, vain_look}
 pub use Rattle.cb_shared.proofs.DidAlone.{did_alone, turn_alone, turn_keeps_order}
-pub use Rattle.cb_shared.proofs.Known.{Keeps, call_keeps, call_made, join_keeps, left_keeps}
-pub use Rattle.cb_shared.proofs.Known.{peek_has, peek_keeps, pin_keeps, read_keeps, right_keeps}
-pub use Rattle.cb_shared.proofs.Known.{turn_keeps, turn_made, turns_keep, unpin_keeps, write_keeps}
+pub use Rattle.cb_shared.proofs.Known.{Keeps, call_keeps, call_made, fetch_keeps, join_keeps}
+pub use Rattle.cb_shared.proofs.Known.{left_keeps, peek_has, peek_keeps, pin_keeps, read_keeps}
+pub use Rattle.cb_shared.proofs.Known.{right_keeps, turn_keeps, turn_made, turned_keeps, turns_keep}
+pub use Rattle.cb_shared.proofs.Known.{unpin_keeps, write_keeps}
 pub use Rattle.cb_shared.proofs.MadeFirst.{makes_backed, makes_first, makes_full}
 pub use Rattle.cb_shared.proofs.ReadParts.{grown_nothing, grown_sum}
 pub use Rattle.cb_shared.proofs.Resting.{known_below}
