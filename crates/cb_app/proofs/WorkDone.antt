@@ -37,8 +37,8 @@ turns_sum : (w : Worker) (f g h : Job → ℕ) → ((j : Job) → f j ≡ g j + 
     → turns_by w f ≡ turns_by w g + turns_by w h
 turns_sum worker.Filter f g h each = each (job.Filter (record { n = 0 }))
 turns_sum worker.Evict f g h each =
-    let a = each job.Begin in let b = each job.Ship in let c = each job.Commit in let d = each job.Abort in
-    omega (arith, a, b, c, d)
+    let a = each job.Gather in let i = each job.Install in let b = each job.Ship in
+    let c = each job.Commit in let d = each job.Abort in omega (arith, a, i, b, c, d)
 turns_sum worker.Compact f g h each =
     let a = each job.Pair in let b = each job.Patch in let c = each job.Merge in let d = each job.Part in
     omega (arith, a, b, c, d)
@@ -48,8 +48,8 @@ turns_sum worker.Rebuild f g h each = each job.Rebuild
 pub turns_same : (w : Worker) (f g : Job → ℕ) → ((j : Job) → f j ≡ g j) → turns_by w f ≡ turns_by w g
 turns_same worker.Filter f g each = each (job.Filter (record { n = 0 }))
 turns_same worker.Evict f g each =
-    let a = each job.Begin in let b = each job.Ship in let c = each job.Commit in let d = each job.Abort in
-    omega (arith, a, b, c, d)
+    let a = each job.Gather in let i = each job.Install in let b = each job.Ship in
+    let c = each job.Commit in let d = each job.Abort in omega (arith, a, i, b, c, d)
 turns_same worker.Compact f g each =
     let a = each job.Pair in let b = each job.Patch in let c = each job.Merge in let d = each job.Part in
     omega (arith, a, b, c, d)
@@ -67,7 +67,8 @@ CountsForWorker j (Some w) = 1 ≤ turns_by w (one_of j)
 
 is_one : (j : Job) → CountsForWorker j (owner j)
 is_one (job.Filter handle) = omega arith
-is_one job.Begin = omega arith
+is_one job.Gather = omega arith
+is_one job.Install = omega arith
 is_one job.Ship = omega arith
 is_one job.Commit = omega arith
 is_one job.Abort = omega arith

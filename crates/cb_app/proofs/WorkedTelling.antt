@@ -127,29 +127,42 @@ counting far turns jobs = record far {
 
 module _ (far : FarState) where
   -- two turns of each: of the filter, of batches, of pairs and of the rebuild
-  two_each : CountsWorkers 2 (counting far 9 (2 ∷ 0 ∷ 1 ∷ 1 ∷ 0 ∷ 0 ∷ 1 ∷ 0 ∷ 0 ∷ 1 ∷ 0 ∷ 2 ∷ 0 ∷ 0 ∷ []))
+  two_each : CountsWorkers 2 (counting far 9
+      (2 ∷ 0 ∷ 0 ∷ 0 ∷ 0 ∷ 0 ∷ 1 ∷ 0 ∷ 0 ∷ 1 ∷ 0 ∷ 2 ∷ 0 ∷ 0 ∷ 1 ∷ 1 ∷ []))
   two_each few worker.Filter = omega arith
   two_each few worker.Evict = omega arith
   two_each few worker.Compact = omega arith
   two_each few worker.Rebuild = omega arith
 
+  -- so of a ship and a commit, and of a patch and a merge
+  other_steps : CountsWorkers 2 (counting far 9
+      (2 ∷ 0 ∷ 0 ∷ 1 ∷ 1 ∷ 0 ∷ 0 ∷ 1 ∷ 1 ∷ 0 ∷ 0 ∷ 2 ∷ 0 ∷ 0 ∷ 0 ∷ 0 ∷ []))
+  other_steps few worker.Filter = omega arith
+  other_steps few worker.Evict = omega arith
+  other_steps few worker.Compact = omega arith
+  other_steps few worker.Rebuild = omega arith
+
   -- one of the filter
-  few_visits : CountsWorkers 2 (counting far 9 (1 ∷ 0 ∷ 1 ∷ 1 ∷ 0 ∷ 0 ∷ 1 ∷ 0 ∷ 0 ∷ 1 ∷ 0 ∷ 2 ∷ 0 ∷ 0 ∷ []))
+  few_visits : CountsWorkers 2 (counting far 9
+      (1 ∷ 0 ∷ 0 ∷ 0 ∷ 1 ∷ 1 ∷ 1 ∷ 0 ∷ 0 ∷ 1 ∷ 0 ∷ 2 ∷ 0 ∷ 0 ∷ 0 ∷ 0 ∷ []))
       → ⊥
   few_visits are = let two = are (omega arith) worker.Filter in omega (arith, two)
 
-  -- one step of a batch, and an eviction, which is no step of one
-  few_steps : CountsWorkers 2 (counting far 9 (2 ∷ 1 ∷ 1 ∷ 0 ∷ 0 ∷ 0 ∷ 1 ∷ 0 ∷ 0 ∷ 1 ∷ 0 ∷ 2 ∷ 0 ∷ 0 ∷ []))
+  -- one step of a batch, and an eviction and a begin, which no worker makes
+  few_steps : CountsWorkers 2 (counting far 9
+      (2 ∷ 1 ∷ 1 ∷ 0 ∷ 0 ∷ 0 ∷ 1 ∷ 0 ∷ 0 ∷ 1 ∷ 0 ∷ 2 ∷ 0 ∷ 0 ∷ 1 ∷ 0 ∷ []))
       → ⊥
   few_steps are = let two = are (omega arith) worker.Evict in omega (arith, two)
 
   -- one step of a pair, and a compaction at once
-  few_pairs : CountsWorkers 2 (counting far 9 (2 ∷ 0 ∷ 1 ∷ 1 ∷ 0 ∷ 0 ∷ 1 ∷ 0 ∷ 0 ∷ 0 ∷ 1 ∷ 2 ∷ 0 ∷ 0 ∷ []))
+  few_pairs : CountsWorkers 2 (counting far 9
+      (2 ∷ 0 ∷ 0 ∷ 1 ∷ 0 ∷ 0 ∷ 1 ∷ 0 ∷ 0 ∷ 0 ∷ 1 ∷ 2 ∷ 0 ∷ 0 ∷ 1 ∷ 0 ∷ []))
       → ⊥
   few_pairs are = let two = are (omega arith) worker.Compact in omega (arith, two)
 
   -- one rebuild, and a crash
-  few_rebuilds : CountsWorkers 2 (counting far 9 (2 ∷ 0 ∷ 1 ∷ 1 ∷ 0 ∷ 0 ∷ 1 ∷ 0 ∷ 0 ∷ 1 ∷ 0 ∷ 1 ∷ 1 ∷ 0 ∷ []))
+  few_rebuilds : CountsWorkers 2 (counting far 9
+      (2 ∷ 0 ∷ 0 ∷ 1 ∷ 0 ∷ 0 ∷ 1 ∷ 0 ∷ 0 ∷ 1 ∷ 0 ∷ 1 ∷ 1 ∷ 0 ∷ 1 ∷ 0 ∷ []))
       → ⊥
   few_rebuilds are = let two = are (omega arith) worker.Rebuild in omega (arith, two)
 

@@ -164,7 +164,7 @@ is_like j t = eqb (job_index t.job) (job_index j)
 
 abbrev with_jobs : Turn → View → View
 with_jobs t v = record v {
-  turns = record t { job = job.Ship } ∷ record t { job = job.Evict } ∷ record t { job = job.Begin } ∷ [];
+  turns = record t { job = job.Ship } ∷ record t { job = job.Evict } ∷ record t { job = job.Gather } ∷ [];
 }
 
 two_of_the_batches : (t : Turn) (v : View) → work_in worker.Evict (with_jobs t v) ≡ 2

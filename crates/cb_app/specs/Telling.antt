@@ -67,7 +67,7 @@ counted_as far j = slice_index far.counts.by_job (job_index j)
 abbrev pub turns_by : Worker → (Job → ℕ) → ℕ
 turns_by worker.Filter number = number (visit 0)
 turns_by worker.Evict number =
-    number job.Begin + number job.Ship + number job.Commit + number job.Abort
+    number job.Gather + number job.Install + number job.Ship + number job.Commit + number job.Abort
 turns_by worker.Compact number =
     number job.Pair + number job.Patch + number job.Merge + number job.Part
 turns_by worker.Rebuild number = number job.Rebuild

@@ -1,6 +1,7 @@
 mod Visits
 pub mod Laws
 mod Quiet
+mod Batches
 mod Adding
 mod Steps
 mod WorkedRules
@@ -8,3 +9,4 @@ mod WorkedWork
 mod WorkedBodies
 mod WorkedSteps
 mod WorkedOwed
+mod WorkedOrders

@@ -40,14 +40,6 @@ quiet handles work owed = record {
   writes = λ r more is. is;
 }
 
--- such a job hands no order out and takes none
-pub owed_alone : (handles : ℕ) → (work : Job) → IsOwed handles work → NeedsNoOrder work
-owed_alone handles job.Gather owed = absurd owed
-owed_alone handles job.Install owed = absurd owed
-owed_alone handles (job.Fetch handle) owed = absurd owed
-owed_alone handles job.Land owed = absurd owed
-owed_alone handles work owed = tt
-
 writes_none : (work : Job) → IsQuietWork work → (r : Result Reply NoMemory) → (more : List Entry)
     → OutcomeWrites work r more → more ≡ []
 writes_none work q (Ok r) more is = q.writes r more is
@@ -89,8 +81,13 @@ ends_with c job.Abort is t did = did.stops
 ends_with c job.Part is t did = did.stops.1
 ends_with c work is t did = absurd is
 
--- and neither hands an order out nor takes one
-end_alone : (work : Job) → IsEnd work → NeedsNoOrder work
+-- it is a worker's, and neither hands an order out nor takes one
+pub end_owed : (handles : ℕ) → (work : Job) → IsEnd work → IsOwed handles work
+end_owed handles job.Abort is = tt
+end_owed handles job.Part is = tt
+end_owed handles work is = absurd is
+
+pub end_alone : (work : Job) → IsEnd work → NeedsNoOrder work
 end_alone job.Abort is = tt
 end_alone job.Part is = tt
 end_alone work is = absurd is

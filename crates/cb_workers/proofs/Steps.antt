@@ -1,5 +1,6 @@
 -- How turns come to be a worker's work.
-use Rattle.std.proofs.Common.{◌≡◌, ℕ, ◌+◌, ◌<◌, List, [], ◌∷◌, ◌++◌, length, Option, None, Some, Result, Ok, Err, IsOk, OnErr, refl, sym, ap, ◌∙◌, subst, arith}
+use Rattle.std.proofs.Common.{◌≡◌, ℕ, ◌+◌, ◌<◌, List, [], ◌∷◌, ◌++◌, length, map, Option, None, Some}
+use Rattle.std.proofs.Common.{Result, Ok, Err, IsOk, OnErr, refl, sym, ap, ◌∙◌, subst, arith}
 use Rattle.std.proofs.lemmas.Bool.{false≢true}
 use Rattle.std.proofs.lemmas.List.{map-append}
 use Rattle.std.proofs.lemmas.Option.{none-some}
@@ -7,30 +8,41 @@ use Rattle.cb_member.specs.declared.no_memory.NoMemory.{NoMemory}
 use Rattle.cb_types.specs.declared.config.Field.TheVariants.{Handles}
 use Rattle.cb_types.specs.declared.job.Job.{Job}
 use Rattle.cb_types.specs.declared.job.Job.TheVariants as job
+use Rattle.cb_types.specs.declared.order.EncodeOrder.{EncodeOrder}
 use Rattle.cb_types.specs.declared.reply.Reply.{Reply}
 use Rattle.cb_types.specs.declared.reply.Reply.TheVariants as answer
 use Rattle.cb_rule.specs.declared.view.View.{View}
 use Rattle.cb_shared.specs.declared.pass.Pass.{Pass}
 use Rattle.cb_shared.specs.declared.runtime.Shared.{Shared}
+use Rattle.cb_record.specs.Deeds.{deed}
 use Rattle.cb_record.specs.Parts.{Grows, Part}
 use Rattle.cb_shared.specs.Passes.{IsPassOf}
 use Rattle.cb_shared.specs.Turning.{answer_of}
-use Rattle.cb_workers.specs.Rules.{after_batch, after_pair, end_of, first_job, next_job, visited}
-use Rattle.cb_workers.specs.Work.{AnsweredTurn, IsOnly, deed_of, deeds_of, job_behind, lacked}
-use Rattle.cb_workers.specs.Bodies.{AddsTurns, Cuts, EndsBegun, HasMade, IsOwed, IsStopped, IsWorked, IsEnd, Lacks, Steps, one_deed, turns_alone}
+use Rattle.cb_workers.specs.Rules.{after_batch, after_done, after_pair, end_of, first_job, next_job}
+use Rattle.cb_workers.specs.Rules.{owner, visited}
+use Rattle.cb_workers.specs.Work.{AnsweredTurn, IsOnly, deed_of, deeds_of, job_behind, lack_of}
+use Rattle.cb_workers.specs.Bodies.{AddsTurns, Cuts, EndsBegun, HandsOver, HasMade, HasOrder, IsEnd}
+use Rattle.cb_workers.specs.Bodies.{IsOwed, IsStopped, IsWorked, Lacks, Steps, one_deed}
+use Rattle.cb_workers.specs.Bodies.{turns_alone}
 use Rattle.cb_workers.specs.declared.worker.Worker.{Worker}
 use Rattle.cb_workers.specs.declared.worker.Worker.TheVariants as worker
 use Rattle.cb_workers.proofs.Visits.{next_visit_below}
 use Rattle.cb_workers.proofs.Adding.{both_added, none_added}
+use Rattle.cb_workers.proofs.Laws.{behind_of}
 
 -- ---- the jobs that are due are a worker's
-batch_owed : (handles : ℕ) → (r : Reply) → IsOwed handles (after_batch r)
-batch_owed handles (answer.Batch set) = tt
-batch_owed handles (answer.Shipped position) = tt
-batch_owed handles (answer.Short positions) = tt
-batch_owed handles answer.AllShipped = tt
-batch_owed handles answer.NoNode = tt
-batch_owed handles r = tt
+done_owed : (handles : ℕ) → (done : Job) → IsOwed handles (after_done done)
+done_owed handles job.Install = tt
+done_owed handles done = tt
+
+batch_owed : (handles : ℕ) → (done : Job) → (r : Reply) → IsOwed handles (after_batch done r)
+batch_owed handles done (answer.Batch set) = tt
+batch_owed handles done answer.Done = done_owed handles done
+batch_owed handles done (answer.Shipped position) = tt
+batch_owed handles done (answer.Short positions) = tt
+batch_owed handles done answer.AllShipped = tt
+batch_owed handles done answer.NoNode = tt
+batch_owed handles done r = tt
 
 pair_owed : (handles : ℕ) → (r : Reply) → IsOwed handles (after_pair r)
 pair_owed handles (answer.Pair a b) = tt
@@ -43,7 +55,7 @@ pair_owed handles r = tt
 next_owed : (handles : ℕ) → (w : Worker) → (before : Job) → (r : Reply) → 0 < handles
     → IsOwed handles (next_job handles w before r)
 next_owed handles worker.Filter before r some = next_visit_below handles (visited before) r some
-next_owed handles worker.Evict before r some = batch_owed handles r
+next_owed handles worker.Evict before r some = batch_owed handles before r
 next_owed handles worker.Compact before r some = pair_owed handles r
 next_owed handles worker.Rebuild before r some = tt
 
@@ -62,6 +74,65 @@ pub due_owed : (handles : ℕ) → (w : Worker) → (n : ℕ) → (due : Job) �
     → HasMade handles w n due v u → IsOwed handles due
 due_owed handles w n due v u some made =
     subst (λ j. IsOwed handles j) (sym made.due_is) (behind_owed handles w made.done some)
+
+pub due_own : (handles : ℕ) → (w : Worker) → (n : ℕ) → (due : Job) → (v u : View)
+    → HasMade handles w n due v u → owner due ≡ Some w
+due_own handles w n due v u made = ap (λ j. owner j) made.due_is ∙ behind_of handles w made.done
+
+-- ---- the order of an install
+done_order : (done : Job) → (order : Option EncodeOrder) → (v : View)
+    → HasOrder (after_done done) order v
+done_order job.Install order v = tt
+done_order done order v = tt
+
+batch_order : (done : Job) → (r : Reply) → (order : Option EncodeOrder) → (v : View)
+    → owner done ≡ Some worker.Evict → HandsOver done r order v → HasOrder (after_batch done r) order v
+batch_order done (answer.Batch set) order v own hands = hands own set refl
+batch_order done answer.Done order v own hands = done_order done order v
+batch_order done (answer.Shipped position) order v own hands = tt
+batch_order done (answer.Short positions) order v own hands = tt
+batch_order done answer.AllShipped order v own hands = tt
+batch_order done answer.NoNode order v own hands = tt
+batch_order done r order v own hands = tt
+
+pair_order : (r : Reply) → (order : Option EncodeOrder) → (v : View)
+    → HasOrder (after_pair r) order v
+pair_order (answer.Pair a b) order v = tt
+pair_order (answer.Stepped position) order v = tt
+pair_order (answer.Unfinished positions) order v = tt
+pair_order answer.AllStepped order v = tt
+pair_order (answer.NodeFull node) order v = tt
+pair_order r order v = tt
+
+-- no worker begins with one
+first_none : (w : Worker) → (order : Option EncodeOrder) → (v : View) → HasOrder (first_job w) order v
+first_none worker.Filter order v = tt
+first_none worker.Evict order v = tt
+first_none worker.Compact order v = tt
+first_none worker.Rebuild order v = tt
+
+pub first_order : (w : Worker) → (due : Job) → (order : Option EncodeOrder) → (v : View)
+    → due ≡ first_job w → HasOrder due order v
+first_order w due order v first =
+    subst (λ (j : Job). HasOrder j order v) (sym first) (first_none w order v)
+
+-- an install is due where a batch began, and its order is at hand then
+pub next_order : (handles : ℕ) → (w : Worker) → (done : Job) → (r : Reply)
+    → (order : Option EncodeOrder) → (v : View) → owner done ≡ Some w → HandsOver done r order v
+    → HasOrder (next_job handles w done r) order v
+next_order handles worker.Filter done r order v own hands = tt
+next_order handles worker.Evict done r order v own hands = batch_order done r order v own hands
+next_order handles worker.Compact done r order v own hands = pair_order r order v
+next_order handles worker.Rebuild done r order v own hands = tt
+
+-- an install for which there was none made no turn
+pub install_lacked : (due : Job) → (r : Result Reply NoMemory) → (p q : Pass) → due ≡ job.Install
+    → OnErr r (q ≡ p) → OnErr r (AddsTurns (lack_of due) p.seat.me.0 q.seat.me.0)
+install_lacked due (Ok reply) p q is same = tt
+install_lacked due (Err e) p q is same =
+    subst (λ (x : Pass). AddsTurns (lack_of due) p.seat.me.0 x.seat.me.0) (sym same)
+    (subst (λ (j : Job). AddsTurns (lack_of j) p.seat.me.0 p.seat.me.0) (sym is)
+    (none_added p.seat.me.0))
 
 -- ---- a loop over the turns
 
@@ -93,8 +164,8 @@ one_lacked handles w n turns due new v u t few made (same, adds) = record {
   fewer = subst (λ k. k < turns) (sym made.number) few;
   are_due = made.are_due;
   due_is = same ∙ made.due_is;
-  adds = subst (λ j. AddsTurns (lacked j ∷ deeds_of made.done) v t) (sym same)
-      (both_added (deeds_of made.done) (lacked due ∷ []) v u t made.adds adds);
+  adds = subst (λ j. AddsTurns (lack_of j ++ deeds_of made.done) v t) (sym same)
+      (both_added (deeds_of made.done) (lack_of due) v u t made.adds adds);
 }
 
 -- ---- the end
@@ -132,15 +203,16 @@ all_stopped handles w turns due v u t cut (ending, only, adds) = (
       fewer = cut.fewer;
       are_due = cut.are_due;
       ends = subst (λ j. IsOnly (end_of j) ending) cut.due_is only;
-      are = all.are ∙ ap (λ j. deeds_of ending ++ (lacked j ∷ deeds_of cut.done)) cut.due_is;
+      are = subst (λ j. map deed all.turns ≡ deeds_of ending ++ (lack_of j ++ deeds_of cut.done))
+          cut.due_is all.are;
     };
     alone = refl;
   },
   all.grows,
 )
   where
-    all : AddsTurns (deeds_of ending ++ (lacked due ∷ deeds_of cut.done)) v t
-    all = both_added (lacked due ∷ deeds_of cut.done) (deeds_of ending) v u t cut.adds adds
+    all : AddsTurns (deeds_of ending ++ (lack_of due ++ deeds_of cut.done)) v t
+    all = both_added (lack_of due ++ deeds_of cut.done) (deeds_of ending) v u t cut.adds adds
 
 -- ---- one end
 
@@ -164,7 +236,8 @@ abbrev IsSomeEnd : Option Job → Type 0
 IsSomeEnd (Some last) = IsEnd last
 IsSomeEnd None = ⊥
 
-is_end : (due last : Job) → end_of due ≡ Some last → IsEnd last
+pub is_end : (due last : Job) → end_of due ≡ Some last → IsEnd last
+is_end job.Install last e = subst IsSomeEnd e tt
 is_end job.Ship last e = subst IsSomeEnd e tt
 is_end job.Commit last e = subst IsSomeEnd e tt
 is_end job.Abort last e = subst IsSomeEnd e tt

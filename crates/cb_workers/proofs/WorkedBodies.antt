@@ -12,9 +12,9 @@ use Rattle.cb_world.specs.FarState.{FarState}
 use Rattle.cb_rule.specs.declared.turn.Turn.{Turn}
 use Rattle.cb_record.specs.Parts.{Part}
 use Rattle.cb_workers.specs.Bodies.{IsEnd, IsOwed, IsStopped, IsWorked, turns_alone}
-use Rattle.cb_workers.specs.Rules.{visit}
+use Rattle.cb_workers.specs.Rules.{end_of, visit}
 use Rattle.cb_record.specs.Deeds.{Deed}
-use Rattle.cb_workers.specs.Work.{AnsweredTurn, deed_of, deeds_of}
+use Rattle.cb_workers.specs.Work.{AnsweredTurn, IsOnly, deed_of, deeds_of, lack_of, lacked}
 use Rattle.cb_workers.specs.declared.worker.Worker.TheVariants as worker
 
 -- a turn with this job and reply, whatever was known and whatever far state it found
@@ -37,14 +37,17 @@ turn start far work reply = record {
 }
 
 abbrev pub begun : AnsweredTurn
-begun = record { job = job.Begin; reply = answer.Batch (record { n = 0 }) }
+begun = record { job = job.Gather; reply = answer.Batch (record { n = 0 }) }
+
+abbrev pub installed : AnsweredTurn
+installed = record { job = job.Install; reply = answer.Done }
 
 abbrev pub aborted : AnsweredTurn
 aborted = record { job = job.Abort; reply = answer.Done }
 
 abbrev pub two_turns : Shown → FarState → List Turn
 two_turns s far = turn s far job.Abort (Some answer.Done)
-    ∷ turn s far job.Begin (Some (answer.Batch (record { n = 0 }))) ∷ []
+    ∷ turn s far job.Gather (Some (answer.Batch (record { n = 0 }))) ∷ []
 
 pub works : (s : Shown) → (far : FarState) → IsWorked 8 worker.Evict 1 (turns_alone (two_turns s far))
 works s far = record {
@@ -82,11 +85,28 @@ not_pinned : (s : Shown) → (far : FarState)
     → IsWorked 8 worker.Evict 1 (record (turns_alone (two_turns s far)) { ever = 1 }) → ⊥
 not_pinned s far w = let same : 1 ≡ 0 = ap (λ (d : Part). d.ever) w.alone in omega (arith, same)
 
--- the second of two turns found no memory, and the batch was aborted
-pub stopped : (s : Shown) → (far : FarState) → IsStopped 8 worker.Evict 2
-    (turns_alone (turn s far job.Abort (Some answer.Done) ∷ turn s far job.Ship None
-    ∷ turn s far job.Begin (Some (answer.Batch (record { n = 0 }))) ∷ []))
+-- the third of three turns found no memory, and the batch was aborted
+abbrev pub cut_turns : Shown → FarState → List Turn
+cut_turns s far = turn s far job.Abort (Some answer.Done) ∷ turn s far job.Ship None
+    ∷ turn s far job.Install (Some answer.Done)
+    ∷ turn s far job.Gather (Some (answer.Batch (record { n = 0 }))) ∷ []
+
+pub stopped : (s : Shown) → (far : FarState) → IsStopped 8 worker.Evict 3 (turns_alone (cut_turns s far))
 stopped s far = record {
+  done = installed ∷ begun ∷ [];
+  ending = aborted ∷ [];
+  work = record {
+    fewer = lit< tt;
+    are_due = (refl, (refl, tt));
+    ends = (answer.Done, refl);
+    are = refl;
+  };
+  alone = refl;
+}
+
+-- there was no memory to run the order of an install, and the batch was aborted
+unrun : (s : Shown) → (far : FarState) → IsStopped 8 worker.Evict 2 (turns_alone (two_turns s far))
+unrun s far = record {
   done = begun ∷ [];
   ending = aborted ∷ [];
   work = record {
@@ -98,16 +118,26 @@ stopped s far = record {
   alone = refl;
 }
 
--- none did
-pub some_there : (ds es : List Deed) → (d : Deed) → [] ≡ ds ++ (d ∷ es) → ⊥
+-- nothing was left
+some_there : (ds es : List Deed) → (d : Deed) → [] ≡ ds ++ (d ∷ es) → ⊥
 some_there ds es d e =
     let all : 0 ≡ length (ds ++ (d ∷ es)) = ap (λ xs. length xs) e in
     let parts : length (ds ++ (d ∷ es)) ≡ length ds + length (d ∷ es) = length-append ds (d ∷ es) in
     let one : length (d ∷ es) ≡ suc (length es) = refl in
     omega (arith, all, parts, one)
 
+pub nothing_left : (due : Job) → (ending done : List AnsweredTurn) → IsOnly (end_of due) ending
+    → [] ≡ deeds_of ending ++ (lack_of due ++ deeds_of done) → ⊥
+nothing_left job.Install ending done only are =
+    let all : 0 ≡ length (deeds_of ending ++ deeds_of done) = ap (λ (ds : List Deed). length ds) are in
+    let parts = length-append (deeds_of ending) (deeds_of done) in
+    let one : length ending ≡ 1 = ap (λ (xs : List AnsweredTurn). length xs) only.1 in
+    omega (arith, all, parts, one, length-map ending deed_of)
+nothing_left due ending done only are =
+    some_there (deeds_of ending) (deeds_of done) (lacked due) are
+
 not_stopped : IsStopped 8 worker.Evict 2 (turns_alone []) → ⊥
-not_stopped w = some_there (deeds_of w.ending) (deeds_of w.done) _ w.work.are
+not_stopped w = nothing_left _ w.ending w.done w.work.ends w.work.are
 
 -- ---- the jobs of workers
 owed : IsOwed 8 (visit 7) × IsOwed 8 job.Merge

@@ -17,23 +17,28 @@ use Rattle.cb_workers.specs.declared.worker.Worker.TheVariants as worker
 use Rattle.cb_workers.proofs.WorkedBodies.{two_turns}
 
 -- ---- whose each job is
-of_batches : (owner job.Begin ≡ Some worker.Evict) × (owner job.Ship ≡ Some worker.Evict)
+of_batches : (owner job.Gather ≡ Some worker.Evict) × (owner job.Install ≡ Some worker.Evict)
+    × (owner job.Ship ≡ Some worker.Evict)
     × (owner job.Abort ≡ Some worker.Evict)
-of_batches = (refl, refl, refl)
+of_batches = (refl, refl, refl, refl)
 
 of_pairs : (owner job.Pair ≡ Some worker.Compact) × (owner job.Patch ≡ Some worker.Compact)
     × (owner job.Merge ≡ Some worker.Compact)
 of_pairs = (refl, refl, refl)
 
-of_none : (owner (job.Make []) ≡ None) × (owner (job.Read (record { n = 2 })) ≡ None)
+of_none : (owner job.Begin ≡ None) × (owner job.Land ≡ None) × (owner (job.Make []) ≡ None)
+    × (owner (job.Read (record { n = 2 })) ≡ None)
     × (owner (job.Swap (record { n = 2 })) ≡ None) × (owner job.Compact ≡ None)
     × (owner (job.Crash (record { n = 2 })) ≡ None)
-of_none = (refl, refl, refl, refl, refl)
+of_none = (refl, refl, refl, refl, refl, refl, refl)
 
 -- ---- which turns a worker may owe
-owed : IsOwed 8 job.Begin × IsOwed 8 job.Ship × IsOwed 8 job.Commit × IsOwed 8 job.Abort
-    × IsOwed 8 job.Pair × IsOwed 8 job.Patch × IsOwed 8 job.Part × IsOwed 8 job.Rebuild
-owed = (tt, tt, tt, tt, tt, tt, tt, tt)
+owed : IsOwed 8 job.Gather × IsOwed 8 job.Install × IsOwed 8 job.Ship × IsOwed 8 job.Commit
+    × IsOwed 8 job.Abort × IsOwed 8 job.Pair × IsOwed 8 job.Patch × IsOwed 8 job.Part × IsOwed 8 job.Rebuild
+owed = (tt, tt, tt, tt, tt, tt, tt, tt, tt)
+
+no_begin_is_owed : IsOwed 8 job.Begin → ⊥
+no_begin_is_owed is = is
 
 no_make_is_owed : IsOwed 8 (job.Make []) → ⊥
 no_make_is_owed is = is
@@ -54,15 +59,16 @@ no_ship_ends is = is
 no_merge_ends : IsEnd job.Merge → ⊥
 no_merge_ends is = is
 
-no_begin_ends : IsEnd job.Begin → ⊥
-no_begin_ends is = is
+no_gather_ends : IsEnd job.Gather → ⊥
+no_gather_ends is = is
 
-ends_of_others : (end_of (job.Make []) ≡ None) × (end_of job.Evict ≡ None)
-    × (end_of job.Compact ≡ None) × (end_of (job.Swap (record { n = 2 })) ≡ None)
-ends_of_others = (refl, refl, refl, refl)
+ends_of_others : (end_of job.Gather ≡ None) × (end_of (job.Make []) ≡ None)
+    × (end_of job.Evict ≡ None) × (end_of job.Compact ≡ None) × (end_of (job.Swap (record { n = 2 })) ≡ None)
+ends_of_others = (refl, refl, refl, refl, refl)
 
 -- a turn that was refused begins the next batch, or the next pair
-after_refusals : (after_batch answer.Worn ≡ job.Begin) × (after_batch (answer.NoRoom 8 0 2) ≡ job.Begin)
+after_refusals : (after_batch job.Ship answer.Worn ≡ job.Gather)
+    × (after_batch job.Gather (answer.NoRoom 8 0 2) ≡ job.Gather)
     × (after_pair answer.Worn ≡ job.Pair) × (after_pair answer.NoNode ≡ job.Pair)
 after_refusals = (refl, refl, refl, refl)
 
@@ -82,4 +88,4 @@ shipped_first : (n : ℕ) (due : Job) (v u : View) (c : Cuts 8 worker.Evict n du
     → (a : AnsweredTurn) → a.job ≡ job.Ship → c.done ≡ a ∷ [] → ⊥
 shipped_first n due v u c a ships one =
     let are = subst (AreDue 8 worker.Evict) one c.are_due in
-    let e : 8 ≡ 7 = ap job_index (sym ships ∙ are.0) in omega (arith, e)
+    let e : 8 ≡ 19 = ap job_index (sym ships ∙ are.0) in omega (arith, e)

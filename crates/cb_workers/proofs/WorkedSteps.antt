@@ -18,12 +18,13 @@ use Rattle.cb_shared.specs.declared.runtime.Shared.{Shared}
 use Rattle.cb_shared.specs.Passes.{IsPassOf}
 use Rattle.cb_workers.specs.Bodies.{AddsTurns, Cuts, EndsBegun, HasMade, IsStopped, IsWorked, Lacks, Steps, WorkerStops, WorkerWorks, one_deed, turns_alone}
 use Rattle.cb_workers.specs.Rules.{after_visit, next_visit, visit, visited}
-use Rattle.cb_workers.specs.Work.{AnsweredTurn, AreDue, IsOnly, deed_of, deeds_of, job_behind, lacked}
+use Rattle.cb_workers.specs.Work.{AnsweredTurn, AreDue, IsOnly, deed_of, deeds_of, job_behind, lack_of}
 use Rattle.cb_workers.specs.declared.worker.Worker.TheVariants as worker
-use Rattle.cb_workers.proofs.WorkedBodies.{aborted, begun, deeds_in, some_there, stopped, turn, two_turns, works}
+use Rattle.cb_workers.proofs.WorkedBodies.{aborted, begun, cut_turns, deeds_in, nothing_left, stopped}
+use Rattle.cb_workers.proofs.WorkedBodies.{turn, two_turns, works}
 
 -- ---- the filter's handles
-visits : (visited (visit 2) ≡ 2) × (visited job.Begin ≡ 0)
+visits : (visited (visit 2) ≡ 2) × (visited job.Gather ≡ 0)
 visits = (refl, refl)
 
 goes_on : (next_visit 3 1 answer.Same ≡ 2) × (after_visit 3 (visit 1) answer.Same ≡ visit 2)
@@ -34,10 +35,10 @@ begins_again : (next_visit 3 2 answer.Same ≡ 0) × (next_visit 3 1 answer.Unma
 begins_again = (refl, refl)
 
 -- ---- the job that is due, and one turn or none
-due_first : job_behind 8 worker.Evict [] ≡ job.Begin
+due_first : job_behind 8 worker.Evict [] ≡ job.Gather
 due_first = refl
 
-due_behind : job_behind 8 worker.Evict (begun ∷ []) ≡ job.Ship
+due_behind : job_behind 8 worker.Evict (begun ∷ []) ≡ job.Install
 due_behind = refl
 
 one_abort : IsOnly (Some job.Abort) (aborted ∷ [])
@@ -110,48 +111,57 @@ module _ (s : Shown) (far : FarState) (v : View) where
   batch = answer.Batch (record { n = 0 })
 
   abbrev begins : Turn
-  begins = did job.Begin batch
+  begins = did job.Gather batch
 
-  adds_one : AddsTurns (one_deed job.Begin (Some batch)) v (with_turns (begins ∷ []))
+  adds_one : AddsTurns (one_deed job.Gather (Some batch)) v (with_turns (begins ∷ []))
   adds_one = record { turns = begins ∷ []; are = refl; grows = refl }
 
   adds_none : AddsTurns [] v (with_turns [])
   adds_none = record { turns = []; are = refl; grows = refl }
 
-  adds_another : AddsTurns (one_deed job.Begin (Some batch)) v
+  adds_another : AddsTurns (one_deed job.Gather (Some batch)) v
       (with_turns (did job.Ship batch ∷ [])) → ⊥
-  adds_another x = let e : 8 ≡ 7 = ap of_job (one_added _ _ v x) in omega (arith, e)
+  adds_another x = let e : 8 ≡ 19 = ap of_job (one_added _ _ v x) in omega (arith, e)
 
-  adds_nothing : AddsTurns (one_deed job.Begin (Some batch)) v (with_turns []) → ⊥
+  adds_nothing : AddsTurns (one_deed job.Gather (Some batch)) v (with_turns []) → ⊥
   adds_nothing x = let e : 1 ≡ 0 = count_added _ [] v x in omega (arith, e)
 
   -- and a pin
-  adds_more : AddsTurns (one_deed job.Begin (Some batch)) v
+  adds_more : AddsTurns (one_deed job.Gather (Some batch)) v
       (record (with_turns (begins ∷ [])) { ever = v.ever + 1 }) → ⊥
   adds_more x = let e : v.ever + 1 ≡ v.ever + 0 = ap (λ (w : View). w.ever) x.grows in
       omega (arith, e)
 
   -- ---- a turn, behind which another one is due
-  steps : Steps 8 worker.Evict job.Begin job.Ship v (with_turns (begins ∷ []))
+  steps : Steps 8 worker.Evict job.Gather job.Install v (with_turns (begins ∷ []))
   steps = (batch, refl, adds_one)
 
-  steps_to_another : (u : View) → Steps 8 worker.Rebuild job.Rebuild job.Begin v u → ⊥
-  steps_to_another u x = let e : 7 ≡ 16 = ap job_index x.1 in omega (arith, e)
+  steps_to_another : (u : View) → Steps 8 worker.Rebuild job.Rebuild job.Gather v u → ⊥
+  steps_to_another u x = let e : 19 ≡ 16 = ap job_index x.1 in omega (arith, e)
 
   steps_without : Steps 8 worker.Rebuild job.Rebuild job.Rebuild v (with_turns []) → ⊥
   steps_without x = let e : 1 ≡ 0 = count_added _ [] v x.2 in omega (arith, e)
 
   -- ---- a turn that found no memory
   abbrev lacks_begin : Turn
-  lacks_begin = turn s far job.Begin None
+  lacks_begin = turn s far job.Gather None
 
-  lacks : Lacks job.Begin job.Begin v (with_turns (lacks_begin ∷ []))
+  lacks : Lacks job.Gather job.Gather v (with_turns (lacks_begin ∷ []))
   lacks = (refl, record { turns = lacks_begin ∷ []; are = refl; grows = refl })
 
-  lacks_and_goes_on : (u : View) → Lacks job.Begin job.Ship v u → ⊥
-  lacks_and_goes_on u x = let e : 8 ≡ 7 = ap job_index x.0 in omega (arith, e)
+  -- nothing is left where there was none to run the order of an install
+  lacks_before : Lacks job.Install job.Install v (with_turns [])
+  lacks_before = (refl, adds_none)
 
-  lacks_nothing : Lacks job.Begin job.Begin v (with_turns (begins ∷ [])) → ⊥
+  lacks_an_install : Lacks job.Install job.Install v (with_turns (turn s far job.Install None ∷ []))
+      → ⊥
+  lacks_an_install x =
+      let e : 0 ≡ 1 = count_added _ (turn s far job.Install None ∷ []) v x.1 in omega (arith, e)
+
+  lacks_and_goes_on : (u : View) → Lacks job.Gather job.Ship v u → ⊥
+  lacks_and_goes_on u x = let e : 8 ≡ 19 = ap job_index x.0 in omega (arith, e)
+
+  lacks_nothing : Lacks job.Gather job.Gather v (with_turns (begins ∷ [])) → ⊥
   lacks_nothing x = let e : 1 ≡ 0 = ap has_reply (one_added _ _ v x.1) in omega (arith, e)
 
   -- ---- the end of what was begun
@@ -162,7 +172,7 @@ module _ (s : Shown) (far : FarState) (v : View) where
     record { turns = did job.Abort answer.Done ∷ []; are = refl; grows = refl },
   )
 
-  ends_nothing : EndsBegun job.Begin v (with_turns [])
+  ends_nothing : EndsBegun job.Gather v (with_turns [])
   ends_nothing = ([], refl, adds_none)
 
   left_open : EndsBegun job.Ship v (with_turns []) → ⊥
@@ -170,7 +180,7 @@ module _ (s : Shown) (far : FarState) (v : View) where
       let none : length (deeds_of x.0) ≡ 0 = count_added _ [] v x.2 in
       omega (arith, one, none, length-map x.0 deed_of)
 
-  ends_without_need : EndsBegun job.Begin v (with_turns (did job.Abort answer.Done ∷ [])) → ⊥
+  ends_without_need : EndsBegun job.Gather v (with_turns (did job.Abort answer.Done ∷ [])) → ⊥
   ends_without_need x = let none : length x.0 ≡ 0 =
       ap (λ (xs : List AnsweredTurn). length xs) x.1 in
       let one : length (deeds_of x.0) ≡ 1 = count_added _ (did job.Abort answer.Done ∷ []) v x.2 in
@@ -182,7 +192,7 @@ module _ (s : Shown) (far : FarState) (v : View) where
       let e : 9 ≡ 10 = ap of_job (one_added _ _ v adds) in omega (arith, e)
 
   -- ---- so many turns
-  has_made : HasMade 8 worker.Evict 1 job.Ship v (with_turns (begins ∷ []))
+  has_made : HasMade 8 worker.Evict 1 job.Install v (with_turns (begins ∷ []))
   has_made = record {
     done = begun ∷ [];
     number = refl;
@@ -201,8 +211,8 @@ module _ (s : Shown) (far : FarState) (v : View) where
   rebuilds_alone [] = refl
   rebuilds_alone (a ∷ earlier) = refl
 
-  made_and_due_another : (n : ℕ) (u : View) → HasMade 8 worker.Rebuild n job.Begin v u → ⊥
-  made_and_due_another n u h = let e : 7 ≡ 16 =
+  made_and_due_another : (n : ℕ) (u : View) → HasMade 8 worker.Rebuild n job.Gather v u → ⊥
+  made_and_due_another n u h = let e : 19 ≡ 16 =
       ap job_index (h.due_is ∙ rebuilds_alone h.done) in omega (arith, e)
 
   -- the first turn was not due
@@ -213,7 +223,7 @@ module _ (s : Shown) (far : FarState) (v : View) where
       go : (done : List AnsweredTurn) → length done ≡ 1 → AreDue 8 worker.Evict done
           → AddsTurns (deeds_of done) v (with_turns (did job.Ship (answer.Shipped 0) ∷ [])) → ⊥
       go [] one are adds = omega (arith, one)
-      go (a ∷ []) one are adds = let e : 8 ≡ 7 =
+      go (a ∷ []) one are adds = let e : 8 ≡ 19 =
           ap of_job (one_added _ _ v adds) ∙ ap job_index are.0 in omega (arith, e)
       go (a ∷ b ∷ earlier) one are adds = omega (arith, one)
 
@@ -224,7 +234,7 @@ module _ (s : Shown) (far : FarState) (v : View) where
       omega (arith, none, one, length-map h.done deed_of)
 
   -- ---- fewer turns, behind which one found no memory
-  cuts : Cuts 8 worker.Evict 1 job.Begin v (with_turns (lacks_begin ∷ []))
+  cuts : Cuts 8 worker.Evict 1 job.Gather v (with_turns (lacks_begin ∷ []))
   cuts = record {
     done = [];
     fewer = lit< tt;
@@ -233,18 +243,18 @@ module _ (s : Shown) (far : FarState) (v : View) where
     adds = record { turns = lacks_begin ∷ []; are = refl; grows = refl };
   }
 
-  cuts_no_turn : (u : View) → Cuts 8 worker.Evict 0 job.Begin v u → ⊥
+  cuts_no_turn : (u : View) → Cuts 8 worker.Evict 0 job.Gather v u → ⊥
   cuts_no_turn u x = let few = x.fewer in omega (arith, few)
 
-  cuts_another : (n : ℕ) (u : View) → Cuts 8 worker.Rebuild n job.Begin v u → ⊥
-  cuts_another n u x = let e : 7 ≡ 16 =
+  cuts_another : (n : ℕ) (u : View) → Cuts 8 worker.Rebuild n job.Gather v u → ⊥
+  cuts_another n u x = let e : 19 ≡ 16 =
       ap job_index (x.due_is ∙ rebuilds_alone x.done) in omega (arith, e)
 
-  cuts_with_memory : Cuts 8 worker.Evict 1 job.Begin v (with_turns (begins ∷ [])) → ⊥
+  cuts_with_memory : Cuts 8 worker.Evict 1 job.Gather v (with_turns (begins ∷ [])) → ⊥
   cuts_with_memory x = go x.done x.fewer x.adds
     where
       go : (done : List AnsweredTurn) → length done < 1
-          → AddsTurns (lacked job.Begin ∷ deeds_of done) v (with_turns (begins ∷ [])) → ⊥
+          → AddsTurns (lack_of job.Gather ++ deeds_of done) v (with_turns (begins ∷ [])) → ⊥
       go [] few adds = let e : 1 ≡ 0 = ap has_reply (one_added _ _ v adds) in omega (arith, e)
       go (a ∷ earlier) few adds = omega (arith, few)
 
@@ -286,33 +296,30 @@ module _ (s : Shared) (p q : Pass) (known : Shown) (far : FarState) where
         length-append d.turns p.seat.me.0.turns,
       )
 
-  abbrev cut_turns : List Turn
-  cut_turns = turn known far job.Abort (Some answer.Done) ∷ turn known far job.Ship None
-      ∷ turn known far job.Begin (Some (answer.Batch (record { n = 0 }))) ∷ []
-
   pass_stops : IsPassOf s q → s.config.handles ≡ 8
-      → Grows p.seat.me.0 (turns_alone cut_turns) q.seat.me.0 → WorkerStops s worker.Evict 2 p q
+      → Grows p.seat.me.0 (turns_alone (cut_turns known far)) q.seat.me.0
+      → WorkerStops s worker.Evict 3 p q
   pass_stops of eight grows = (
     of,
     (
-      turns_alone cut_turns,
-      subst (λ (n : ℕ). IsStopped n worker.Evict 2 (turns_alone cut_turns)) (sym eight)
+      turns_alone (cut_turns known far),
+      subst (λ (n : ℕ). IsStopped n worker.Evict 3 (turns_alone (cut_turns known far))) (sym eight)
           (stopped known far),
       grows,
     ),
   )
 
-  stops_elsewhere : (IsPassOf s q → ⊥) → WorkerStops s worker.Evict 2 p q → ⊥
+  stops_elsewhere : (IsPassOf s q → ⊥) → WorkerStops s worker.Evict 3 p q → ⊥
   stops_elsewhere n w = n w.0
 
-  stops_not : q.seat.me.0 ≡ grown nothing_more p.seat.me.0 → WorkerStops s worker.Evict 2 p q → ⊥
+  stops_not : q.seat.me.0 ≡ grown nothing_more p.seat.me.0 → WorkerStops s worker.Evict 3 p q → ⊥
   stops_not as_before w =
       let d = w.1.0 in let k = w.1.1 in
       let same : length p.seat.me.0.turns ≡ length (d.turns ++ p.seat.me.0.turns) =
       ap (λ (u : View). length u.turns) (sym as_before ∙ w.1.2) in
       let none : length d.turns ≡ 0 =
       omega (arith, same, length-append d.turns p.seat.me.0.turns) in
-      some_there (deeds_of k.ending) (deeds_of k.done) _ (sym (bare d.turns none) ∙ k.work.are)
+      nothing_left _ k.ending k.done k.work.ends (sym (bare d.turns none) ∙ k.work.are)
     where
       bare : (ts : List Turn) → length ts ≡ 0 → map deed ts ≡ []
       bare [] none = refl

@@ -8,10 +8,14 @@ use Rattle.cb_types.specs.Jobs.{job_index}
 use Rattle.cb_workers.specs.declared.worker.Worker.{Worker}
 use Rattle.cb_workers.specs.declared.worker.Worker.TheVariants as worker
 use Rattle.cb_record.specs.Deeds.{Deed}
-use Rattle.cb_workers.specs.Work.{AnsweredTurn, AreJobsOf, AreDue, IsCutShort, IsWork, deed_of, deeds_of, lacked}
+use Rattle.cb_workers.specs.Work.{AnsweredTurn, AreJobsOf, AreDue, IsCutShort, IsWork, deed_of}
+use Rattle.cb_workers.specs.Work.{deeds_of, lack_of, lacked}
 
 abbrev begun : AnsweredTurn
-begun = record { job = job.Begin; reply = answer.Batch (record { n = 0 }) }
+begun = record { job = job.Gather; reply = answer.Batch (record { n = 0 }) }
+
+abbrev installed : AnsweredTurn
+installed = record { job = job.Install; reply = answer.Done }
 
 abbrev shipped : AnsweredTurn
 shipped = record { job = job.Ship; reply = answer.Shipped 0 }
@@ -38,10 +42,10 @@ had (d ∷ earlier) = counts d.reply + had earlier
 
 -- the newest first
 abbrev two : List AnsweredTurn
-two = shipped ∷ begun ∷ []
+two = installed ∷ begun ∷ []
 
 abbrev three_deeds : List Deed
-three_deeds = deed_of aborted ∷ deed_of shipped ∷ deed_of begun ∷ []
+three_deeds = deed_of aborted ∷ deed_of installed ∷ deed_of begun ∷ []
 
 two_due : AreDue 8 worker.Evict two
 two_due = (refl, (refl, tt))
@@ -71,17 +75,17 @@ not_number w = omega (arith, w.number)
 one_more : IsWork 8 worker.Evict 1 two (aborted ∷ []) three_deeds → ⊥
 one_more w = omega (arith, w.number)
 
--- a batch begins where one begun is to be shipped
+-- a batch begins where one begun is to get its parities
 abbrev begun_twice : List AnsweredTurn
 begun_twice = begun ∷ begun ∷ []
 
 not_due : IsWork 8 worker.Evict 2 begun_twice (aborted ∷ []) (deeds_of (aborted ∷ begun_twice)) → ⊥
-not_due w = let e : 7 ≡ 8 = ap job_index (w.are_due.0) in omega (arith, e)
+not_due w = let e : 19 ≡ 20 = ap job_index (w.are_due.0) in omega (arith, e)
 
 -- the first turn ships
 not_first : IsWork 8 worker.Evict 1 (shipped ∷ []) (aborted ∷ [])
     (deeds_of (aborted ∷ shipped ∷ [])) → ⊥
-not_first w = let e : 8 ≡ 7 = ap job_index (w.are_due.0) in omega (arith, e)
+not_first w = let e : 8 ≡ 19 = ap job_index (w.are_due.0) in omega (arith, e)
 
 -- the batch is left as it is
 not_ended : IsWork 8 worker.Evict 2 two [] (deeds_of two) → ⊥
@@ -108,7 +112,7 @@ not_lacked w = let e : 0 ≡ 1 = ap (λ xs. had xs) w.are in omega (arith, e)
 
 -- ---- cut short
 abbrev cut_deeds : List Deed
-cut_deeds = deed_of aborted ∷ lacked job.Ship ∷ deed_of shipped ∷ deed_of begun ∷ []
+cut_deeds = deed_of aborted ∷ lacked job.Ship ∷ deed_of installed ∷ deed_of begun ∷ []
 
 -- the third of three turns found no memory, and the batch is aborted
 cut : IsCutShort 8 worker.Evict 3 two (aborted ∷ []) cut_deeds
@@ -118,6 +122,21 @@ cut = record {
   ends = (answer.Done, refl);
   are = refl;
 }
+
+-- there was no memory to run the order of an install: no turn was made, and the batch is aborted
+unrun : IsCutShort 8 worker.Evict 2 (begun ∷ []) (aborted ∷ [])
+    (deed_of aborted ∷ deed_of begun ∷ [])
+unrun = record {
+  fewer = lit< tt;
+  are_due = (refl, tt);
+  ends = (answer.Done, refl);
+  are = refl;
+}
+
+-- the install stands there as a turn without memory
+not_unmade : IsCutShort 8 worker.Evict 2 (begun ∷ []) (aborted ∷ [])
+    (deed_of aborted ∷ lacked job.Install ∷ deed_of begun ∷ []) → ⊥
+not_unmade w = let e : 3 ≡ 2 = ap (λ xs. length xs) w.are in omega (arith, e)
 
 -- what found no memory was no turn of those that it owes
 not_fewer : IsCutShort 8 worker.Evict 2 two (aborted ∷ []) cut_deeds → ⊥
@@ -130,11 +149,16 @@ left_leaving w = let e : 0 ≡ 1 = ap (λ xs. length xs) (w.ends.1) in omega (ar
 -- the turns before it are not those that were due
 not_begun : IsCutShort 8 worker.Evict 3 (shipped ∷ []) (aborted ∷ [])
     (deed_of aborted ∷ lacked job.Ship ∷ deeds_of (shipped ∷ [])) → ⊥
-not_begun w = let e : 8 ≡ 7 = ap job_index (w.are_due.0) in omega (arith, e)
+not_begun w = let e : 8 ≡ 19 = ap job_index (w.are_due.0) in omega (arith, e)
 
 -- no turn lacked memory
 not_cut : IsCutShort 8 worker.Evict 3 two (aborted ∷ []) three_deeds → ⊥
 not_cut w = let e : 3 ≡ 4 = ap (λ xs. length xs) w.are in omega (arith, e)
+
+-- what is left where there was no memory: an install alone leaves nothing
+lacks : (lack_of job.Gather ≡ lacked job.Gather ∷ []) × (lack_of job.Ship ≡ lacked job.Ship ∷ [])
+    × (lack_of job.Install ≡ [])
+lacks = (refl, refl, refl)
 
 -- ---- whose turns they are
 are_of : AreJobsOf worker.Evict three_deeds

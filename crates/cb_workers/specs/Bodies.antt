@@ -1,19 +1,25 @@
 -- What the body of a worker adds to the record of its pass.
-use Rattle.std.specs.Prelude.{◌≡◌, ℕ, ◌<◌, List, [], ◌∷◌, length, map, Option, Some}
+use Rattle.std.specs.Prelude.{◌≡◌, ℕ, ◌<◌, List, [], ◌∷◌, ◌++◌, length, map, Option, Some}
+use Rattle.cb_types.specs.declared.handle.SetId.{SetId}
 use Rattle.cb_types.specs.declared.job.Job.{Job}
 use Rattle.cb_types.specs.declared.job.Job.TheVariants as job
+use Rattle.cb_types.specs.declared.order.EncodeOrder.{EncodeOrder}
+use Rattle.cb_types.specs.declared.order.Kept.TheVariants.{Encode}
 use Rattle.cb_types.specs.declared.reply.Reply.{Reply}
+use Rattle.cb_types.specs.declared.reply.Reply.TheVariants as answer
+use Rattle.cb_types.specs.Orders.{IsEncodable}
 use Rattle.cb_rule.specs.declared.turn.Turn.{Turn}
 use Rattle.cb_rule.specs.declared.view.View.{View}
 use Rattle.cb_shared.specs.declared.pass.Pass.{Pass}
 use Rattle.cb_shared.specs.declared.runtime.Shared.{Shared}
 use Rattle.cb_record.specs.Parts.{Grows, Part, nothing_more}
 use Rattle.cb_shared.specs.Passes.{IsPassOf}
-use Rattle.cb_workers.specs.Rules.{end_of, next_job}
+use Rattle.cb_workers.specs.Rules.{end_of, next_job, owner}
 use Rattle.cb_record.specs.Deeds.{Deed, deed}
 use Rattle.cb_workers.specs.Work.{AnsweredTurn, AreDue, IsCutShort, IsOnly, IsWork, deeds_of}
-use Rattle.cb_workers.specs.Work.{job_behind, lacked}
+use Rattle.cb_workers.specs.Work.{job_behind, lack_of}
 use Rattle.cb_workers.specs.declared.worker.Worker.{Worker}
+use Rattle.cb_workers.specs.declared.worker.Worker.TheVariants as worker
 
 -- turns, and nothing else: no version is written or read, no pin is taken, and no look is made
 -- beside those of the turns
@@ -47,7 +53,8 @@ WorkerStops s w turns p q = IsPassOf s q × ((d : Part) × IsStopped s.config.ha
 -- a worker's turn may have such a job
 abbrev pub IsOwed : ℕ → Job → Type 0
 IsOwed handles (job.Filter handle) = handle.n < handles
-IsOwed handles job.Begin = Unit {0}
+IsOwed handles job.Gather = Unit {0}
+IsOwed handles job.Install = Unit {0}
 IsOwed handles job.Ship = Unit {0}
 IsOwed handles job.Commit = Unit {0}
 IsOwed handles job.Abort = Unit {0}
@@ -78,9 +85,9 @@ abbrev pub Steps : ℕ → Worker → Job → Job → View → View → Type 0
 Steps handles w old new v u = (reply : Reply) × (new ≡ next_job handles w old reply)
     × AddsTurns (one_deed old (Some reply)) v u
 
--- the turn with the job that is due found no memory
+-- there was no memory for the job that is due
 abbrev pub Lacks : Job → Job → View → View → Type 0
-Lacks old new v u = (new ≡ old) × AddsTurns (lacked old ∷ []) v u
+Lacks old new v u = (new ≡ old) × AddsTurns (lack_of old) v u
 
 -- what was begun is ended, where this job would go on with it
 abbrev pub EndsBegun : Job → View → View → Type 0
@@ -95,10 +102,32 @@ pub record HasMade (handles : ℕ) (w : Worker) (n : ℕ) (due : Job) (v u : Vie
   pub due_is : due ≡ job_behind handles w done
   pub adds : AddsTurns (deeds_of done) v u
 
--- fewer turns were made, and that with the job that is due found no memory
+-- fewer turns were made, and there was no memory for the job that is due
 pub record Cuts (handles : ℕ) (w : Worker) (n : ℕ) (due : Job) (v u : View) : Type 0 where
   pub done : List AnsweredTurn
   pub fewer : length done < n
   pub are_due : AreDue handles w done
   pub due_is : due ≡ job_behind handles w done
-  pub adds : AddsTurns (lacked due ∷ deeds_of done) v u
+  pub adds : AddsTurns (lack_of due ++ deeds_of done) v u
+
+-- ---- the order of a batch
+-- an order is at hand that can be run, and the record keeps it
+pub record IsAtHand (order : Option EncodeOrder) (v : View) : Type 0 where
+  pub given : EncodeOrder
+  pub there : order ≡ Some given
+  pub kept : v.order ≡ Some (Encode given)
+  pub runs : IsEncodable given
+
+-- where an install is due, its order is at hand
+abbrev pub HasOrder : Job → Option EncodeOrder → View → Type 0
+HasOrder job.Install order v = IsAtHand order v
+HasOrder due order v = Unit {0}
+
+-- no batch began
+abbrev pub TellsNoBatch : Reply → Type 0
+TellsNoBatch reply = (set : SetId) → reply ≡ answer.Batch set → ⊥
+
+-- of the jobs of the worker that evicts, one that is answered that a batch began puts its order at hand
+abbrev pub HandsOver : Job → Reply → Option EncodeOrder → View → Type 0
+HandsOver due reply order v = owner due ≡ Some worker.Evict
+    → (set : SetId) → reply ≡ answer.Batch set → IsAtHand order v

@@ -33,15 +33,22 @@ next_visit handles h reply = if ltb (suc h) handles then suc h else 0
 abbrev pub after_visit : ℕ → Job → Reply → Job
 after_visit handles done reply = visit (next_visit handles (visited done) reply)
 
--- A batch is shipped until all its rows stand, then committed, and shipped again where that came
--- short; it is aborted where no node can take a row. Else the next batch begins.
-abbrev pub after_batch : Reply → Job
-after_batch (answer.Batch set) = job.Ship
-after_batch (answer.Shipped position) = job.Ship
-after_batch (answer.Short positions) = job.Ship
-after_batch answer.AllShipped = job.Commit
-after_batch answer.NoNode = job.Abort
-after_batch reply = job.Begin
+-- a batch that has its parities is shipped; behind one that was given up the next is gathered
+abbrev pub after_done : Job → Job
+after_done job.Install = job.Ship
+after_done done = job.Gather
+
+-- The order of a batch that began is run outside of the far lock, and its parities are installed.
+-- Then the batch is shipped until all its rows stand, committed, and shipped again where that came
+-- short; it is aborted where no node can take a row. Else the next batch is gathered.
+abbrev pub after_batch : Job → Reply → Job
+after_batch done (answer.Batch set) = job.Install
+after_batch done answer.Done = after_done done
+after_batch done (answer.Shipped position) = job.Ship
+after_batch done (answer.Short positions) = job.Ship
+after_batch done answer.AllShipped = job.Commit
+after_batch done answer.NoNode = job.Abort
+after_batch done reply = job.Gather
 
 -- A pair is patched until all its rows stand, then merged, and patched again where rows were
 -- unfinished; it is parted where a node is full. Else the next pair begins.
@@ -56,19 +63,20 @@ after_pair reply = job.Pair
 -- the job of a worker's first turn
 abbrev pub first_job : Worker → Job
 first_job worker.Filter = visit 0
-first_job worker.Evict = job.Begin
+first_job worker.Evict = job.Gather
 first_job worker.Compact = job.Pair
 first_job worker.Rebuild = job.Rebuild
 
 -- the job of the turn behind one with this job and reply
 abbrev pub next_job : ℕ → Worker → Job → Reply → Job
 next_job handles worker.Filter done reply = after_visit handles done reply
-next_job handles worker.Evict done reply = after_batch reply
+next_job handles worker.Evict done reply = after_batch done reply
 next_job handles worker.Compact done reply = after_pair reply
 next_job handles worker.Rebuild done reply = job.Rebuild
 
 -- the job that ends what was begun, where the job that is due would go on with it
 abbrev pub end_of : Job → Option Job
+end_of job.Install = Some job.Abort
 end_of job.Ship = Some job.Abort
 end_of job.Commit = Some job.Abort
 end_of job.Abort = Some job.Abort
@@ -80,7 +88,8 @@ end_of other = None
 -- the worker whose job it is
 abbrev pub owner : Job → Option Worker
 owner (job.Filter handle) = Some worker.Filter
-owner job.Begin = Some worker.Evict
+owner job.Gather = Some worker.Evict
+owner job.Install = Some worker.Evict
 owner job.Ship = Some worker.Evict
 owner job.Commit = Some worker.Evict
 owner job.Abort = Some worker.Evict

@@ -2,6 +2,7 @@
 -- before it.
 use Rattle.std.specs.Prelude.{◌≡◌, ℕ, ◌<◌, List, [], ◌∷◌, ◌++◌, length, map, Option, Some, None}
 use Rattle.cb_types.specs.declared.job.Job.{Job}
+use Rattle.cb_types.specs.declared.job.Job.TheVariants as job
 use Rattle.cb_types.specs.declared.reply.Reply.{Reply}
 use Rattle.cb_rule.specs.Lists.{Each}
 use Rattle.cb_record.specs.Deeds.{Deed}
@@ -54,14 +55,20 @@ pub record IsWork (handles : ℕ) (w : Worker) (turns : ℕ) (done ending : List
   pub ends : IsOnly (end_of (job_behind handles w done)) ending
   pub are : deeds ≡ deeds_of (ending ++ done)
 
--- A worker made fewer turns, each with the job that was due. The next one that was due found no
--- memory, and what it had begun was ended then.
+-- What is left where there was no memory for the job that was due: its turn, which found none. An
+-- install takes no memory, but its order is run before it: where that found none, no turn was made.
+abbrev pub lack_of : Job → List Deed
+lack_of job.Install = []
+lack_of due = lacked due ∷ []
+
+-- A worker made fewer turns, each with the job that was due. For the next one that was due there was
+-- no memory, and what it had begun was ended then.
 pub record IsCutShort (handles : ℕ) (w : Worker) (turns : ℕ) (done ending : List AnsweredTurn)
     (deeds : List Deed) : Type 0 where
   pub fewer : length done < turns
   pub are_due : AreDue handles w done
   pub ends : IsOnly (end_of (job_behind handles w done)) ending
-  pub are : deeds ≡ deeds_of ending ++ (lacked (job_behind handles w done) ∷ deeds_of done)
+  pub are : deeds ≡ deeds_of ending ++ (lack_of (job_behind handles w done) ++ deeds_of done)
 
 -- each of these turns has a job of the worker
 abbrev pub AreJobsOf : Worker → List Deed → Type 0

@@ -1,6 +1,7 @@
 ghost use Rattle.std.specs.Prelude.{◌≡◌, ◌<◌, Option};
 ghost use Rattle.cb_workers.specs.Rules.{
   after_batch,
+  after_done,
   after_pair,
   after_visit,
   end_of,
@@ -42,15 +43,28 @@ fn next_visit(handles: u32, h: u32, reply: &Reply) -> u32
     }
 }
 
-/// A batch is shipped row by row, and ends in a commit; where no node can take a row, in an abort.
-pub(crate) fn after_batch(reply: &Reply) -> Job
-    ensures { result ≡ after_batch reply.now }
+/// A batch gets its parities, is shipped row by row, and ends in a commit; where no node can take a
+/// row, in an abort.
+pub(crate) fn after_batch(job: &Job, reply: &Reply) -> Job
+    ensures { result ≡ after_batch job.now reply.now }
 {
     match reply {
-        Reply::Batch { .. } | Reply::Shipped { .. } | Reply::Short { .. } => Job::Ship,
+        Reply::Batch { .. } => Job::Install,
+        Reply::Done => after_done(job),
+        Reply::Shipped { .. } | Reply::Short { .. } => Job::Ship,
         Reply::AllShipped => Job::Commit,
         Reply::NoNode => Job::Abort,
-        _ => Job::Begin,
+        _ => Job::Gather,
+    }
+}
+
+/// A batch that has its parities is shipped; behind one that was given up the next is gathered.
+fn after_done(job: &Job) -> Job
+    ensures { result ≡ after_done job.now }
+{
+    match job {
+        Job::Install => Job::Ship,
+        _ => Job::Gather,
     }
 }
 
@@ -71,7 +85,7 @@ pub(crate) fn end_of(due: &Job) -> Option<Job>
     ensures { result ≡ end_of due.now }
 {
     match due {
-        Job::Ship | Job::Commit | Job::Abort => Some(Job::Abort),
+        Job::Install | Job::Ship | Job::Commit | Job::Abort => Some(Job::Abort),
         Job::Patch | Job::Merge | Job::Part => Some(Job::Part),
         _ => None,
     }

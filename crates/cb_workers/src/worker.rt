@@ -38,7 +38,7 @@ impl Worker {
             Worker::Filter => Job::Filter {
                 handle: Handle { n: 0 },
             },
-            Worker::Evict => Job::Begin,
+            Worker::Evict => Job::Gather,
             Worker::Compact => Job::Pair,
             Worker::Rebuild => Job::Rebuild,
         }
@@ -50,7 +50,7 @@ impl Worker {
     {
         match self {
             Worker::Filter => after_visit(handles, job, reply),
-            Worker::Evict => after_batch(reply),
+            Worker::Evict => after_batch(job, reply),
             Worker::Compact => after_pair(reply),
             Worker::Rebuild => Job::Rebuild,
         }

@@ -1,6 +1,7 @@
 pub mod AllEvents
 pub mod Calling
 pub mod Makes
+pub mod Orders
 pub mod ScrubbedWorld
 pub mod SplitArrays
 mod WorkedPacked

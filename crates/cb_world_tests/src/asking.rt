@@ -6,12 +6,21 @@ use cb_types::NoMemory;
 #[derive(Clone, Copy)]
 pub(crate) enum Deed {
     Read,
+    Free,
     Filter,
     Evict,
+    Begin,
+    Ship,
+    Commit,
+    Abort,
     Rebuild,
     Crash(u8),
     Join(u8),
 }
+
+/// What a second pass does between the two turns of an order: turns on objects, each with what it
+/// is to tell.
+pub(crate) type Between = [Option<(usize, Deed, Told)>; 2];
 
 /// A call on an object.
 #[derive(Clone, Copy)]
@@ -25,6 +34,12 @@ pub(crate) enum Call {
     Write,
     Free,
     Turn(Deed),
+    /// A batch begins, its order is run, and its parities are installed.
+    Install,
+    /// The object's rows are handed out in an order, which is left.
+    Fetch,
+    /// The object's rows are handed out in an order, it is run, and its row is landed.
+    Land,
     /// A pass with the share 1 is split off, and left out.
     Leave,
 }
@@ -38,6 +53,8 @@ pub(crate) enum By {
     Second,
     /// The pass itself, while a second one has the object pinned.
     Beside,
+    /// The pass itself, with turns of a second one between the two of an order.
+    Between(Between),
 }
 
 /// A pass that knows objects. The tables walk over any such, so that their proofs do not reach the

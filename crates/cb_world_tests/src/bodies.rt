@@ -18,6 +18,25 @@ pub(crate) enum Work {
     Far,
 }
 
+/// What comes of an order between the two turns that it is for.
+#[derive(Clone, Copy)]
+pub(crate) enum Course {
+    /// A batch gets its parities by one.
+    Batch,
+    /// So, where a second pass gives the batch up, begins another one, or makes other turns.
+    Batches,
+    /// One to make a row again is left.
+    Fetch,
+    /// An object is brought in by one.
+    Land,
+    /// So, while a second pass makes the row again.
+    Rebuild,
+    /// So, while it frees the objects of the set.
+    Frees,
+    /// So, while the set loses too many shards.
+    Loses,
+}
+
 /// What is done with a runtime in which nothing was made.
 #[derive(Clone, Copy)]
 pub(crate) enum Body {
@@ -29,6 +48,8 @@ pub(crate) enum Body {
     Fills,
     /// A far array and a far map have objects of their own.
     Values,
+    /// Of objects that left in one set, or are to, the rows are coded outside of the far lock.
+    Order(Course),
     Crew(Work),
 }
 
@@ -52,7 +73,7 @@ pub(crate) fn wanted_of(body: Body) -> u64 {
 pub(crate) fn count_of(body: Body) -> usize {
     match body {
         Body::Crew(_) => OBJECTS,
-        Body::Crashes => 2,
+        Body::Crashes | Body::Order(_) => 2,
         _ => 1,
     }
 }
@@ -76,7 +97,7 @@ pub(crate) fn len_of(body: Body, i: usize) -> usize
     match body {
         Body::Crew(_) => len_shared(i),
         Body::Calls => 2,
-        Body::Crashes if i == 0 => 2,
+        Body::Crashes | Body::Order(_) if i == 0 => 2,
         _ => 1,
     }
 }
@@ -85,8 +106,8 @@ pub(crate) fn len_of(body: Body, i: usize) -> usize
 fn front_of(body: Body, i: usize) -> (u8, u8) {
     match body {
         Body::Crew(_) => (0, 0),
-        Body::Crashes if i == 0 => (10, 11),
-        Body::Crashes => (12, 0),
+        Body::Crashes | Body::Order(_) if i == 0 => (10, 11),
+        Body::Crashes | Body::Order(_) => (12, 0),
         _ => (1, 2),
     }
 }
@@ -96,6 +117,16 @@ pub(crate) fn bytes_of(body: Body, i: usize) -> [u8; MOST] {
     let mut bytes = [0u8; MOST];
     (bytes[0], bytes[1]) = front_of(body, i);
     bytes
+}
+
+/// How many rows were given out at the end, where that is fixed.
+pub(crate) fn given_of(body: Body) -> Option<u64> {
+    match body {
+        Body::Crew(_) | Body::Values => None,
+        Body::Crashes | Body::Order(Course::Rebuild) => Some(4),
+        Body::Order(Course::Fetch | Course::Land | Course::Frees | Course::Loses) => Some(2),
+        _ => Some(0),
+    }
 }
 
 /// The share of the first pass at the end.

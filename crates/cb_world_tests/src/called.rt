@@ -7,6 +7,7 @@ ghost use Rattle.cb_shared.specs.Turning.{KnowsOf};
 ghost use Rattle.cb_world_tests.specs.Callers.{IsCaller, IsKnownAmong};
 
 use crate::asking::{Asks, By, Call, Deed};
+use crate::coding::{coded, fetch_alone};
 use crate::pinned::{look, words_under};
 use crate::told::{Told, told_by, told_of_write, told_while};
 use cb_member::NodeId;
@@ -25,8 +26,13 @@ fn job_of(config: Config, h: Handle, deed: Deed) -> Option<Job>
 {
     match deed {
         Deed::Read => Some(Job::Read { handle: h }),
+        Deed::Free => Some(Job::Free { handle: h }),
         Deed::Filter => Some(Job::Filter { handle: h }),
         Deed::Evict => Some(Job::Evict),
+        Deed::Begin => Some(Job::Begin),
+        Deed::Ship => Some(Job::Ship),
+        Deed::Commit => Some(Job::Commit),
+        Deed::Abort => Some(Job::Abort),
         Deed::Rebuild => Some(Job::Rebuild),
         Deed::Crash(node) if u32::from(node) < config.nodes => Some(Job::Crash {
             node: NodeId { n: node },
@@ -39,7 +45,7 @@ fn job_of(config: Config, h: Handle, deed: Deed) -> Option<Job>
 }
 
 /// A turn that does this to an object.
-fn turn_on<R: Wait>(
+pub(crate) fn turn_on<R: Wait>(
     rt: &R,
     alloc: Global,
     shared: &Shared,
@@ -93,12 +99,14 @@ fn called<R: Wait>(
         Call::Write => told_by(shared.write(rt, alloc, pass, h, 0, bytes)),
         Call::Free => told_by(shared.free(rt, alloc, pass, h)),
         Call::Turn(deed) => turn_on(rt, alloc, shared, objects, pass, h, deed),
+        Call::Fetch => fetch_alone(rt, alloc, shared, objects, pass, h),
         Call::Leave => Ok(leave(shared, objects, pass)),
+        Call::Install | Call::Land => Ok(Told::Other),
     }
 }
 
-/// A call by the second pass, or by the first one while the second one has the object pinned: the
-/// words under the pin stay as they are.
+/// A call by the second pass, or by the first one, while the second one has the object pinned or
+/// between the turns of an order: the words under the pin stay as they are.
 fn second_called<R: Wait>(
     rt: &R,
     alloc: Global,
@@ -117,9 +125,31 @@ fn second_called<R: Wait>(
     ensures caller { IsCaller shared.now objects.now first.new }
     ensures second { IsCaller shared.now objects.now second.new }
 {
-    if !matches!(by, By::Beside) {
-        return called(rt, alloc, shared, objects, second, h, call, bytes);
+    match by {
+        By::Beside => called_beside(rt, alloc, shared, objects, first, second, h, call, bytes),
+        By::Between(between) => coded(rt, alloc, shared, objects, first, second, h, call, between),
+        _ => called(rt, alloc, shared, objects, second, h, call, bytes),
     }
+}
+
+/// A call by the first pass, while the second one has the object pinned.
+fn called_beside<R: Wait>(
+    rt: &R,
+    alloc: Global,
+    shared: &Shared,
+    objects: &[Handle],
+    first: &mut Pass,
+    second: &mut Pass,
+    h: Handle,
+    call: Call,
+    bytes: &[u8],
+) -> Result<Told, NoMemory>
+    requires caller { IsCaller shared.now objects.now first.old }
+    requires second { IsCaller shared.now objects.now second.old }
+    requires among { IsKnownAmong h objects.now }
+    ensures caller { IsCaller shared.now objects.now first.new }
+    ensures second { IsCaller shared.now objects.now second.new }
+{
     match shared.pin(second, h) {
         PinAnswer::Pinned(pin) => {
             let before = words_under(shared, objects, second, &pin);

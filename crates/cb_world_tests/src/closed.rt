@@ -4,6 +4,7 @@ ghost use Rattle.cb_world.specs.World.{IsSoundWorld};
 ghost use Rattle.cb_shared.specs.Passes.{IsPassOf};
 
 use crate::bodies::len_shared;
+use crate::merges::given_in;
 use crate::notes::{FREED, Note, last, last_word};
 use crate::told::{Told, told_of};
 use cb_core::{Event, step};
@@ -19,6 +20,8 @@ pub(crate) struct Ended {
     pub(crate) is_right: bool,
     /// Whether passes are out, so that the close is to be refused.
     pub(crate) is_out: bool,
+    /// How many rows were to be given out, where that is fixed.
+    pub(crate) given: Option<u64>,
     pub(crate) objects: Vec<Handle>,
     pub(crate) notes: Vec<Note>,
 }
@@ -100,15 +103,16 @@ fn are_last(
     Ok(all)
 }
 
-/// The same of a world that is given up.
+/// The same of a world that is given up, and whether as many rows were given out in it as were to be.
 fn is_world(alloc: Global, world: World, config: Config, ended: &Ended) -> Result<bool, NoMemory>
     requires sound { IsSoundWorld world }
     requires settings { world.desk.settings ≡ config }
 {
     let mut world = world;
-    let is_right = are_last(alloc, &mut world, config, ended);
+    let given = given_in(&world);
+    let are_last = are_last(alloc, &mut world, config, ended);
     world.end();
-    is_right
+    Ok(are_last? && ended.given.unwrap_or(given) == given)
 }
 
 /// Whether no answer was wrong, and a close is refused as it is where a pass with the share 1 is

@@ -15,6 +15,8 @@ mod called;
 #[cfg(test)]
 mod closed;
 #[cfg(test)]
+mod coding;
+#[cfg(test)]
 mod crew;
 #[cfg(test)]
 mod far_core;

@@ -4,13 +4,13 @@ ghost use Rattle.cb_shared.specs.Passes.{IsPassOf};
 ghost use Rattle.cb_world_tests.specs.Callers.{IsCaller};
 
 use crate::asking::Asks;
-use crate::bodies::{Body, Work, share_of};
+use crate::bodies::{Body, Course, Work, given_of, share_of};
 use crate::called::Caller;
 use crate::closed::{Ended, close};
 use crate::crew::{are_settled, run_crew};
 use crate::making::{begun, make_all};
 use crate::notes::Note;
-use crate::tables::{CALLS, CRASHES, TWO_PASSES, WEARS, are_answered, are_filled};
+use crate::tables::are_both_answered;
 use crate::values::are_values;
 use cb_shared::{Pass, Shared};
 use cb_types::{Handle, NoMemory};
@@ -30,13 +30,8 @@ fn asked_through<A: Asks>(
     ensures { A.keeps asked.old asked.new }
 {
     match body {
-        Body::TwoPasses => are_answered(asked, &TWO_PASSES),
-        Body::Calls => are_answered(asked, &CALLS),
-        Body::Crashes => are_answered(asked, &CRASHES),
-        Body::Wears => are_answered(asked, &WEARS),
-        Body::Fills => are_filled(asked),
-        Body::Values => Ok(true),
         Body::Crew(work) => are_settled(asked, work, notes),
+        _ => are_both_answered(asked, body),
     }
 }
 
@@ -95,6 +90,7 @@ fn ended<R: Threads + Wait + Sync>(
     Ok(Ended {
         is_right: is_right_first && is_made && is_right,
         is_out: matches!(body, Body::Fills),
+        given: given_of(body),
         objects,
         notes,
     })
@@ -140,6 +136,25 @@ const ON_ONE_THREAD: [Body; 6] = [
 #[test]
 fn calls_on_one_thread_are_answered_by_the_tables(rt: HostRuntime) -> Result<(), Fail> {
     assert!(rt; matches!(all_hold(&rt, rt.alloc(), &ON_ONE_THREAD), Ok(true)));
+    Ok(())
+}
+
+/// A batch whose parities are made by an order, and one beside which a second pass makes turns; and
+/// of a set whose data shards are lost an order that is left, and one that is landed: where nothing
+/// was done meanwhile, where a row was made again, where the set is gone, and where it lost more.
+const WITH_ORDERS: [Body; 7] = [
+    Body::Order(Course::Batch),
+    Body::Order(Course::Batches),
+    Body::Order(Course::Fetch),
+    Body::Order(Course::Land),
+    Body::Order(Course::Rebuild),
+    Body::Order(Course::Frees),
+    Body::Order(Course::Loses),
+];
+
+#[test]
+fn orders_are_run_between_turns_as_the_tables_say(rt: HostRuntime) -> Result<(), Fail> {
+    assert!(rt; matches!(all_hold(&rt, rt.alloc(), &WITH_ORDERS), Ok(true)));
     Ok(())
 }
 

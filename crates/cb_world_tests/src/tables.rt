@@ -1,5 +1,6 @@
 //! What is done on one thread: tables of calls and of what they tell.
-use crate::asking::{Asks, By, Call, Deed};
+use crate::asking::{Asks, Between, By, Call, Deed};
+use crate::bodies::{Body, Course};
 use crate::told::Told;
 use cb_types::NoMemory;
 
@@ -7,9 +8,12 @@ use cb_types::NoMemory;
 /// tell.
 pub(crate) type Line = (usize, By, Call, u8, Told);
 
+/// Nothing is done.
+static NONE: [Line; 0] = [];
+
 /// Of two passes. While the second one has a pin, a write and an eviction are refused; then the
 /// object is written, and the second pass is taken in with a pin of what was written.
-pub(crate) const TWO_PASSES: [Line; 5] = [
+static TWO_PASSES: [Line; 5] = [
     (
         0,
         By::Second,
@@ -38,7 +42,7 @@ pub(crate) const TWO_PASSES: [Line; 5] = [
 ];
 
 /// Calls that try again.
-pub(crate) const CALLS: [Line; 7] = [
+static CALLS: [Line; 7] = [
     (
         0,
         By::Itself,
@@ -68,12 +72,19 @@ pub(crate) const CALLS: [Line; 7] = [
     (0, By::Itself, Call::WriteHere, 0, Told::Freed),
 ];
 
-/// Two objects leave; two nodes crash, and both objects are read back.
-pub(crate) const CRASHES: [Line; 6] = [
-    (0, By::Itself, Call::Turn(Deed::Filter), 0, Told::Moved),
+/// The first of two objects is moved to a span of its own.
+const FILTERED: Line = (0, By::Itself, Call::Turn(Deed::Filter), 0, Told::Moved);
+
+/// Both leave, and the nodes crash on which they are.
+static LOST: [Line; 4] = [
+    FILTERED,
     (0, By::Itself, Call::Turn(Deed::Evict), 0, Told::Set(0)),
     (0, By::Itself, Call::Turn(Deed::Crash(0)), 0, Told::Epoch(1)),
     (0, By::Itself, Call::Turn(Deed::Crash(1)), 0, Told::Epoch(2)),
+];
+
+/// Both are read back.
+static READS: [Line; 2] = [
     (
         0,
         By::Itself,
@@ -98,8 +109,94 @@ pub(crate) const CRASHES: [Line; 6] = [
     ),
 ];
 
+/// An order, between whose turns a second pass makes none.
+const ALONE: By = By::Between([None, None]);
+
+/// The rows of a batch are put one after another.
+const FIRST: Line = (0, By::Itself, Call::Turn(Deed::Ship), 0, Told::Shipped(0));
+
+const SECOND: Line = (0, By::Itself, Call::Turn(Deed::Ship), 0, Told::Shipped(1));
+
+const THIRD: Line = (0, By::Itself, Call::Turn(Deed::Ship), 0, Told::Shipped(2));
+
+const FOURTH: Line = (0, By::Itself, Call::Turn(Deed::Ship), 0, Told::Shipped(3));
+
+/// A batch gets its parities by an order, is shipped and committed.
+static BATCH: [Line; 7] = [
+    FILTERED,
+    (0, ALONE, Call::Install, 0, Told::Done),
+    FIRST,
+    SECOND,
+    THIRD,
+    FOURTH,
+    (0, By::Itself, Call::Turn(Deed::Commit), 0, Told::Set(0)),
+];
+
+/// A second pass gives the batch up.
+const ABORTED: Between = [Some((0, Deed::Abort, Told::Done)), None];
+
+/// And begins the next one.
+const BEGUN_ANEW: Between = [
+    Some((0, Deed::Abort, Told::Done)),
+    Some((0, Deed::Begin, Told::Batch(2))),
+];
+
+/// It makes turns that leave the batch as it is.
+const FILTERS: Between = [
+    Some((0, Deed::Filter, Told::Later)),
+    Some((0, Deed::Rebuild, Told::Whole)),
+];
+
+/// The order of a batch that was given up is not installed, nor where another one is leaving; where
+/// other turns were made, it is.
+static BATCHES: [Line; 10] = [
+    FILTERED,
+    (0, By::Between(ABORTED), Call::Install, 0, Told::NoBatch),
+    (
+        0,
+        By::Between(BEGUN_ANEW),
+        Call::Install,
+        0,
+        Told::Changed(1),
+    ),
+    (0, By::Itself, Call::Turn(Deed::Abort), 0, Told::Done),
+    (0, By::Between(FILTERS), Call::Install, 0, Told::Done),
+    FIRST,
+    SECOND,
+    THIRD,
+    FOURTH,
+    (0, By::Itself, Call::Turn(Deed::Commit), 0, Told::Set(3)),
+];
+
+/// The rows of an object are handed out, and no more.
+static FETCH: [Line; 1] = [(0, By::Itself, Call::Fetch, 0, Told::Fetched)];
+
+/// Its row is made again by an order, and landed.
+static LAND: [Line; 1] = [(0, ALONE, Call::Land, 0, Told::Swapped)];
+
+/// So, where a second pass makes the row again too.
+const REBUILT: Between = [
+    Some((0, Deed::Rebuild, Told::Whole)),
+    Some((1, Deed::Filter, Told::Stays)),
+];
+
+static REBUILD: [Line; 1] = [(0, By::Between(REBUILT), Call::Land, 0, Told::Swapped)];
+
+/// But not where it frees both objects, with which their set is gone.
+const FREED: Between = [
+    Some((1, Deed::Free, Told::Version(2))),
+    Some((0, Deed::Free, Told::Version(2))),
+];
+
+static FREES: [Line; 1] = [(0, By::Between(FREED), Call::Land, 0, Told::Changed(0))];
+
+/// Nor where a third node crashes.
+const CRASHED: Between = [Some((0, Deed::Crash(2), Told::Epoch(3))), None];
+
+static LOSES: [Line; 1] = [(0, By::Between(CRASHED), Call::Land, 0, Told::Lost)];
+
 /// The end of the versions.
-pub(crate) const WEARS: [Line; 3] = [
+static WEARS: [Line; 3] = [
     (0, By::Itself, Call::WriteHere, 2, Told::Version(u64::MAX)),
     (0, By::Itself, Call::WriteHere, 3, Told::Worn),
     (0, By::Itself, Call::Free, 0, Told::Worn),
@@ -118,15 +215,15 @@ const PIN: Line = (
     },
 );
 
-pub(crate) const PINS: [Line; 16] = [PIN; 16];
+static PINS: [Line; 16] = [PIN; 16];
 
-pub(crate) const FILLS: [Line; 2] = [
+static FILLS: [Line; 2] = [
     (0, By::Itself, Call::Hold, 0, Told::Full),
     (0, By::Itself, Call::Leave, 0, Told::Left),
 ];
 
 /// Whether each line is answered so.
-pub(crate) fn are_answered<A: Asks>(asked: &mut A, rows: &[Line]) -> Result<bool, NoMemory>
+fn are_answered<A: Asks>(asked: &mut A, rows: &[Line]) -> Result<bool, NoMemory>
     requires { A.keeps asked.old asked.old }
     ensures { A.keeps asked.old asked.new }
 {
@@ -139,12 +236,39 @@ pub(crate) fn are_answered<A: Asks>(asked: &mut A, rows: &[Line]) -> Result<bool
     Ok(all)
 }
 
-/// Whether a pass takes all the pins that it may have and no more, and another one is left out.
-pub(crate) fn are_filled<A: Asks>(asked: &mut A) -> Result<bool, NoMemory>
+/// What is done with the objects: two tables, one behind the other.
+fn tables_of(body: Body) -> (&'static [Line], &'static [Line]) {
+    match body {
+        Body::TwoPasses => (&TWO_PASSES, &NONE),
+        Body::Calls => (&CALLS, &NONE),
+        Body::Crashes => (&LOST, &READS),
+        Body::Wears => (&WEARS, &NONE),
+        Body::Fills => (&PINS, &FILLS),
+        Body::Order(course) => tables_by(course),
+        Body::Values | Body::Crew(_) => (&NONE, &NONE),
+    }
+}
+
+/// So, of an order.
+fn tables_by(course: Course) -> (&'static [Line], &'static [Line]) {
+    match course {
+        Course::Batch => (&BATCH, &NONE),
+        Course::Batches => (&BATCHES, &NONE),
+        Course::Fetch => (&LOST, &FETCH),
+        Course::Land => (&LOST, &LAND),
+        Course::Rebuild => (&LOST, &REBUILD),
+        Course::Frees => (&LOST, &FREES),
+        Course::Loses => (&LOST, &LOSES),
+    }
+}
+
+/// Whether each line of both tables is answered so.
+pub(crate) fn are_both_answered<A: Asks>(asked: &mut A, body: Body) -> Result<bool, NoMemory>
     requires { A.keeps asked.old asked.old }
     ensures { A.keeps asked.old asked.new }
 {
-    let are_taken = are_answered(asked, &PINS)?;
-    let is_full = are_answered(asked, &FILLS)?;
-    Ok(are_taken && is_full)
+    let (first, then) = tables_of(body);
+    let is_first = are_answered(asked, first)?;
+    let is_then = are_answered(asked, then)?;
+    Ok(is_first && is_then)
 }

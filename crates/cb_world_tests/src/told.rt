@@ -19,6 +19,18 @@ pub(crate) enum Told {
     Stays,
     Set(u64),
     NoSpans(u32),
+    /// A batch with this number began.
+    Batch(u64),
+    Shipped(u32),
+    Done,
+    NoBatch,
+    /// The set with this number is another one, or is gone.
+    Changed(u64),
+    /// An order was handed out.
+    Fetched,
+    Swapped,
+    /// The set has lost too many shards.
+    Lost,
     Epoch(u64),
     /// A row was made again, or none was lost.
     Whole,
@@ -76,6 +88,13 @@ pub(crate) fn told_of(reply: &Reply) -> Told {
         Reply::Same | Reply::NotHere | Reply::NoSlot { .. } => Told::Stays,
         Reply::Set { set } => Told::Set(set.n),
         Reply::NoSpans { loose } => Told::NoSpans(*loose),
+        Reply::Batch { set } => Told::Batch(set.n),
+        Reply::Shipped { position } => Told::Shipped(*position),
+        Reply::Done => Told::Done,
+        Reply::NoBatch => Told::NoBatch,
+        Reply::Changed { set } => Told::Changed(set.n),
+        Reply::Swapped { .. } => Told::Swapped,
+        Reply::Unavailable { .. } => Told::Lost,
         Reply::EpochAt { epoch } => Told::Epoch(epoch.n),
         Reply::Rebuilt { .. } | Reply::Whole { .. } => Told::Whole,
         Reply::Moving => Told::Later,

@@ -1,6 +1,6 @@
 use Rattle.cb_world_tests.proofs.Calling.{caller_keeps}
 use Rattle.cb_shared.proofs.Laws.{pin_keeps, unpin_keeps}
-use Rattle.cb_world_tests.proofs.called.second_called.Goals as goal
+use Rattle.cb_world_tests.proofs.called.called_beside.Goals as goal
 
 pub words_under-before-requires-clause-caller : goal.words_under-before-requires-clause-caller
 words_under-before-requires-clause-caller g c = caller_keeps c.args.shared.now c.args.objects.now c.args.second.now c.pin.new.pass
