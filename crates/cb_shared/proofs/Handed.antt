@@ -13,7 +13,10 @@ use Rattle.cb_types.specs.declared.order.Kept.{Kept}
 use Rattle.cb_types.specs.declared.order.Kept.TheVariants.{Encode, Decode}
 use Rattle.cb_types.specs.declared.reply.Reply.{Reply}
 use Rattle.cb_types.specs.declared.reply.Reply.TheVariants as answer
+use Rattle.cb_types.specs.Orders.{IsDecodable, IsEncodable}
+use Rattle.cb_world.specs.declared.shown.Shown.{Shown}
 use Rattle.cb_world.specs.FarState.{FarState}
+use Rattle.cb_world.specs.Orders.{KeepsOrder}
 use Rattle.cb_evict.specs.declared.gathering.Gathered.{Gathered}
 use Rattle.cb_evict.specs.declared.gathering.Gathered.TheVariants as gathered
 use Rattle.cb_evict.specs.Gathering.{gathered_order, gathered_reply}
@@ -28,8 +31,8 @@ use Rattle.cb_shared.specs.declared.asked.Asked.{Asked}
 use Rattle.cb_shared.specs.declared.asked.Asked.TheVariants as asks
 use Rattle.cb_shared.specs.declared.asked.Outcome.{Outcome}
 use Rattle.cb_shared.specs.declared.asked.Outcome.TheVariants as ends
-use Rattle.cb_shared.specs.Ordering.{IsAnswered, IsFetched, IsGathered, IsInstalled, IsLanded}
-use Rattle.cb_shared.specs.Ordering.{IsNoWant, behind_fetch, behind_gather, fetch_told}
+use Rattle.cb_shared.specs.Ordering.{CanRun, IsAnswered, IsFetched, IsGathered, IsInstalled}
+use Rattle.cb_shared.specs.Ordering.{IsLanded, IsNoWant, behind_fetch, behind_gather, fetch_told}
 use Rattle.cb_shared.specs.Ordering.{fetched_of, gather_told, job_of, told}
 use Rattle.cb_shared.specs.Seats.{SeatAt, record_at}
 use Rattle.cb_shared.specs.Turning.{answer_of, freed_of, object_of}
@@ -78,6 +81,25 @@ pub fetch_handed : (r : Result Fetching NoMemory) (order new : Option Kept)
     → IfOk r (λ g. (o : DecodeOrder) → g ≡ fetching.Order o → new ≡ Some (Decode o))
 fetch_handed (Ok g) order new is = λ o e. is ∙ ap (fetching_order order) e
 fetch_handed (Err x) order new is = tt
+
+-- an order that is kept can be run
+pub kept_runs : (s : Shown) (far : FarState) (order : Option Kept) → KeepsOrder s far order
+    → CanRun order
+kept_runs s far None kept = tt
+kept_runs s far (Some (Encode o)) kept = kept.fits
+kept_runs s far (Some (Decode o)) kept = kept.fits
+
+-- so one that is handed out
+pub gather_runs : (r : Result Gathered NoMemory) (order : Option Kept)
+    → CanRun (behind_gather r order)
+    → IfOk r (λ g. (o : EncodeOrder) → g ≡ gathered.Order o → IsEncodable o)
+gather_runs (Ok g) order runs = λ o e. subst (λ (z : Gathered). CanRun (gathered_order order z)) e runs
+gather_runs (Err x) order runs = tt
+
+pub fetch_runs : (r : Result Fetching NoMemory) (order : Option Kept) → CanRun (behind_fetch r order)
+    → IfOk r (λ g. (o : DecodeOrder) → g ≡ fetching.Order o → IsDecodable o)
+fetch_runs (Ok g) order runs = λ o e. subst (λ (z : Fetching). CanRun (fetching_order order z)) e runs
+fetch_runs (Err x) order runs = tt
 
 -- the object that is looked at behind a fetch is in range
 pub fetched_below : (c : Config) (h : ℕ) (r : Result Reply NoMemory) → h < c.handles

@@ -9,6 +9,7 @@ use Rattle.cb_types.specs.declared.order.Kept.{Kept}
 use Rattle.cb_types.specs.declared.order.Kept.TheVariants.{Encode, Decode}
 use Rattle.cb_types.specs.declared.reply.Reply.{Reply}
 use Rattle.cb_types.specs.declared.reply.Reply.TheVariants as answer
+use Rattle.cb_types.specs.Orders.{IsDecodable, IsEncodable}
 use Rattle.cb_world.specs.declared.event.Event.{Event}
 use Rattle.cb_world.specs.declared.shown.Shown.{Shown}
 use Rattle.cb_evict.specs.declared.gathering.Gathered.{Gathered}
@@ -93,6 +94,12 @@ keeps_of (ends.Gather r) order = behind_gather r order
 keeps_of (ends.Install r) order = kept_behind r order
 keeps_of (ends.Fetch r) order = behind_fetch r order
 keeps_of (ends.Land r) order = behind_landing r order
+
+-- what is kept can be run, if anything is
+abbrev pub CanRun : Option Kept → Type 0
+CanRun None = Unit {0}
+CanRun (Some (Encode o)) = IsEncodable o
+CanRun (Some (Decode o)) = IsDecodable o
 
 -- the order that is handed out
 abbrev pub handed_by : Outcome → Option Kept

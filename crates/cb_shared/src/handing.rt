@@ -6,11 +6,13 @@ ghost use Rattle.cb_types.specs.declared.order.DecodeOrder.{DecodeOrder};
 ghost use Rattle.cb_types.specs.declared.order.EncodeOrder.{EncodeOrder};
 ghost use Rattle.cb_types.specs.declared.order.Kept.TheVariants.{Encode, Decode};
 ghost use Rattle.cb_types.specs.declared.reply.Reply.TheVariants as answer;
+ghost use Rattle.cb_types.specs.Orders.{IsDecodable, IsEncodable};
 ghost use Rattle.cb_evict.specs.declared.gathering.Gathered.TheVariants as gathered;
 ghost use Rattle.cb_evict.specs.InstallRule.{kept_behind};
 ghost use Rattle.cb_swapin.specs.declared.fetching.Fetching.TheVariants as fetching;
-ghost use Rattle.cb_shared.specs.Ordering.{FetchFinds, IsAnswered, IsPlainFetch, IsPlainGather};
-ghost use Rattle.cb_shared.specs.Ordering.{MayAsk, behind_landing, fetch_told, gather_told, job_of, keeps_of, told};
+ghost use Rattle.cb_shared.specs.Ordering.{CanRun, FetchFinds, IsAnswered, IsPlainFetch};
+ghost use Rattle.cb_shared.specs.Ordering.{IsPlainGather, MayAsk, behind_landing, fetch_told};
+ghost use Rattle.cb_shared.specs.Ordering.{gather_told, job_of, keeps_of, told};
 ghost use Rattle.cb_shared.specs.Passes.{IsAtRest, IsPassOf, record_of};
 ghost use Rattle.cb_shared.specs.Seats.{IsOf, record_at};
 ghost use Rattle.cb_shared.specs.Trying.{tries_of};
@@ -48,6 +50,8 @@ impl Shared {
             (record_of pass.new) }
         ensures handed { IfOk result (λ g. (o : EncodeOrder) → g ≡ gathered.Order o
             → (record_of pass.new).order ≡ Some (Encode o)) }
+        ensures fits { IfOk result (λ g. (o : EncodeOrder) → g ≡ gathered.Order o
+            → IsEncodable o) }
         ensures plain { IsPlainGather result }
     {
         let _alloc = alloc;
@@ -90,13 +94,37 @@ impl Shared {
             (record_of pass.old) (record_of pass.new) }
         ensures handed { IfOk result (λ g. (o : DecodeOrder) → g ≡ fetching.Order o
             → (record_of pass.new).order ≡ Some (Decode o)) }
+        ensures fits { IfOk result (λ g. (o : DecodeOrder) → g ≡ fetching.Order o
+            → IsDecodable o) }
         ensures plain { IsPlainFetch result }
     {
         let _alloc = alloc;
-        let outcome = self.ask(rt, pass, &Asked::Fetch(h));
-        let fetching = outcome.into_fetching();
+        let fetching = self.fetch_within(rt, pass, h);
         self.find_swapped(rt, pass, fetched_of(h, &fetching));
         fetching
+    }
+
+    /// A turn of the job Fetch as a part of a call that goes on: as `fetch`, but that nothing is
+    /// looked for behind it.
+    pub(crate) fn fetch_within<R: Wait>(
+        &self,
+        rt: &R,
+        pass: &mut Pass,
+        h: Handle,
+    ) -> Result<Fetching, NoMemory>
+        requires of { IsPassOf self.now pass.old }
+        requires handle { h.n < self.now.config.handles }
+        ensures of { IsPassOf self.now pass.new }
+        ensures turn { TurnBy self.now.config (jobs.Fetch h) (fetch_told result)
+            (record_of pass.old) (record_of pass.new) }
+        ensures handed { IfOk result (λ g. (o : DecodeOrder) → g ≡ fetching.Order o
+            → (record_of pass.new).order ≡ Some (Decode o)) }
+        ensures fits { IfOk result (λ g. (o : DecodeOrder) → g ≡ fetching.Order o
+            → IsDecodable o) }
+        ensures plain { IsPlainFetch result }
+    {
+        let outcome = self.ask(rt, pass, &Asked::Fetch(h));
+        outcome.into_fetching()
     }
 
     /// A turn of the job Land, as `turn` makes one: the position of the order that the pass keeps
@@ -131,6 +159,7 @@ impl Shared {
         ensures turn { TurnBy self.now.config (job_of asked.now) (told result) (record_of pass.old)
             (record_of pass.new) }
         ensures keeps { (record_of pass.new).order ≡ keeps_of result (record_of pass.old).order }
+        ensures fits { CanRun (keeps_of result (record_of pass.old).order) }
         ensures kind { IsAnswered asked.now result }
     {
         let config = self.config;
@@ -159,6 +188,7 @@ fn locked_order<R: Wait>(
     ensures turn { TurnedBy config.now (job_of asked.now) (told result.0)
         (keeps_of result.0 (record_at seat.old).order) (record_at seat.old) (record_at seat.new) }
     ensures again { tries_of (record_at seat.new) ≡ Some result.1 }
+    ensures fits { CanRun (keeps_of result.0 (record_at seat.old).order) }
     ensures kind { IsAnswered asked.now result.0 }
 {
     let mut far = lock_far(rt, top, seat, config);

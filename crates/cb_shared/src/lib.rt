@@ -6,6 +6,7 @@ pub mod answers;
 mod asked;
 mod board;
 mod boxed_far;
+mod bringing;
 pub mod calling;
 mod closing;
 mod crossing;

@@ -3,6 +3,7 @@ use Rattle.std.specs.Prelude.{IfOk}
 use Rattle.cb_types.specs.declared.order.Kept.{Kept}
 use Rattle.cb_world.specs.declared.shown.Shown.{Shown}
 use Rattle.cb_world.specs.FarState.{FarState}
+use Rattle.cb_world.specs.Orders.{KeepsOrder}
 use Rattle.cb_rule.specs.Locking.{Stood}
 use Rattle.cb_rule.specs.Slot.{Sat}
 use Rattle.cb_rule.specs.TriesAgain.{is_to_try_again}
@@ -14,6 +15,7 @@ use Rattle.cb_shared.specs.UnderLock.{TurnedBy}
 use Rattle.cb_shared.proofs.AfterTurn.{at_end, begins_taken, ends_work, of_taken, of_work}
 use Rattle.cb_shared.proofs.AfterTurn.{order_taken, order_worked, slots_taken, took_as, turn_with}
 use Rattle.cb_shared.proofs.AfterTurn.{turned_by, worked_by}
+use Rattle.cb_shared.proofs.Handed.{kept_runs}
 use Rattle.cb_shared.proofs.handing.locked_order.Goals as goal
 
 pub ask_by_seat-outcome-requires-clause-of : goal.ask_by_seat-outcome-requires-clause-of
@@ -106,6 +108,15 @@ returns-clause-again g c = ap (λ (m : Sat). tries_of m.0) c.give_order.ensures.
     ∙ ap (λ (b : Bool). Some b) (sym (c.is_order_tried_again-again.ensures
     ∙ ap (λ (far : FarState). is_to_try_again far (job_of c.args.asked.now)
     (answer_of (told c.ask_by_seat-outcome.result))) c.deref.ensures))
+
+pub returns-clause-fits : goal.returns-clause-fits
+returns-clause-fits g c = let o = c.ask_by_seat-outcome.result in
+    let took = c.deref_mut.result.now in let p = c.args.seat.now in let l = c.lock_far-far.new.seat in
+    let t = took_as c.args.config.now took c.lock_far-far.result p l
+    (c.deref_mut.ensures.value ∙ c.far.view_is) c.lock_far-far.ensures.took in
+    kept_runs _ c.ask_by_seat-outcome.new.far (keeps_of o (record_at p).order)
+    (subst (λ (x : Option Kept). KeepsOrder _ c.ask_by_seat-outcome.new.far (keeps_of o x))
+    (order_taken c.args.config.now took p l t) c.ask_by_seat-outcome.ensures.work.own)
 
 pub returns-clause-kind : goal.returns-clause-kind
 returns-clause-kind g c = c.ask_by_seat-outcome.ensures.kind

@@ -39,6 +39,9 @@ returns-clause-keeps g c = keeps_then c.args.self.now.config (job_of c.args.aske
     (told c.locked_order-outcome.result.0) _ (record_of c.args.pass.now)
     (record_at c.locked_order-outcome.new.seat) c.locked_order-outcome.ensures.turn
 
+pub returns-clause-fits : goal.returns-clause-fits
+returns-clause-fits g c = c.locked_order-outcome.ensures.fits
+
 pub returns-clause-kind : goal.returns-clause-kind
 returns-clause-kind g c = c.locked_order-outcome.ensures.kind
 

@@ -1,0 +1,34 @@
+use Rattle.std.proofs.Common.{◌∙◌, ap, subst}
+use Rattle.cb_types.specs.declared.job.Job.TheVariants.{Fetch}
+use Rattle.cb_shared.specs.declared.asked.Asked.TheVariants as asks
+use Rattle.cb_shared.specs.declared.asked.Outcome.{Outcome}
+use Rattle.cb_shared.specs.Ordering.{CanRun, IsAnswered, keeps_of, told}
+use Rattle.cb_shared.specs.Passes.{record_of}
+use Rattle.cb_shared.specs.Turning.{TurnBy}
+use Rattle.cb_shared.proofs.Handed.{fetch_handed, fetch_runs}
+use Rattle.cb_shared.proofs.runtime.Shared.fetch_within.Goals as goal
+
+pub ask-outcome-requires-clause-may : goal.ask-outcome-requires-clause-may
+ask-outcome-requires-clause-may g c = c.requires.handle
+
+pub into_fetching-requires : goal.into_fetching-requires
+into_fetching-requires g c = c.ask-outcome.ensures.kind
+
+pub returns-clause-turn : goal.returns-clause-turn
+returns-clause-turn g c = subst (λ (o : Outcome). TurnBy c.args.self.now.config (Fetch c.args.h)
+    (told o) (record_of c.args.pass.now) (record_of c.ask-outcome.new.pass))
+    c.into_fetching.ensures c.ask-outcome.ensures.turn
+
+pub returns-clause-handed : goal.returns-clause-handed
+returns-clause-handed g c = let order = (record_of c.args.pass.now).order in
+    fetch_handed c.into_fetching.result order (record_of c.ask-outcome.new.pass).order
+    (c.ask-outcome.ensures.keeps ∙ ap (λ (o : Outcome). keeps_of o order) c.into_fetching.ensures)
+
+pub returns-clause-fits : goal.returns-clause-fits
+returns-clause-fits g c = let order = (record_of c.args.pass.now).order in
+    fetch_runs c.into_fetching.result order (subst (λ (o : Outcome). CanRun (keeps_of o order))
+    c.into_fetching.ensures c.ask-outcome.ensures.fits)
+
+pub returns-clause-plain : goal.returns-clause-plain
+returns-clause-plain g c = (subst (IsAnswered (asks.Fetch c.args.h))
+    c.into_fetching.ensures c.ask-outcome.ensures.kind).0
