@@ -22,12 +22,13 @@ ghost use Rattle.cb_ptr.specs.declared.word.State.TheVariants as state;
 ghost use Rattle.cb_ptr.specs.Word.{state_of};
 
 use crate::answers::WriteAnswer;
-use crate::bringing::Way;
+use crate::ways::Way;
 use crate::handles::count_pins;
 use crate::pass::Pass;
 use crate::reading::{ReadAnswer, read_pinned};
 use crate::runtime::Shared;
 use crate::waiting::Patience;
+use crate::writing::is_inside;
 use cb_types::{Bytes, Handle, Job, NoMemory, Reply};
 use std::alloc::Global;
 use std::sync::Wait;
@@ -302,8 +303,7 @@ impl Shared {
     {
         let (word, answer) = self.write_seen(pass, h, at, bytes);
         if is_away(answer) {
-            let inside = is_inside(word, at, bytes.len());
-            return self.write_far(rt, alloc, pass, h, at, bytes, inside, patience);
+            return self.write_far(rt, alloc, pass, h, at, bytes, word, patience);
         }
         let reply = reply_of(answer);
         if reply.is_none() {
@@ -312,9 +312,9 @@ impl Shared {
         Ok(reply)
     }
 
-    /// Turns of a write that found its object far. Where its row is lost, and the bytes lie inside
-    /// of it, the row is made and landed; else they are written by a turn of the job Write, which
-    /// tells where they go past the end with nothing brought in.
+    /// Turns of a write that found its object far, with this word. Where its row is lost, and the
+    /// bytes lie inside of the object, the row is made and landed; else they are written by a turn
+    /// of the job Write, which tells where they go past the end with nothing brought in.
     fn write_far<R: Wait>(
         &self,
         rt: &R,
@@ -323,7 +323,7 @@ impl Shared {
         h: Handle,
         at: u32,
         bytes: &[u8],
-        inside: bool,
+        word: u64,
         patience: &mut Patience,
     ) -> Result<Option<Reply>, NoMemory>
         requires of { IsPassOf self.now pass.old }
@@ -335,9 +335,15 @@ impl Shared {
             (record_of pass.old) (record_of pass.new)) }
     {
         match self.find_way(rt, pass, h, patience)? {
-            Way::Made(order) if inside => self.land_order(rt, alloc, pass, order, patience),
+            Way::Made(order) => {
+                if is_inside(word, at, bytes.len()) {
+                    self.land_order(rt, alloc, pass, order, patience)
+                } else {
+                    self.write_by_turn(rt, alloc, pass, h, at, bytes, patience)
+                }
+            }
+            Way::Direct => self.write_by_turn(rt, alloc, pass, h, at, bytes, patience),
             Way::Told(told) => Ok(told),
-            _ => self.write_by_turn(rt, alloc, pass, h, at, bytes, patience),
         }
     }
 

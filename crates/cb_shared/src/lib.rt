@@ -6,7 +6,6 @@ pub mod answers;
 mod asked;
 mod board;
 mod boxed_far;
-mod bringing;
 pub mod calling;
 mod closing;
 mod crossing;
@@ -35,6 +34,7 @@ mod starting;
 mod trying;
 pub mod turning;
 pub mod waiting;
+mod ways;
 mod working;
 mod writing;
 

@@ -4,6 +4,7 @@ use Rattle.cb_types.specs.declared.order.Kept.{Kept}
 use Rattle.cb_world.specs.declared.shown.Shown.{Shown}
 use Rattle.cb_world.specs.FarState.{FarState}
 use Rattle.cb_world.specs.Orders.{KeepsOrder}
+use Rattle.cb_world.specs.Played.{played}
 use Rattle.cb_rule.specs.Locking.{Stood}
 use Rattle.cb_rule.specs.Slot.{Sat}
 use Rattle.cb_rule.specs.TriesAgain.{is_to_try_again}
@@ -114,9 +115,11 @@ returns-clause-fits g c = let o = c.ask_by_seat-outcome.result in
     let took = c.deref_mut.result.now in let p = c.args.seat.now in let l = c.lock_far-far.new.seat in
     let t = took_as c.args.config.now took c.lock_far-far.result p l
     (c.deref_mut.ensures.value ∙ c.far.view_is) c.lock_far-far.ensures.took in
-    kept_runs _ c.ask_by_seat-outcome.new.far (keeps_of o (record_at p).order)
-    (subst (λ (x : Option Kept). KeepsOrder _ c.ask_by_seat-outcome.new.far (keeps_of o x))
-    (order_taken c.args.config.now took p l t) c.ask_by_seat-outcome.ensures.work.own)
+    let w = c.ask_by_seat-outcome.ensures.work in
+    let known = played w.events (record_at l).known in
+    kept_runs known c.ask_by_seat-outcome.new.far (keeps_of o (record_at p).order)
+    (subst (λ (x : Option Kept). KeepsOrder known c.ask_by_seat-outcome.new.far (keeps_of o x))
+    (order_taken c.args.config.now took p l t) w.own)
 
 pub returns-clause-kind : goal.returns-clause-kind
 returns-clause-kind g c = c.ask_by_seat-outcome.ensures.kind

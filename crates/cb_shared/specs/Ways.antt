@@ -11,8 +11,8 @@ use Rattle.cb_swapin.specs.declared.fetching.Fetching.{Fetching}
 use Rattle.cb_swapin.specs.declared.fetching.Fetching.TheVariants as fetching
 use Rattle.cb_rule.specs.declared.turn.Turn.{Turn}
 use Rattle.cb_rule.specs.declared.view.View.{View}
-use Rattle.cb_shared.specs.declared.bringing.Way.{Way}
-use Rattle.cb_shared.specs.declared.bringing.Way.TheVariants as ways
+use Rattle.cb_shared.specs.declared.ways.Way.{Way}
+use Rattle.cb_shared.specs.declared.ways.Way.TheVariants as ways
 use Rattle.cb_shared.specs.Calls.{IsLack}
 use Rattle.cb_shared.specs.Fetching.{brings, job_behind_fetch}
 

@@ -6,8 +6,8 @@ use Rattle.cb_shared.proofs.Glanced.{kept_glance, of_kept, of_pass, write_tries}
 use Rattle.cb_shared.proofs.ReadKept.{IsSeatKept}
 use Rattle.cb_shared.proofs.Resting.{known_below, knows_glance}
 use Rattle.cb_shared.proofs.WriteSteps.{claimed_writes, refused_writes}
-use Rattle.cb_shared.proofs.runtime.Shared.write_here.Goals as goal
-use Rattle.cb_shared.proofs.runtime.Shared.write_here.Goals.{After-glance-saw}
+use Rattle.cb_shared.proofs.runtime.Shared.write_seen.Goals as goal
+use Rattle.cb_shared.proofs.runtime.Shared.write_seen.Goals.{After-glance-saw}
 
 pub glance-saw-requires-clause-of : goal.glance-saw-requires-clause-of
 glance-saw-requires-clause-of c = of_pass c.args.self.now c.args.pass.now c.requires.of
