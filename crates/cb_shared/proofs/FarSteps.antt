@@ -2,6 +2,7 @@
 use Rattle.std.proofs.Common.{◌≡◌, ℕ, ◌||◌, Bool, false, List, [], ◌∷◌, ◌++◌, Option, None, Some}
 use Rattle.std.proofs.Common.{Result, Ok, Err, sym, refl, ap, ◌∙◌, subst, inl, inr}
 use Rattle.std.specs.Prelude.{IfOk, OnErr}
+use Rattle.std.proofs.lemmas.Result.{IfOk-weaker, on_err_weaker}
 use Rattle.cb_member.specs.declared.no_memory.NoMemory.{NoMemory}
 use Rattle.cb_types.specs.declared.config.Config.{Config}
 use Rattle.cb_types.specs.declared.handle.SetId.{SetId}
@@ -21,6 +22,7 @@ use Rattle.cb_rule.specs.declared.turn.Turn.{Turn}
 use Rattle.cb_rule.specs.declared.view.Look.{Look}
 use Rattle.cb_rule.specs.declared.view.View.{View}
 use Rattle.cb_rule.specs.Lists.{Each}
+use Rattle.cb_rule.specs.Steps.{Knows}
 use Rattle.cb_record.specs.Parts.{Part, Grows, grown, nothing_more}
 use Rattle.cb_shared.specs.declared.answers.WriteAnswer.{WriteAnswer}
 use Rattle.cb_shared.specs.declared.answers.WriteAnswer.TheVariants as place
@@ -39,8 +41,8 @@ use Rattle.cb_shared.specs.Reading.{ReadFinds, looked}
 use Rattle.cb_shared.specs.Turning.{TurnBy, made_by_turn}
 use Rattle.cb_shared.specs.Ways.{HasWay, IsFound, IsWayBy, IsWayOf, IsWayTold, way_told}
 use Rattle.cb_shared.specs.Writing.{WriteGives}
-use Rattle.cb_shared.proofs.CallSteps.{Found, ends_after, ends_then, grows_own, look_stops}
-use Rattle.cb_shared.proofs.CallSteps.{look_tries, stops_then, stops_wider, tries_then, tries_wider}
+use Rattle.cb_shared.proofs.CallSteps.{Found, ends_after, ends_then, grows_own, known_still}
+use Rattle.cb_shared.proofs.CallSteps.{look_stops, look_tries, stops_then, stops_wider, tries_then, tries_wider}
 use Rattle.cb_shared.proofs.CallSteps.{turn_ends, turn_in_vain, turn_without, vain_look, vain_none}
 use Rattle.cb_shared.proofs.CallSteps.{vain_wider}
 use Rattle.cb_shared.proofs.ReadParts.{grown_nothing}
@@ -150,6 +152,31 @@ stops_by_then may v w u x y =
 pub vain_way : (c : Config) (job : Job) (o : Option Reply) (v w : View) → o ≡ None
     → TriesBy c AtNone (OfThis job) o v w → TriesInVain AtNone (IsUnanswered (OfThis job)) v w
 vain_way c job o v w is x = subst (λ (z : Option Reply). TriesBy c AtNone (OfThis job) z v w) is x
+
+pub way_knows : (c : Config) (job : Job) (o : Option Reply) (h : ℕ) (v w : View) → o ≡ None
+    → TriesBy c AtNone (OfThis job) o v w → Knows h v → Knows h w
+way_knows c job o h v w is x knows = known_still AtNone (IsUnanswered (OfThis job)) (Some h) v w
+    knows (vain_way c job o v w is x)
+
+-- a turn of a write's own job behind a fetch
+module _ (c : Config) (h at : ℕ) (bytes : List ℕ) (told : Option Reply)
+    (r : Result (Option Reply) NoMemory) (v w u : View) (is : told ≡ None)
+    (x : TriesBy c AtNone (OfThis (jobs.Fetch (the_handle h))) told v w) where
+  fetched_for : TriesInVain AtNone (IsUnanswered (IsWriteJob h at bytes)) v w
+  fetched_for = vain_by_wider (OfThis (jobs.Fetch (the_handle h))) (IsWriteJob h at bytes)
+      (write_fetch h at bytes) AtNone v w (vain_way c (jobs.Fetch (the_handle h)) told v w is x)
+
+  pub own_tries : IfOk r (λ o. TurnTries c (jobs.Write (the_handle h) at bytes) o w u)
+      → IfOk r (λ o. TriesBy c AtNone (IsWriteJob h at bytes) o v u)
+  own_tries y = IfOk-weaker r _ _ (λ o z. tries_by_then c AtNone (IsWriteJob h at bytes) o v w u
+      fetched_for (turn_tries AtNone (IsWriteJob h at bytes) (jobs.Write (the_handle h) at bytes)
+      (write_own h at bytes) (λ k n. n) c o w u (λ q. refl) z)) y
+
+  pub own_stops : OnErr r (TurnStops c (jobs.Write (the_handle h) at bytes) w u)
+      → OnErr r (StopsBy AtNone (IsWriteJob h at bytes) v u)
+  own_stops y = on_err_weaker r (λ z. stops_by_then (IsWriteJob h at bytes) v w u fetched_for
+      (turn_stops AtNone (IsWriteJob h at bytes) (jobs.Write (the_handle h) at bytes)
+      (write_own h at bytes) (λ k n. n) c w u z)) y
 
 -- ---- such turns behind a look that found the object far
 abbrev pub LooksFar : ℕ → View → View → Type 0
