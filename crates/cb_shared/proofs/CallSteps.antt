@@ -39,12 +39,12 @@ use Rattle.cb_shared.specs.Turning.{TurnAdds, TurnBy, answer_of, freed_of, made_
 use Rattle.cb_shared.specs.Turning.{object_of, turn_part, with_own}
 use Rattle.cb_shared.proofs.ReadParts.{grown_nothing, grown_sum}
 
-each_both : {A : Type 0} (P : A → Type 0) (xs ys : List A) → Each P xs → Each P ys
+pub each_both : {A : Type 0} (P : A → Type 0) (xs ys : List A) → Each P xs → Each P ys
     → Each P (xs ++ ys)
 each_both P [] ys a b = b
 each_both P (x ∷ xs) ys a b = (a.0, each_both P xs ys a.1 b)
 
-each_map : {A : Type 0} (P Q : A → Type 0) → ((x : A) → P x → Q x) → (xs : List A) → Each P xs
+pub each_map : {A : Type 0} (P Q : A → Type 0) → ((x : A) → P x → Q x) → (xs : List A) → Each P xs
     → Each Q xs
 each_map P Q f [] all = tt
 each_map P Q f (x ∷ xs) all = (f x all.0, each_map P Q f xs all.1)

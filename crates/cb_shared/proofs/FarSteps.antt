@@ -1,5 +1,5 @@
 -- Turns of a call whose object is far, one after another.
-use Rattle.std.proofs.Common.{◌≡◌, ℕ, ◌||◌, Bool, false, List, [], ◌∷◌, ◌++◌, Option, None, Some}
+use Rattle.std.proofs.Common.{◌≡◌, ◌≤◌, ◌+◌, length, ℕ, ◌||◌, Bool, false, List, [], ◌∷◌, ◌++◌, Option, None, Some}
 use Rattle.std.proofs.Common.{Result, Ok, Err, sym, refl, ap, ◌∙◌, subst, inl, inr}
 use Rattle.std.specs.Prelude.{IfOk, OnErr}
 use Rattle.std.proofs.lemmas.Result.{IfOk-weaker, on_err_weaker}
@@ -14,7 +14,7 @@ use Rattle.cb_types.specs.declared.reply.Reply.{Reply}
 use Rattle.cb_types.specs.declared.reply.Reply.TheVariants as answer
 use Rattle.cb_types.specs.Orders.{IsDecodable}
 use Rattle.cb_ptr.specs.declared.word.State.TheVariants as state
-use Rattle.cb_ptr.specs.Word.{state_of}
+use Rattle.cb_ptr.specs.Word.{len_of, state_of}
 use Rattle.cb_swapin.specs.declared.fetching.Fetching.{Fetching}
 use Rattle.cb_swapin.specs.declared.fetching.Fetching.TheVariants as fetching
 use Rattle.cb_orders.specs.Done.{DecodeDoneState}
@@ -31,7 +31,8 @@ use Rattle.cb_shared.specs.declared.reading.ReadAnswer.TheVariants as found
 use Rattle.cb_shared.specs.declared.ways.Way.{Way}
 use Rattle.cb_shared.specs.declared.ways.Way.TheVariants as ways
 use Rattle.cb_shared.specs.Calls.{AnswersBy, AsksFor, AtNone, AtThis, Brings, EndsAtLast, FoundFar}
-use Rattle.cb_shared.specs.Calls.{IsForWant, IsInVain, IsLack, IsReadJob, IsUnanswered, IsWriteJob, LooksOf}
+use Rattle.cb_shared.specs.Calls.{IsForWant, IsInVain, IsLack, IsReadJob, IsUnanswered, IsWriteJob}
+use Rattle.cb_shared.specs.Calls.{IsWriteJobAt, LooksOf}
 use Rattle.cb_shared.specs.Calls.{OfThis, ReadCallEnds, ReadStops, ReadTries, StopsBy, TriesBy}
 use Rattle.cb_shared.specs.Calls.{TriesInVain, TurnStops, TurnTries, WriteCallEnds, WriteStops}
 use Rattle.cb_shared.specs.Calls.{WriteTries, again_in, the_handle}
@@ -102,16 +103,17 @@ brings_land h = inr (inr refl)
 pub read_brings : (h : ℕ) (j : Job) → Brings h j → IsReadJob h j
 read_brings h j is = inl is
 
-pub write_own : (h at : ℕ) (bytes : List ℕ)
-    → IsWriteJob h at bytes (jobs.Write (the_handle h) at bytes)
-write_own h at bytes = inl refl
+pub write_own : (h at : ℕ) (bytes : List ℕ) (word : ℕ)
+    → IsWriteJobAt h at bytes word (jobs.Write (the_handle h) at bytes)
+write_own h at bytes word = inl refl
 
-pub write_fetch : (h at : ℕ) (bytes : List ℕ) (j : Job) → OfThis (jobs.Fetch (the_handle h)) j
-    → IsWriteJob h at bytes j
-write_fetch h at bytes j is = inr (inl is)
+pub write_fetch : (h at : ℕ) (bytes : List ℕ) (word : ℕ) (j : Job)
+    → OfThis (jobs.Fetch (the_handle h)) j → IsWriteJobAt h at bytes word j
+write_fetch h at bytes word j is = inr (inl is)
 
-pub write_land : (h at : ℕ) (bytes : List ℕ) → IsWriteJob h at bytes jobs.Land
-write_land h at bytes = inr (inr refl)
+pub write_land : (h at : ℕ) (bytes : List ℕ) (word : ℕ) → at + length bytes ≤ len_of word
+    → IsWriteJobAt h at bytes word jobs.Land
+write_land h at bytes word inside = inr (inr (refl, inside))
 
 -- ---- one turn of such a job
 module _ (on : ℕ → Type 0) (may : Job → Type 0) (job : Job) (is : may job)
@@ -159,24 +161,24 @@ way_knows c job o h v w is x knows = known_still AtNone (IsUnanswered (OfThis jo
     knows (vain_way c job o v w is x)
 
 -- a turn of a write's own job behind a fetch
-module _ (c : Config) (h at : ℕ) (bytes : List ℕ) (told : Option Reply)
+module _ (c : Config) (h at : ℕ) (bytes : List ℕ) (word : ℕ) (told : Option Reply)
     (r : Result (Option Reply) NoMemory) (v w u : View) (is : told ≡ None)
     (x : TriesBy c AtNone (OfThis (jobs.Fetch (the_handle h))) told v w) where
-  fetched_for : TriesInVain AtNone (IsUnanswered (IsWriteJob h at bytes)) v w
-  fetched_for = vain_by_wider (OfThis (jobs.Fetch (the_handle h))) (IsWriteJob h at bytes)
-      (write_fetch h at bytes) AtNone v w (vain_way c (jobs.Fetch (the_handle h)) told v w is x)
+  fetched_for : TriesInVain AtNone (IsUnanswered (IsWriteJobAt h at bytes word)) v w
+  fetched_for = vain_by_wider (OfThis (jobs.Fetch (the_handle h))) (IsWriteJobAt h at bytes word)
+      (write_fetch h at bytes word) AtNone v w (vain_way c (jobs.Fetch (the_handle h)) told v w is x)
 
   pub own_tries : IfOk r (λ o. TurnTries c (jobs.Write (the_handle h) at bytes) o w u)
-      → IfOk r (λ o. TriesBy c AtNone (IsWriteJob h at bytes) o v u)
-  own_tries y = IfOk-weaker r _ _ (λ o z. tries_by_then c AtNone (IsWriteJob h at bytes) o v w u
-      fetched_for (turn_tries AtNone (IsWriteJob h at bytes) (jobs.Write (the_handle h) at bytes)
-      (write_own h at bytes) (λ k n. n) c o w u (λ q. refl) z)) y
+      → IfOk r (λ o. TriesBy c AtNone (IsWriteJobAt h at bytes word) o v u)
+  own_tries y = IfOk-weaker r _ _ (λ o z. tries_by_then c AtNone (IsWriteJobAt h at bytes word) o v w u
+      fetched_for (turn_tries AtNone (IsWriteJobAt h at bytes word) (jobs.Write (the_handle h) at bytes)
+      (write_own h at bytes word) (λ k n. n) c o w u (λ q. refl) z)) y
 
   pub own_stops : OnErr r (TurnStops c (jobs.Write (the_handle h) at bytes) w u)
-      → OnErr r (StopsBy AtNone (IsWriteJob h at bytes) v u)
-  own_stops y = on_err_weaker r (λ z. stops_by_then (IsWriteJob h at bytes) v w u fetched_for
-      (turn_stops AtNone (IsWriteJob h at bytes) (jobs.Write (the_handle h) at bytes)
-      (write_own h at bytes) (λ k n. n) c w u z)) y
+      → OnErr r (StopsBy AtNone (IsWriteJobAt h at bytes word) v u)
+  own_stops y = on_err_weaker r (λ z. stops_by_then (IsWriteJobAt h at bytes word) v w u fetched_for
+      (turn_stops AtNone (IsWriteJobAt h at bytes word) (jobs.Write (the_handle h) at bytes)
+      (write_own h at bytes word) (λ k n. n) c w u z)) y
 
 -- ---- such turns behind a look that found the object far
 abbrev pub LooksFar : ℕ → View → View → Type 0

@@ -38,6 +38,7 @@ mod CallSteps
 mod FarSteps
 mod Fetches
 mod WriteParts
+mod Landings
 mod WorkedGround
 mod WorkedRights
 mod WorkedPins

@@ -22,6 +22,7 @@ use Rattle.cb_shared.specs.declared.answers.WriteAnswer.{WriteAnswer}
 use Rattle.cb_shared.specs.declared.answers.WriteAnswer.TheVariants as place
 use Rattle.cb_shared.specs.Glances.{IsLastAlone}
 use Rattle.cb_record.specs.Deeds.{deed, happened}
+use Rattle.cb_record.specs.Lists.{HasOne}
 use Rattle.cb_record.specs.Parts.{Part, Grows, grown, nothing_more, sum}
 pub use Rattle.cb_shared.specs.Trying.{again_in, newest_tries}
 use Rattle.cb_shared.specs.Reading.{FindsGone, FindsOther, FindsWord, IsReadHere, looked}
@@ -97,6 +98,13 @@ IsReadJob h job = Brings h job ⊎ (job ≡ jobs.Read (the_handle h))
 abbrev pub IsWriteJob : ℕ → ℕ → List ℕ → Job → Type 0
 IsWriteJob h at bytes job = (job ≡ jobs.Write (the_handle h) at bytes)
     ⊎ ((job ≡ jobs.Fetch (the_handle h)) ⊎ (job ≡ jobs.Land))
+
+-- so of one that found its object far with this word: the row is landed only where the bytes lie
+-- inside of the object
+abbrev pub IsWriteJobAt : ℕ → ℕ → List ℕ → ℕ → Job → Type 0
+IsWriteJobAt h at bytes word job = (job ≡ jobs.Write (the_handle h) at bytes)
+    ⊎ ((job ≡ jobs.Fetch (the_handle h))
+    ⊎ ((job ≡ jobs.Land) × (at + length bytes ≤ len_of word)))
 
 -- a turn of such a job that was told no answer to its call
 abbrev pub IsUnanswered : (Job → Type 0) → Turn → Type 0
@@ -268,6 +276,16 @@ abbrev pub WriteAnswers : Config → ℕ → ℕ → List ℕ → Reply → View
 WriteAnswers c h at bytes r v w = (d : Part)
     × EndsAtLast (AtThis h) (IsUnanswered (IsWriteJob h at bytes))
     (WriteCallEnds c h at bytes r) v d × Grows v d w
+
+-- a look that found the object far, with so many bytes from the byte number `at` on inside of it
+abbrev pub FoundInside : ℕ → ℕ → ℕ → Look → Type 0
+FoundInside h at count l =
+    (l.handle ≡ h) × (state_of l.word ≡ state.Far) × (at + count ≤ len_of l.word)
+
+-- the record grew, by a turn that landed a row only where it has such a look more
+abbrev pub LandsInside : ℕ → ℕ → ℕ → View → View → Type 0
+LandsInside h at count v w = (d : Part) × Grows v d w
+    × (HasOne (λ (t : Turn). t.job ≡ jobs.Land) d.turns → HasOne (FoundInside h at count) d.looks)
 
 -- a handle that was made is the pass's own
 abbrev pub TurnGives : Config → Job → Reply → View → View → Type 0

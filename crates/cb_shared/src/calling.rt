@@ -8,10 +8,10 @@ ghost use Rattle.cb_shared.specs.declared.answers.WriteAnswer.TheVariants as pla
 ghost use Rattle.cb_core.specs.Jobs.{IsJob, NeedsNoOrder};
 ghost use Rattle.cb_rule.specs.Steps.{Knows};
 ghost use Rattle.cb_shared.specs.Calls.{AtNone, AtThis, IsAnswerTo, IsCalled, IsLack, IsNoReply};
-ghost use Rattle.cb_shared.specs.Calls.{IsReadJob, IsWriteJob, ReadGives, ReadStops, ReadTries};
-ghost use Rattle.cb_shared.specs.Calls.{SaysAs, StopsBy, TellsOfIt, TellsWhatIs, TriesBy};
+ghost use Rattle.cb_shared.specs.Calls.{IsReadJob, IsWriteJobAt, LandsInside, ReadGives, ReadStops};
+ghost use Rattle.cb_shared.specs.Calls.{ReadTries, SaysAs, StopsBy, TellsOfIt, TellsWhatIs, TriesBy};
 ghost use Rattle.cb_shared.specs.Calls.{TurnGives, TurnStops, TurnTries, WriteAnswers, WriteStops};
-ghost use Rattle.cb_shared.specs.Calls.{WriteTries, the_handle};
+ghost use Rattle.cb_shared.specs.Calls.{WriteTries};
 ghost use Rattle.cb_record.specs.Parts.{Part, Grows};
 ghost use Rattle.cb_shared.specs.Fetching.{AreFetches, AreFetchesTo, GetsTurns, IsOneMore, IsOneOf};
 ghost use Rattle.cb_shared.specs.Making.{MakesNew, TriesNew};
@@ -94,6 +94,8 @@ impl Shared {
             (record_of pass.old) (record_of pass.new)) }
         ensures error { OnErr result (WriteStops self.now.config h.n at bytes.now
             (record_of pass.old) (record_of pass.new)) }
+        ensures lands { LandsInside h.n at (length bytes.now) (record_of pass.old)
+            (record_of pass.new) }
     {
         let mut patience = Patience::new();
         for _ in rt.forever() {
@@ -300,6 +302,8 @@ impl Shared {
             (record_of pass.old) (record_of pass.new)) }
         ensures error { OnErr result (WriteStops self.now.config h.n at bytes.now
             (record_of pass.old) (record_of pass.new)) }
+        ensures lands { LandsInside h.n at (length bytes.now) (record_of pass.old)
+            (record_of pass.new) }
     {
         let (word, answer) = self.write_seen(pass, h, at, bytes);
         if is_away(answer) {
@@ -330,8 +334,8 @@ impl Shared {
         requires knows { Knows h.n (record_of pass.old) }
         ensures of { IsPassOf self.now pass.new }
         ensures write { IfOk result (λ o. TriesBy self.now.config AtNone
-            (IsWriteJob h.n at bytes.now) o (record_of pass.old) (record_of pass.new)) }
-        ensures error { OnErr result (StopsBy AtNone (IsWriteJob h.n at bytes.now)
+            (IsWriteJobAt h.n at bytes.now word) o (record_of pass.old) (record_of pass.new)) }
+        ensures error { OnErr result (StopsBy AtNone (IsWriteJobAt h.n at bytes.now word)
             (record_of pass.old) (record_of pass.new)) }
     {
         match self.find_way(rt, pass, h, patience)? {

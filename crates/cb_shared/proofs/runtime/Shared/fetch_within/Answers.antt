@@ -1,5 +1,6 @@
-use Rattle.std.proofs.Common.{◌∙◌, ap, subst}
+use Rattle.std.proofs.Common.{◌∙◌, Option, ap, subst}
 use Rattle.cb_types.specs.declared.job.Job.TheVariants.{Fetch}
+use Rattle.cb_types.specs.declared.order.Kept.{Kept}
 use Rattle.cb_shared.specs.declared.asked.Asked.TheVariants as asks
 use Rattle.cb_shared.specs.declared.asked.Outcome.{Outcome}
 use Rattle.cb_shared.specs.Ordering.{CanRun, IsAnswered, keeps_of, told}
@@ -22,7 +23,8 @@ returns-clause-turn g c = subst (λ (o : Outcome). TurnBy c.args.self.now.config
 pub returns-clause-handed : goal.returns-clause-handed
 returns-clause-handed g c = let order = (record_of c.args.pass.now).order in
     fetch_handed c.into_fetching.result order (record_of c.ask-outcome.new.pass).order
-    (c.ask-outcome.ensures.keeps ∙ ap (λ (o : Outcome). keeps_of o order) c.into_fetching.ensures)
+    (◌∙◌ {A = Option Kept} c.ask-outcome.ensures.keeps
+    (ap (λ (o : Outcome). keeps_of o order) c.into_fetching.ensures))
 
 pub returns-clause-fits : goal.returns-clause-fits
 returns-clause-fits g c = let order = (record_of c.args.pass.now).order in

@@ -3,7 +3,7 @@ use Rattle.std.proofs.lemmas.Result.{IfOk-from_err, IfOk-weaker, on_err_weaker}
 use Rattle.cb_types.specs.declared.job.Job.TheVariants as jobs
 use Rattle.cb_types.specs.declared.reply.Reply.{Reply}
 use Rattle.cb_shared.specs.declared.ways.Way.{Way}
-use Rattle.cb_shared.specs.Calls.{AtNone, IsWriteJob, OfThis, TriesBy}
+use Rattle.cb_shared.specs.Calls.{AtNone, IsWriteJobAt, OfThis, TriesBy}
 use Rattle.cb_shared.specs.Passes.{record_of}
 use Rattle.cb_shared.specs.Ways.{HasWay, way_told}
 use Rattle.cb_shared.proofs.CallSteps.{err_always}
@@ -26,7 +26,7 @@ returns-in_err-order-clause-write g c = IfOk-from_err _ _ c.from_residual.ensure
 pub returns-in_err-order-clause-error : goal.returns-in_err-order-clause-error
 returns-in_err-order-clause-error g c = let h = c.args.h.n in let a = c.args.at in
     let b = c.args.bytes.now in err_always c.from_residual.result _
-    (turn_stops AtNone (IsWriteJob h a b) (jobs.Fetch c.args.h) (write_fetch h a b _ refl) (λ k x. x)
+    (turn_stops AtNone (IsWriteJobAt h a b c.args.word) (jobs.Fetch c.args.h) (write_fetch h a b c.args.word _ refl) (λ k x. x)
     c.args.self.now.config (record_of c.args.pass.now) (record_of c.find_way.new.pass)
     c.in_err-order.ensures.error)
 
@@ -66,10 +66,10 @@ returns-then-is_inside-clause-write g c = let h = c.args.h.n in let a = c.args.a
     let b = c.args.bytes.now in let k = c.args.self.now.config in
     let v = record_of c.args.pass.now in let w = record_of c.find_way.new.pass in
     let u = record_of c.land_order.new.pass in IfOk-weaker c.land_order.result _ _
-    (λ o x. tries_by_then k AtNone (IsWriteJob h a b) o v w u (vain_by_wider
-    (OfThis (jobs.Fetch c.args.h)) (IsWriteJob h a b) (write_fetch h a b) AtNone v w
+    (λ o x. tries_by_then k AtNone (IsWriteJobAt h a b c.args.word) o v w u (vain_by_wider
+    (OfThis (jobs.Fetch c.args.h)) (IsWriteJobAt h a b c.args.word) (write_fetch h a b c.args.word) AtNone v w
     (vain_way k (jobs.Fetch c.args.h) _ v w (ap way_told c.in-Made.is) c.in_ok-order.ensures.tries))
-    (turn_tries AtNone (IsWriteJob h a b) jobs.Land (write_land h a b) (λ j y. y) k o w u (λ r. refl)
+    (turn_tries AtNone (IsWriteJobAt h a b c.args.word) jobs.Land (write_land h a b c.args.word (c.is_inside.ensures.yes c.if-is_inside.true)) (λ j y. y) k o w u (λ r. refl)
     x)) c.land_order.ensures.turn
 
 pub returns-then-is_inside-clause-error : goal.returns-then-is_inside-clause-error
@@ -77,10 +77,10 @@ returns-then-is_inside-clause-error g c = let h = c.args.h.n in let a = c.args.a
     let b = c.args.bytes.now in let k = c.args.self.now.config in
     let v = record_of c.args.pass.now in let w = record_of c.find_way.new.pass in
     let u = record_of c.land_order.new.pass in on_err_weaker c.land_order.result
-    (λ x. stops_by_then (IsWriteJob h a b) v w u (vain_by_wider
-    (OfThis (jobs.Fetch c.args.h)) (IsWriteJob h a b) (write_fetch h a b) AtNone v w
+    (λ x. stops_by_then (IsWriteJobAt h a b c.args.word) v w u (vain_by_wider
+    (OfThis (jobs.Fetch c.args.h)) (IsWriteJobAt h a b c.args.word) (write_fetch h a b c.args.word) AtNone v w
     (vain_way k (jobs.Fetch c.args.h) _ v w (ap way_told c.in-Made.is) c.in_ok-order.ensures.tries))
-    (turn_stops AtNone (IsWriteJob h a b) jobs.Land (write_land h a b) (λ j y. y) k w u x))
+    (turn_stops AtNone (IsWriteJobAt h a b c.args.word) jobs.Land (write_land h a b c.args.word (c.is_inside.ensures.yes c.if-is_inside.true)) (λ j y. y) k w u x))
     c.land_order.ensures.error
 
 pub returns-else-is_inside-clause-of : goal.returns-else-is_inside-clause-of
@@ -88,13 +88,13 @@ returns-else-is_inside-clause-of g c = c.write_by_turn.ensures.of
 
 pub returns-else-is_inside-clause-write : goal.returns-else-is_inside-clause-write
 returns-else-is_inside-clause-write g c = own_tries c.args.self.now.config c.args.h.n c.args.at
-    c.args.bytes.now _ c.write_by_turn.result (record_of c.args.pass.now)
+    c.args.bytes.now c.args.word _ c.write_by_turn.result (record_of c.args.pass.now)
     (record_of c.find_way.new.pass) (record_of c.write_by_turn.new.pass) (ap way_told c.in-Made.is)
     c.in_ok-order.ensures.tries c.write_by_turn.ensures.turn
 
 pub returns-else-is_inside-clause-error : goal.returns-else-is_inside-clause-error
 returns-else-is_inside-clause-error g c = own_stops c.args.self.now.config c.args.h.n c.args.at
-    c.args.bytes.now _ c.write_by_turn.result (record_of c.args.pass.now)
+    c.args.bytes.now c.args.word _ c.write_by_turn.result (record_of c.args.pass.now)
     (record_of c.find_way.new.pass) (record_of c.write_by_turn.new.pass) (ap way_told c.in-Made.is)
     c.in_ok-order.ensures.tries c.write_by_turn.ensures.error
 
@@ -103,13 +103,13 @@ returns-in-Direct-clause-of g c = c.write_by_turn-in-Direct.ensures.of
 
 pub returns-in-Direct-clause-write : goal.returns-in-Direct-clause-write
 returns-in-Direct-clause-write g c = own_tries c.args.self.now.config c.args.h.n c.args.at
-    c.args.bytes.now _ c.write_by_turn-in-Direct.result (record_of c.args.pass.now)
+    c.args.bytes.now c.args.word _ c.write_by_turn-in-Direct.result (record_of c.args.pass.now)
     (record_of c.find_way.new.pass) (record_of c.write_by_turn-in-Direct.new.pass)
     (ap way_told c.in-Direct.is) c.in_ok-order.ensures.tries c.write_by_turn-in-Direct.ensures.turn
 
 pub returns-in-Direct-clause-error : goal.returns-in-Direct-clause-error
 returns-in-Direct-clause-error g c = own_stops c.args.self.now.config c.args.h.n c.args.at
-    c.args.bytes.now _ c.write_by_turn-in-Direct.result (record_of c.args.pass.now)
+    c.args.bytes.now c.args.word _ c.write_by_turn-in-Direct.result (record_of c.args.pass.now)
     (record_of c.find_way.new.pass) (record_of c.write_by_turn-in-Direct.new.pass)
     (ap way_told c.in-Direct.is) c.in_ok-order.ensures.tries
     c.write_by_turn-in-Direct.ensures.error
@@ -121,6 +121,6 @@ pub returns-in-Told-clause-write : goal.returns-in-Told-clause-write
 returns-in-Told-clause-write g c = let h = c.args.h.n in let a = c.args.at in
     let b = c.args.bytes.now in let k = c.args.self.now.config in
     let v = record_of c.args.pass.now in let w = record_of c.find_way.new.pass in
-    tries_by_wider (OfThis (jobs.Fetch c.args.h)) (IsWriteJob h a b) (write_fetch h a b) k AtNone
+    tries_by_wider (OfThis (jobs.Fetch c.args.h)) (IsWriteJobAt h a b c.args.word) (write_fetch h a b c.args.word) k AtNone
     c.in-Told.told v w (subst (λ (o : Option Reply). TriesBy k AtNone (OfThis (jobs.Fetch c.args.h))
     o v w) (ap way_told c.in-Told.is) c.in_ok-order.ensures.tries)
