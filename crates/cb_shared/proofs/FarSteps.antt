@@ -234,7 +234,7 @@ pub far_stops : (h : ℕ) (may : Job → Type 0) (v w u : View) → LooksFar h v
 far_stops h may v w u (word, far, grew) x = look_stops h word (IsUnanswered may) (IsForWant may)
     v w u (looked h word) refl grew x
 
-far_tries : (h : ℕ) (may : Job → Type 0) (v w u : View) → LooksFar h v w
+pub far_tries : (h : ℕ) (may : Job → Type 0) (v w u : View) → LooksFar h v w
     → TriesInVain (AtThis h) (IsUnanswered may) w u
     → TriesInVain (AtThis h) (IsUnanswered may) v u
 far_tries h may v w u (word, far, grew) x =

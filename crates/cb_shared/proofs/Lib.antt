@@ -59,6 +59,7 @@ mod WorkedFinds
 mod WorkedCalls
 mod WorkedTries
 mod WorkedVain
+mod WorkedWays
 mod WorkedMaking
 mod WorkedReplies
 mod WorkedAdds
