@@ -252,8 +252,8 @@ stops_before_its_row =
 
 stops_by_another_job : (x : StopsBy AtNone (Brings 1) part
     (grown (turned (told jobs.Evict None)) part)) → x.between ≡ part → ⊥
-stops_by_another_job x is = no_job x.last.turns (sym (ap (λ (v : View). v.turns) x.left)
-    ∙ ap (λ (v : View). x.last.turns ++ v.turns) is)
+stops_by_another_job x is = no_job x.last.turns
+    (ap (λ (v : View). x.last.turns ++ v.turns) (sym is) ∙ sym (ap (λ (v : View). v.turns) x.left))
     (subst (Each (IsForWant (Brings 1))) (sym (ap (λ (d : Part). d.turns) x.lacks.part)) x.lacks.of)
   where
     not_evict : Brings 1 jobs.Evict → ⊥
@@ -327,7 +327,7 @@ answers_by_evict x = eqb-false 4 6 refl (ap job_index
     newest [] = worn_turn jobs.Evict
     newest (t ∷ ts) = t
 
-    first_turn : {t : Turn} {e : Part} → worn_part swap ≡ e → newest (worn_part swap).turns ≡ newest e.turns
+    first_turn : {e : Part} → worn_part swap ≡ e → newest (worn_part swap).turns ≡ newest e.turns
     first_turn is = ap (λ (d : Part). newest d.turns) is
 
 answers_moving : (d : Part) → AnswersBy two (Brings 1) answer.Moving seen_far d → ⊥
