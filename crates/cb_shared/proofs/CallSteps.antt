@@ -23,12 +23,11 @@ use Rattle.cb_rule.specs.declared.view.View.{View}
 use Rattle.cb_rule.specs.Lists.{Each, Has}
 use Rattle.cb_rule.specs.Steps.{Knows, look_at}
 use Rattle.cb_rule.specs.TriesAgain.{tries_again}
-use Rattle.cb_shared.specs.Calls.{AsksFor, AtNone, AtThis, EndsAtLast, IsAnswer, IsAnswerTo}
-use Rattle.cb_shared.specs.Calls.{IsCalled, IsFetch, IsFetchForWant, IsForWant, IsInVain, IsLack}
-use Rattle.cb_shared.specs.Calls.{IsUnanswered, IsUnfetched, LooksOf, ReadCallEnds, ReadGives}
-use Rattle.cb_shared.specs.Calls.{ReadStops, ReadTries, ReadsInPlace, StopsInVain, TellsWhatIs}
-use Rattle.cb_shared.specs.Calls.{TriesInVain, TurnEnds, TurnGives, TurnStops, TurnTries, again_in}
-use Rattle.cb_shared.specs.Calls.{the_handle}
+use Rattle.cb_shared.specs.Calls.{AtNone, AtThis, Brings, EndsAtLast, IsAnswer, IsAnswerTo}
+use Rattle.cb_shared.specs.Calls.{IsCalled, IsForWant, IsInVain, IsLack, IsReadJob, IsUnanswered}
+use Rattle.cb_shared.specs.Calls.{LooksOf, OfThis, ReadCallEnds, ReadGives, ReadStops, ReadTries}
+use Rattle.cb_shared.specs.Calls.{ReadsInPlace, StopsInVain, TellsWhatIs, TriesInVain, TurnEnds}
+use Rattle.cb_shared.specs.Calls.{TurnGives, TurnStops, TurnTries, again_in}
 use Rattle.cb_record.specs.Deeds.{happening}
 use Rattle.cb_record.specs.Parts.{Part, Grows, grown, nothing_more, sum}
 use Rattle.cb_shared.specs.declared.reading.ReadAnswer.{ReadAnswer}
@@ -40,12 +39,12 @@ use Rattle.cb_shared.specs.Turning.{TurnAdds, TurnBy, answer_of, freed_of, made_
 use Rattle.cb_shared.specs.Turning.{object_of, turn_part, with_own}
 use Rattle.cb_shared.proofs.ReadParts.{grown_nothing, grown_sum}
 
-each_both : {A : Type 0} (P : A → Type 0) (xs ys : List A) → Each P xs → Each P ys
+pub each_both : {A : Type 0} (P : A → Type 0) (xs ys : List A) → Each P xs → Each P ys
     → Each P (xs ++ ys)
 each_both P [] ys a b = b
 each_both P (x ∷ xs) ys a b = (a.0, each_both P xs ys a.1 b)
 
-each_map : {A : Type 0} (P Q : A → Type 0) → ((x : A) → P x → Q x) → (xs : List A) → Each P xs
+pub each_map : {A : Type 0} (P Q : A → Type 0) → ((x : A) → P x → Q x) → (xs : List A) → Each P xs
     → Each Q xs
 each_map P Q f [] all = tt
 each_map P Q f (x ∷ xs) all = (f x all.0, each_map P Q f xs all.1)
@@ -87,6 +86,11 @@ module _ (on : ℕ → Type 0) (vain : Turn → Type 0) where
     next ∙ ap f (ap (grown e) is ∙ grown_sum d e v),
   )
 
+  pub ends_first : (P : View → Part → Type 0) (v w : View) (e : Part) → P v e → Grows v e w
+      → (x : Part) × EndsAtLast on vain P v x × Grows v x w
+  ends_first P v w e last grew =
+      ends_after P (λ (z : View). z) v v w nothing_more e vain_none (grown_nothing v) last grew
+
   -- no try yet
   pub so_far : (v : View) → TriesInVain on vain v v
   so_far v = (nothing_more, vain_none, grown_nothing v)
@@ -94,6 +98,25 @@ module _ (on : ℕ → Type 0) (vain : Turn → Type 0) where
   pub tries_then : (v w u : View) → TriesInVain on vain v w → TriesInVain on vain w u
       → TriesInVain on vain v u
   tries_then v w u (d, x, grew) y = tries_after v w u d x grew y
+
+  -- such tries in front of those of a call
+  pub ends_then : (P : View → Part → Type 0) (f : View → View) (v w u : View)
+      → TriesInVain on vain v w → (x : Part) × EndsAtLast on vain P w x × (u ≡ f (grown x w))
+      → (x : Part) × EndsAtLast on vain P v x × (u ≡ f (grown x v))
+  ends_then P f v w u (d, vain_so, is) (e, x, next) =
+      let at : grown x.before w ≡ grown (sum d x.before) v =
+      ap (grown x.before) is ∙ grown_sum d x.before v in (
+        sum (sum d x.before) x.last,
+        record {
+          before = sum d x.before;
+          last = x.last;
+          in_vain = vain_sum d x.before vain_so x.in_vain;
+          ends_so = subst (λ (z : View). P z x.last) at x.ends_so;
+          part = refl;
+        },
+        next ∙ ap f (ap (λ (z : Part). grown z w) x.part ∙ sym (grown_sum x.before x.last w)
+            ∙ ap (grown x.last) at ∙ grown_sum (sum d x.before) x.last v),
+      )
 
   -- or one that found no memory
   pub stops_then : (want : Turn → Type 0) (v w u : View) → TriesInVain on vain v w
@@ -243,16 +266,28 @@ read_looks again handle es answer.Crowded v d off (inr x) = last_looks handle.n 
 read_looks again handle es other v d off (inr x) = absurd x
 
 -- a turn that does not answer its call
+unanswered : (c : Config) (job : Job) (r : Reply) (v : View) (d : Part)
+    → (x : TurnAdds c job (Ok r) v d) → (IsAnswerTo (tries_again x.turn) job r → ⊥)
+    → IsUnanswered (OfThis job) x.turn
+unanswered c job r v d x off = (
+  x.job_is,
+  (
+    r,
+    x.reply_is,
+    λ y. off (subst (λ (j : Job). IsAnswerTo (tries_again x.turn) j r) x.job_is y),
+  ),
+)
+
 pub turn_vain : (c : Config) (job : Job) (r : Reply) (v : View) (d : Part) → IsCalled job
     → (x : TurnAdds c job (Ok r) v d) → (IsAnswerTo (tries_again x.turn) job r → ⊥)
-    → IsInVain (LooksOf job) (IsUnanswered job) d × (made_by_turn job (Some r) ≡ [])
+    → IsInVain (LooksOf job) (IsUnanswered (OfThis job)) d × (made_by_turn job (Some r) ≡ [])
 turn_vain c (jobs.Make bytes) r v d called x off =
     let other : (h : Handle) (w : ℕ) → r ≡ answer.Made h w → ⊥ =
     λ h w e. off (subst (IsAnswerTo (tries_again x.turn) (jobs.Make bytes)) (sym e) (inl tt)) in (
       vain_turn c (jobs.Make bytes) _ (Ok r) v d x (make_none bytes r x.more other x.wrote)
           (no_looks AtNone _ x.reads)
           (later_none (jobs.Make bytes) r _ x.later (λ _. refl) x.finds) (make_idle bytes r other)
-          (x.job_is, (r, x.reply_is, off)),
+          (unanswered c (jobs.Make bytes) r v d x off),
       made_none r other,
     )
 turn_vain c (jobs.Write handle at bytes) r v d called x off = (
@@ -262,7 +297,7 @@ turn_vain c (jobs.Write handle at bytes) r v d called x off = (
       (no_looks AtNone _ x.reads)
       (later_none (jobs.Write handle at bytes) r _ x.later
       (λ e. absurd (off (subst (IsAnswerTo (tries_again x.turn) (jobs.Write handle at bytes)) (sym e) (inl tt))))
-      x.finds) refl (x.job_is, (r, x.reply_is, off)),
+      x.finds) refl (unanswered c (jobs.Write handle at bytes) r v d x off),
   refl,
 )
 turn_vain c (jobs.Free handle) r v d called x off = (
@@ -272,13 +307,25 @@ turn_vain c (jobs.Free handle) r v d called x off = (
       (no_looks AtNone _ x.reads)
       (later_none (jobs.Free handle) r _ x.later
       (λ e. absurd (off (subst (IsAnswerTo (tries_again x.turn) (jobs.Free handle)) (sym e) (inl tt)))) x.finds) refl
-      (x.job_is, (r, x.reply_is, off)),
+      (unanswered c (jobs.Free handle) r v d x off),
   refl,
 )
 turn_vain c (jobs.Swap handle) r v d called x off = (
   vain_turn c (jobs.Swap handle) _ (Ok r) v d x x.wrote (no_looks AtNone _ x.reads)
       (later_none (jobs.Swap handle) r _ x.later (λ _. refl) x.finds) refl
-      (x.job_is, (r, x.reply_is, off)),
+      (unanswered c (jobs.Swap handle) r v d x off),
+  refl,
+)
+turn_vain c (jobs.Fetch handle) r v d called x off = (
+  vain_turn c (jobs.Fetch handle) _ (Ok r) v d x x.wrote (no_looks AtNone _ x.reads)
+      (later_none (jobs.Fetch handle) r _ x.later (λ _. refl) x.finds) refl
+      (unanswered c (jobs.Fetch handle) r v d x off),
+  refl,
+)
+turn_vain c jobs.Land r v d called x off = (
+  vain_turn c jobs.Land _ (Ok r) v d x x.wrote (no_looks AtNone _ x.reads)
+      (later_none jobs.Land r _ x.later (λ _. refl) x.finds) refl
+      (unanswered c jobs.Land r v d x off),
   refl,
 )
 turn_vain c (jobs.Read handle) r v d called x off = (
@@ -286,7 +333,7 @@ turn_vain c (jobs.Read handle) r v d called x off = (
       (read_looks (tries_again x.turn) handle x.turn.acts r v x.within off x.reads)
       (later_none (jobs.Read handle) r _ x.later
       (λ e. absurd (off (subst (IsAnswerTo (tries_again x.turn) (jobs.Read handle)) (sym e) (inl tt)))) x.finds) refl
-      (x.job_is, (r, x.reply_is, off)),
+      (unanswered c (jobs.Read handle) r v d x off),
   refl,
 )
 turn_vain c job r v d called x off = absurd called
@@ -294,7 +341,7 @@ turn_vain c job r v d called x off = absurd called
 -- nor does one that found no memory
 pub turn_lacks : (c : Config) (job : Job) (e : NoMemory) (v : View) (d : Part) → IsCalled job
     → TurnAdds c job (Err e) v d
-    → IsInVain (LooksOf job) (IsForWant job) d × (made_by_turn job None ≡ [])
+    → IsInVain (LooksOf job) (IsForWant (OfThis job)) d × (made_by_turn job None ≡ [])
 turn_lacks c (jobs.Make bytes) e v d called x = (
   vain_turn c (jobs.Make bytes) _ (Err e) v d x x.wrote (no_looks AtNone _ x.reads) x.finds refl
       (x.job_is, x.reply_is),
@@ -315,6 +362,16 @@ turn_lacks c (jobs.Swap handle) e v d called x = (
       (x.job_is, x.reply_is),
   refl,
 )
+turn_lacks c (jobs.Fetch handle) e v d called x = (
+  vain_turn c (jobs.Fetch handle) _ (Err e) v d x x.wrote (no_looks AtNone _ x.reads) x.finds refl
+      (x.job_is, x.reply_is),
+  refl,
+)
+turn_lacks c jobs.Land e v d called x = (
+  vain_turn c jobs.Land _ (Err e) v d x x.wrote (no_looks AtNone _ x.reads) x.finds refl
+      (x.job_is, x.reply_is),
+  refl,
+)
 turn_lacks c (jobs.Read handle) e v d called x = (
   vain_turn c (jobs.Read handle) _ (Err e) v d x x.wrote (lacking_looks x.reads) x.finds refl
       (x.job_is, x.reply_is),
@@ -327,7 +384,7 @@ turn_lacks c (jobs.Read handle) e v d called x = (
     lacking_looks (inr y) = (y.looks, y.on, y.part)
 turn_lacks c job e v d called x = absurd called
 
-grows_own : (made : List ℕ) (v w : View) (d : Part) → made ≡ [] → w ≡ with_own made (grown d v)
+pub grows_own : (made : List ℕ) (v w : View) (d : Part) → made ≡ [] → w ≡ with_own made (grown d v)
     → Grows v d w
 grows_own made v w d none is = is ∙ ap (λ (l : List ℕ). with_own l (grown d v)) none
 
@@ -367,7 +424,7 @@ turn_in_vain c job r again v w called told off (d, x, is) =
 pub turn_without : (c : Config) (job : Job) (e : NoMemory) (v w : View) → IsCalled job
     → TurnBy c job (Err e) v w → TurnStops c job v w
 turn_without c job e v w called (d, x, is) = let z = turn_lacks c job e v d called x in
-    stops_first (LooksOf job) (IsUnanswered job) (IsForWant job) v w d z.0
+    stops_first (LooksOf job) (IsUnanswered (OfThis job)) (IsForWant (OfThis job)) v w d z.0
     (subst (λ (l : List Turn). length l ≤ 1) (sym (ap (λ (q : Part). q.turns) x.part)) (lit≤ tt))
     (grows_own (made_by_turn job None) v w d z.1 is)
 
@@ -383,56 +440,48 @@ pub look_stops : (h word : ℕ) (vain want : Turn → Type 0) (v w u : View) (d 
 look_stops h word vain want v w u d is grew x = stops_then (AtThis h) vain want v w u
     (looked h word, vain_look h word vain, grew ∙ ap (λ (z : Part). grown z v) is) x
 
-pub look_asks : (c : Config) (h word : ℕ) (job : Job) (r : Reply) (v w u : View) (d e : Part)
-    → d ≡ looked h word → state_of word ≡ state.Far → Grows v d w → TurnEnds c job r w e
-    → made_by_turn job (Some r) ≡ [] → u ≡ with_own (made_by_turn job (Some r)) (grown e w)
-    → (x : Part) × AsksFor c job r h v x × Grows v x u
-look_asks c h word job r v w u d e is far grew ends none next =
-    let at : w ≡ grown (looked h word) v = grew ∙ ap (λ (z : Part). grown z v) is in (
-      sum (looked h word) e,
-      record {
-        word = word;
-        later = e;
-        away = far;
-        turned = subst (λ (z : View). TurnEnds c job r z e) at ends;
-        part = refl;
-      },
-      next ∙ ap (λ (l : List ℕ). with_own l (grown e w)) none ∙ ap (grown e) at
-          ∙ grown_sum (looked h word) e v,
-    )
-
 pub err_always : {T E : Type 0} (r : Result T E) (P : Type 0) → P → OnErr r P
 err_always (Ok x) P p = tt
 err_always (Err e) P p = p
 
-pub answers_yes : (again : Bool) (job : Job) (r : Reply)
-    → ((h : Handle) → job ≡ jobs.Swap h → ⊥) → ((h : Handle) → job ≡ jobs.Read h → ⊥)
-    → IsAnswer again r → IsAnswerTo again job r
-answers_yes again (jobs.Swap h) r off other x = absurd (off h refl)
-answers_yes again (jobs.Read h) r off other x = absurd (other h refl)
-answers_yes again job r off other x = x
+-- a job that tells something of its object
+abbrev pub IsTelling : Job → Type 0
+IsTelling job = ((h : Handle) → job ≡ jobs.Swap h → ⊥) × ((h : Handle) → job ≡ jobs.Fetch h → ⊥)
+    × (job ≡ jobs.Land → ⊥) × ((h : Handle) → job ≡ jobs.Read h → ⊥)
 
-pub answers_no : (again : Bool) (job : Job) (r : Reply)
-    → ((h : Handle) → job ≡ jobs.Swap h → ⊥) → ((h : Handle) → job ≡ jobs.Read h → ⊥)
+pub answers_yes : (again : Bool) (job : Job) (r : Reply) → IsTelling job
+    → IsAnswer again r → IsAnswerTo again job r
+answers_yes again (jobs.Swap h) r off x = absurd (off.0 h refl)
+answers_yes again (jobs.Fetch h) r off x = absurd (off.1 h refl)
+answers_yes again jobs.Land r off x = absurd (off.2 refl)
+answers_yes again (jobs.Read h) r off x = absurd (off.3 h refl)
+answers_yes again job r off x = x
+
+pub answers_no : (again : Bool) (job : Job) (r : Reply) → IsTelling job
     → IsAnswerTo again job r → IsAnswer again r
-answers_no again (jobs.Swap h) r off other x = absurd (off h refl)
-answers_no again (jobs.Read h) r off other x = absurd (other h refl)
-answers_no again job r off other x = x
+answers_no again (jobs.Swap h) r off x = absurd (off.0 h refl)
+answers_no again (jobs.Fetch h) r off x = absurd (off.1 h refl)
+answers_no again jobs.Land r off x = absurd (off.2 refl)
+answers_no again (jobs.Read h) r off x = absurd (off.3 h refl)
+answers_no again job r off x = x
 
 -- ---- what a read under a pin found
-abbrev Found : ℕ → ReadAnswer → View → View → Type 0
+abbrev pub Found : ℕ → ReadAnswer → View → View → Type 0
 Found h a v w = (d : Part) × Grows v d w × ReadFinds h a v d
 
 pub found_bytes : (c : Config) (h version : ℕ) (bytes : List ℕ) (a : ReadAnswer) (v w : View)
     → a ≡ found.Bytes version bytes → Found h a v w
     → ReadTries c h (Some (answer.Bytes version bytes)) v w
 found_bytes c h version bytes a v w is (d, grew, f) =
-    (d, inl (subst (λ (z : ReadAnswer). ReadFinds h z v d) is f), grew)
+    ends_first (AtThis h) (IsUnanswered (IsReadJob h))
+    (ReadCallEnds c h (answer.Bytes version bytes)) v w d
+    (inl (subst (λ (z : ReadAnswer). ReadFinds h z v d) is f)) grew
 
 pub found_freed : (c : Config) (h : ℕ) (a : ReadAnswer) (v w : View) → a ≡ found.Freed
     → Found h a v w → ReadTries c h (Some answer.Freed) v w
 found_freed c h a v w is (d, grew, f) =
-    (d, inl (subst (λ (z : ReadAnswer). ReadFinds h z v d) is f), grew)
+    ends_first (AtThis h) (IsUnanswered (IsReadJob h)) (ReadCallEnds c h answer.Freed) v w d
+    (inl (subst (λ (z : ReadAnswer). ReadFinds h z v d) is f)) grew
 
 one_look : (h word : ℕ) (vain : Turn → Type 0) (v w : View) (d : Part) → Grows v d w
     → d ≡ looked h word → TriesInVain (AtThis h) vain v w
@@ -481,54 +530,11 @@ found_hindered h vain (found.Raced saw other) v w is (d, grew, f) = (
 
 pub lacks_room : (c : Config) (h : ℕ) (v w : View)
     → (word : ℕ) × (state_of word ≡ state.Here) × Grows v (looked h word) w → ReadStops c h v w
-lacks_room c h v w (word, here, grew) = stops_first (AtThis h) (IsUnfetched h) (IsFetchForWant h)
-    v w (looked h word) (vain_look h word (IsFetchForWant h)) (lit≤ tt) grew
+lacks_room c h v w (word, here, grew) = stops_first (AtThis h) (IsUnanswered (IsReadJob h))
+    (IsForWant (IsReadJob h)) v w (looked h word) (vain_look h word (IsForWant (IsReadJob h)))
+    (lit≤ tt) grew
 
--- ---- the turns of a read
-fetch_looks : (h : ℕ) (job : Job) → IsFetch h job → (k : ℕ) → LooksOf job k → AtThis h k
-fetch_looks h job (inl is) k x = absurd (subst (λ (j : Job). LooksOf j k) is x)
-fetch_looks h job (inr is) k x = subst (λ (j : Job). LooksOf j k) is x
-
-pub fetch_called : (h : ℕ) (job : Job) → IsFetch h job → IsCalled job
-fetch_called h job (inl is) = subst IsCalled (sym is) tt
-fetch_called h job (inr is) = subst IsCalled (sym is) tt
-
-pub fetch_knows : (h : ℕ) (job : Job) (v : View) → IsFetch h job → Knows h v → KnowsOf job v
-fetch_knows h job v (inl is) knows = subst (λ (j : Job). KnowsOf j v) (sym is) tt
-fetch_knows h job v (inr is) knows = subst (λ (j : Job). KnowsOf j v) (sym is) knows
-
-pub fetch_job : (c : Config) (h : ℕ) (job : Job) → IsFetch h job → h < c.handles → IsJob c job
-fetch_job c h job (inl is) below = subst (IsJob c) (sym is) below
-fetch_job c h job (inr is) below = subst (IsJob c) (sym is) below
-
-fetch_makes : (h : ℕ) (job : Job) (r : Reply) → IsFetch h job → made_by_turn job (Some r) ≡ []
-fetch_makes h job r (inl is) = ap (λ (j : Job). made_by_turn j (Some r)) is
-fetch_makes h job r (inr is) = ap (λ (j : Job). made_by_turn j (Some r)) is
-
-far_look : (h : ℕ) (a : ReadAnswer) (v : View) (d : Part) → a ≡ found.NotHere → ReadFinds h a v d
-    → FindsWord h (λ word. state_of word ≡ state.Far) d
-far_look h a v d is f = subst (λ (z : ReadAnswer). ReadFinds h z v d) is f
-
-pub away_stops : (c : Config) (h : ℕ) (job : Job) (a : ReadAnswer) (v w u : View) → IsFetch h job
-    → a ≡ found.NotHere → Found h a v w → TurnStops c job w u → ReadStops c h v u
-away_stops c h job a v w u fetch is (d, grew, f) x = let y = far_look h a v d is f in
-    look_stops h y.0 (IsUnfetched h) (IsFetchForWant h) v w u d y.2 grew
-    (stops_wider (LooksOf job) (AtThis h) (IsUnanswered job) (IsUnfetched h) (IsForWant job)
-    (IsFetchForWant h) (fetch_looks h job fetch) (λ t z. (job, fetch, z)) (λ t z. (job, fetch, z))
-    w u x)
-
-pub away_tries : (c : Config) (h : ℕ) (job : Job) (a : ReadAnswer) (o : Option Reply)
-    (v w u : View) → IsFetch h job → a ≡ found.NotHere → Found h a v w → TurnTries c job o w u
-    → ReadTries c h o v u
-away_tries c h job a None v w u fetch is (d, grew, f) x = let y = far_look h a v d is f in
-    look_tries h y.0 (IsUnfetched h) v w u d y.2 grew
-    (tries_wider (LooksOf job) (AtThis h) (IsUnanswered job) (IsUnfetched h)
-    (fetch_looks h job fetch) (λ t z. (job, fetch, z)) w u x)
-away_tries c h job a (Some r) v w u fetch is (d, grew, f) (e, ends, next) =
-    let y = far_look h a v d is f in
-    let z = look_asks c h y.0 job r v w u d e y.2 y.1 grew ends (fetch_makes h job r fetch) next in
-    (z.0, inr (job, fetch, z.1), z.2)
-
+-- ---- what the record knows
 has_behind : {A : Type 0} (x : A) (xs ys : List A) → Has x ys → Has x (xs ++ ys)
 has_behind x [] ys has = has
 has_behind x (y ∷ xs) ys has = inr (has_behind x xs ys has)
@@ -546,23 +552,23 @@ in_place_tells h (answer.Bytes version bytes) v d x = tt
 in_place_tells h answer.Freed v d x = tt
 in_place_tells h r v d x = absurd x
 
--- a look has no turn
-pub asked_again : (c : Config) (job : Job) (r : Reply) (h : ℕ) (v : View) (d : Part)
-    → (x : AsksFor c job r h v d) → again_in d.turns ≡ again_in x.later.turns
-asked_again c job r h v d x = ap (λ (p : Part). again_in p.turns) x.part
-    ∙ ap again_in (append-nil x.later.turns)
+-- a turn that brings an object in tells nothing of it
+pub brings_lacks : (h : ℕ) (again : Bool) (job : Job) (r : Reply) → Brings h job
+    → IsAnswerTo again job r → IsLack again r
+brings_lacks h again job r (inl is) x = subst (λ (j : Job). IsAnswerTo again j r) is x
+brings_lacks h again job r (inr (inl is)) x = subst (λ (j : Job). IsAnswerTo again j r) is x
+brings_lacks h again job r (inr (inr is)) x = subst (λ (j : Job). IsAnswerTo again j r) is x
+
+read_asked : (h : ℕ) (again : Bool) (job : Job) (r : Reply) → IsReadJob h job
+    → IsAnswerTo again job r → TellsWhatIs r ⊎ IsLack again r
+read_asked h again job r (inl is) x = inr (brings_lacks h again job r is x)
+read_asked h again job r (inr is) x = subst (λ (j : Job). IsAnswerTo again j r) is x
 
 read_tells : (c : Config) (h : ℕ) (r : Reply) (v : View) (d : Part) → ReadCallEnds c h r v d
     → TellsWhatIs r ⊎ IsLack (again_in d.turns) r
 read_tells c h r v d (inl x) = inl (in_place_tells h r v d x)
-read_tells c h r v d (inr (job, inl is, x)) =
-    let y = subst (λ (j : Job). AsksFor c j r h v d) is x in
-    inr (subst (λ (b : Bool). IsLack b r) (sym (asked_again c (jobs.Swap (the_handle h)) r h v d y))
-    y.turned.0)
-read_tells c h r v d (inr (job, inr is, x)) =
-    let y = subst (λ (j : Job). AsksFor c j r h v d) is x in
-    subst (λ (b : Bool). TellsWhatIs r ⊎ IsLack b r)
-    (sym (asked_again c (jobs.Read (the_handle h)) r h v d y)) y.turned.0
+read_tells c h r v d (inr x) = let y = x.turned in
+    read_asked h (again_in d.turns) y.job r y.of y.ends.0
 
 -- where that tells nothing of its object, it tells why it can't be brought in
 pub read_lacks : (c : Config) (h : ℕ) (r : Reply) (v : View) (d : Part) → (TellsWhatIs r → ⊥)
@@ -595,21 +601,19 @@ new_at_last first on vain job o r v w is x new = new_before first on vain job r 
     (subst (λ (z : Option Reply). TriesNew first job z w) is new)
 
 pub read_again : (c : Config) (h : ℕ) (o : Option Reply) (v w u : View) → o ≡ None
-    → TriesInVain (AtThis h) (IsUnfetched h) v w → ReadTries c h o w u
-    → TriesInVain (AtThis h) (IsUnfetched h) v u
-read_again c h o v w u is x y = tries_then (AtThis h) (IsUnfetched h) v w u x
+    → ReadTries c h None v w → ReadTries c h o w u → ReadTries c h None v u
+read_again c h o v w u is x y = tries_then (AtThis h) (IsUnanswered (IsReadJob h)) v w u x
     (subst (λ (z : Option Reply). ReadTries c h z w u) is y)
 
 pub read_at_last : (c : Config) (h : ℕ) (o : Option Reply) (r : Reply) (v w u : View) → o ≡ Some r
-    → TriesInVain (AtThis h) (IsUnfetched h) v w → ReadTries c h o w u → ReadGives c h r v u
-read_at_last c h o r v w u is (d, x, grew) y =
-    let z : ReadTries c h (Some r) w u = subst (λ (q : Option Reply). ReadTries c h q w u) is y in
-    ends_after (AtThis h) (IsUnfetched h) (ReadCallEnds c h r) (λ (q : View). q) v w u d z.0
-    x grew z.1 z.2
+    → ReadTries c h None v w → ReadTries c h o w u → ReadGives c h r v u
+read_at_last c h o r v w u is x y = ends_then (AtThis h) (IsUnanswered (IsReadJob h))
+    (ReadCallEnds c h r) (λ (q : View). q) v w u x
+    (subst (λ (q : Option Reply). ReadTries c h q w u) is y)
 
 pub turn_again : (c : Config) (job : Job) (o : Option Reply) (v w u : View) → o ≡ None
     → TurnTries c job None v w → TurnTries c job o w u → TurnTries c job None v u
-turn_again c job o v w u is x y = tries_then (LooksOf job) (IsUnanswered job) v w u x
+turn_again c job o v w u is x y = tries_then (LooksOf job) (IsUnanswered (OfThis job)) v w u x
     (subst (λ (z : Option Reply). TurnTries c job z w u) is y)
 
 pub turn_at_last : (c : Config) (job : Job) (o : Option Reply) (r : Reply) (v w u : View)
@@ -617,5 +621,5 @@ pub turn_at_last : (c : Config) (job : Job) (o : Option Reply) (r : Reply) (v w 
 turn_at_last c job o r v w u is (d, x, grew) y =
     let z : TurnTries c job (Some r) w u =
     subst (λ (q : Option Reply). TurnTries c job q w u) is y in
-    ends_after (LooksOf job) (IsUnanswered job) (TurnEnds c job r)
+    ends_after (LooksOf job) (IsUnanswered (OfThis job)) (TurnEnds c job r)
     (with_own (made_by_turn job (Some r))) v w u d z.0 x grew z.1 z.2

@@ -4,8 +4,7 @@ use Rattle.std.specs.Prelude.{IfOk}
 use Rattle.cb_member.specs.declared.no_memory.NoMemory.{NoMemory}
 use Rattle.cb_types.specs.declared.config.Config.{Config}
 use Rattle.cb_types.specs.declared.job.Job.{Job}
-use Rattle.cb_types.specs.declared.job.Job.TheVariants.{Gather, Install, Fetch, Free, Land, Make}
-use Rattle.cb_types.specs.declared.job.Job.TheVariants.{Read, Swap, Write}
+use Rattle.cb_types.specs.declared.job.Job.TheVariants.{Gather, Install, Fetch, Land}
 use Rattle.cb_types.specs.declared.order.Kept.{Kept}
 use Rattle.cb_types.specs.declared.reply.Reply.{Reply}
 use Rattle.cb_types.specs.declared.reply.Reply.TheVariants.{NoRoom}
@@ -25,15 +24,6 @@ use Rattle.cb_rule.specs.TriesAgain.{is_to_try_again, job_pages, may_come_loose}
 use Rattle.cb_shared.specs.Calls.{IsCalled}
 use Rattle.cb_shared.specs.Turning.{Did, DidAs, DidBy, DidWith, Slate, TellsLost, held_by}
 use Rattle.cb_shared.specs.Turning.{slate_run, slate_shows}
-
--- the calls make turns of such jobs
-pub called_alone : (job : Job) → IsCalled job → NeedsNoOrder job
-called_alone (Make bytes) called = tt
-called_alone (Read handle) called = tt
-called_alone (Write handle at bytes) called = tt
-called_alone (Free handle) called = tt
-called_alone (Swap handle) called = tt
-called_alone job called = absurd called
 
 does_none : (p : OrderParts Slate) (job : Job) (order : Option Kept) (a : Holding Slate) (r : Reply)
     (keeps : Option Kept) (b : Holding Slate) → NeedsNoOrder job

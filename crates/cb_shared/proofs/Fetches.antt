@@ -5,7 +5,10 @@ use Rattle.std.proofs.Common.{append_assoc}
 use Rattle.cb_member.specs.declared.no_memory.NoMemory.{NoMemory}
 use Rattle.cb_types.specs.declared.config.Config.{Config}
 use Rattle.cb_types.specs.declared.job.Job.{Job}
+use Rattle.cb_types.specs.declared.job.Job.TheVariants as jobs
+use Rattle.cb_types.specs.declared.order.DecodeOrder.{DecodeOrder}
 use Rattle.cb_types.specs.declared.reply.Reply.{Reply}
+use Rattle.cb_types.specs.declared.reply.Reply.TheVariants as answer
 use Rattle.cb_ptr.specs.declared.word.State.TheVariants as state
 use Rattle.cb_ptr.specs.Word.{state_of}
 use Rattle.cb_rule.specs.declared.turn.Turn.{Turn}
@@ -13,15 +16,15 @@ use Rattle.cb_rule.specs.declared.view.View.{View}
 use Rattle.cb_record.specs.Parts.{Part, Grows}
 use Rattle.cb_shared.specs.declared.reading.ReadAnswer.{ReadAnswer}
 use Rattle.cb_shared.specs.declared.reading.ReadAnswer.TheVariants as found
-use Rattle.cb_shared.specs.Calls.{IsFetch}
-use Rattle.cb_shared.specs.Fetching.{AreFetches, AreFetchesTo, GetsTurns, IsOneMore, IsOneOf}
-use Rattle.cb_shared.specs.Fetching.{brings, brought_in_by, job_to_fetch}
+use Rattle.cb_shared.specs.declared.ways.Way.{Way}
+use Rattle.cb_shared.specs.declared.ways.Way.TheVariants as ways
+use Rattle.cb_shared.specs.Calls.{the_handle}
+use Rattle.cb_shared.specs.Fetching.{AreBringingTo, AreDone, AreFetches, AreFetchesTo, GetsTurns}
+use Rattle.cb_shared.specs.Fetching.{IsOneAtMost, IsOneMore, IsOneOf, brings, brought_in_by}
+use Rattle.cb_shared.specs.Fetching.{job_behind_fetch, job_behind_turn, job_to_fetch}
 use Rattle.cb_shared.specs.Reading.{ReadFinds, looked}
 use Rattle.cb_shared.specs.Turning.{TurnBy}
-
-pub fetch_is : (h : ℕ) (b : Bool) (job : Job) → job ≡ job_to_fetch h b → IsFetch h job
-fetch_is h false job is = inl is
-fetch_is h true job is = inr is
+use Rattle.cb_shared.specs.Ways.{IsFound, IsWayTold}
 
 -- ---- one turn after the other
 brought_more : (b : Bool) (us ts : List Turn)
@@ -29,11 +32,25 @@ brought_more : (b : Bool) (us ts : List Turn)
 brought_more b [] ts = refl
 brought_more b (u ∷ us) ts = ap (λ (x : Bool). brings u.reply || x) (brought_more b us ts)
 
-fetches_more : (h : ℕ) (b : Bool) (us ts : List Turn) → AreFetches h (brought_in_by b ts) us
-    → AreFetches h b ts → AreFetches h b (us ++ ts)
-fetches_more h b [] ts x y = y
-fetches_more h b (u ∷ us) ts x y =
-    (x.0 ∙ ap (job_to_fetch h) (brought_more b us ts), fetches_more h b us ts x.1 y)
+-- behind turns that are done the first one has the job that it has without these
+job_more : (h : ℕ) (b : Bool) (us ts : List Turn) → AreDone h ts
+    → job_to_fetch h b us ≡ job_to_fetch h b (us ++ ts)
+job_more h true us ts done = refl
+job_more h false [] ts done = sym done
+job_more h false (u ∷ us) ts done = refl
+
+done_more : (h : ℕ) (us ts : List Turn) → AreDone h ts → AreDone h us → AreDone h (us ++ ts)
+done_more h [] ts x y = x
+done_more h (u ∷ us) ts x y = y
+
+fetches_more : (h : ℕ) (b : Bool) (us ts : List Turn) → AreDone h ts
+    → AreFetches h (brought_in_by b ts) us → AreFetches h b ts → AreFetches h b (us ++ ts)
+fetches_more h b [] ts done x y = y
+fetches_more h b (u ∷ us) ts done x y = (
+  x.0 ∙ ap (λ (z : Bool). job_to_fetch h z us) (brought_more b us ts)
+      ∙ job_more h (brought_in_by b (us ++ ts)) us ts done,
+  fetches_more h b us ts done x.1 y,
+)
 
 turns_then : (ts us : List Turn) (v w u : View) → w.turns ≡ ts ++ v.turns → u.turns ≡ us ++ w.turns
     → u.turns ≡ (us ++ ts) ++ v.turns
@@ -43,26 +60,27 @@ turns_then ts us v w u got more =
 -- those of a read so far, and those of a try behind them
 pub fetches_then : (h : ℕ) (b m : Bool) (v w u : View) → GetsTurns (AreFetchesTo h b m) v w
     → GetsTurns (AreFetches h m) w u → GetsTurns (AreFetches h b) v u
-fetches_then h b m v w u (ts, got, (are, knows)) (us, more, new) = (
+fetches_then h b m v w u (ts, got, (are, knows, done)) (us, more, new) = (
   us ++ ts,
   turns_then ts us v w u got more,
-  fetches_more h b us ts (subst (λ (x : Bool). AreFetches h x us) knows new) are,
+  fetches_more h b us ts done (subst (λ (x : Bool). AreFetches h x us) knows new) are,
 )
 
 pub fetches_on : (h : ℕ) (b m n : Bool) (v w u : View) → GetsTurns (AreFetchesTo h b m) v w
     → GetsTurns (AreFetchesTo h m n) w u → GetsTurns (AreFetchesTo h b n) v u
-fetches_on h b m n v w u (ts, got, (are, knows)) (us, more, (new, after)) = (
+fetches_on h b m n v w u (ts, got, (are, knows, done)) (us, more, (new, after, then_done)) = (
   us ++ ts,
   turns_then ts us v w u got more,
   (
-    fetches_more h b us ts (subst (λ (x : Bool). AreFetches h x us) knows new) are,
+    fetches_more h b us ts done (subst (λ (x : Bool). AreFetches h x us) knows new) are,
     after ∙ ap (λ (k : Bool). brought_in_by k us) knows ∙ brought_more b us ts,
+    done_more h us ts done then_done,
   ),
 )
 
 pub fetches_none : (h : ℕ) (b m : Bool) (v w : View) → w.turns ≡ v.turns → m ≡ b
     → GetsTurns (AreFetchesTo h b m) v w
-fetches_none h b m v w same is = ([], same, (tt, is))
+fetches_none h b m v w same is = ([], same, (tt, is, refl))
 
 pub no_fetches : (h : ℕ) (b : Bool) (v w : View) → w.turns ≡ v.turns → GetsTurns (AreFetches h b) v w
 no_fetches h b v w same = ([], same, tt)
@@ -107,19 +125,137 @@ one_more c job r b m v w (d, x, is) after = (
   ),
 )
 
--- behind a read under a pin it is that of the read
-pub fetched : (h : ℕ) (b : Bool) (job : Job) (v w u : View) → job ≡ job_to_fetch h b
-    → w.turns ≡ v.turns → GetsTurns (IsOneOf job) w u → GetsTurns (AreFetches h b) v u
-fetched h b job v w u fetch same (ts, got, (t, is, of)) = (
+pub at_most_one : (job : Job) (v w : View) → GetsTurns (IsOneOf job) v w
+    → GetsTurns (IsOneAtMost job) v w
+at_most_one job v w (ts, got, one) = (ts, got, inr one)
+
+-- behind a call that made none they are those of both
+pub gets_behind : (P : List Turn → Type 0) (v w u : View) → w.turns ≡ v.turns → GetsTurns P w u
+    → GetsTurns P v u
+gets_behind P v w u same (ts, got, of) = (ts, got ∙ ap (λ (xs : List Turn). ts ++ xs) same, of)
+
+-- ---- a turn that reads the object too
+reads_at : (h : ℕ) (b : Bool) → b ≡ true → jobs.Read (the_handle h) ≡ job_to_fetch h b []
+reads_at h b is = ap (λ (x : Bool). job_to_fetch h x []) (sym is)
+
+pub read_fetched : (h : ℕ) (b : Bool) (v w : View) → b ≡ true
+    → GetsTurns (IsOneOf (jobs.Read (the_handle h))) v w → GetsTurns (AreFetches h b) v w
+read_fetched h b v w is (ts, got, (t, one, of)) =
+    (ts, got, subst (AreFetches h b) (sym one) (of ∙ reads_at h b is, tt))
+
+pub read_fetched_more : (h : ℕ) (b m : Bool) (v w : View) → b ≡ true
+    → GetsTurns (IsOneMore (jobs.Read (the_handle h)) b m) v w
+    → GetsTurns (AreFetchesTo h b m) v w
+read_fetched_more h b m v w is (ts, got, ((t, one, of), after)) = (
   ts,
-  got ∙ ap (λ (xs : List Turn). ts ++ xs) same,
-  subst (AreFetches h b) (sym is) (of ∙ fetch, tt),
+  got,
+  (
+    subst (AreFetches h b) (sym one) (of ∙ reads_at h b is, tt),
+    after,
+    subst (AreDone h) (sym one) (ap (λ (j : Job). job_behind_turn h j t.reply) of),
+  ),
 )
 
-pub fetched_more : (h : ℕ) (b m : Bool) (job : Job) (v w u : View) → job ≡ job_to_fetch h b
-    → w.turns ≡ v.turns → GetsTurns (IsOneMore job b m) w u → GetsTurns (AreFetchesTo h b m) v u
-fetched_more h b m job v w u fetch same (ts, got, ((t, is, of), after)) = (
+-- ---- turns that bring it in
+pub fetches_first : (h : ℕ) (b : Bool) (v w : View) → b ≡ false
+    → GetsTurns (AreFetches h false) v w → GetsTurns (AreFetches h b) v w
+fetches_first h b v w is x = subst (λ (z : Bool). GetsTurns (AreFetches h z) v w) (sym is) x
+
+pub bringing_first : (h : ℕ) (b m : Bool) (v w : View) → b ≡ false
+    → GetsTurns (AreBringingTo h b m) v w → GetsTurns (AreFetchesTo h b m) v w
+bringing_first h b m v w is (ts, got, (are, after, done)) =
+    (ts, got, (subst (λ (z : Bool). AreFetches h z ts) (sym is) are, after, done))
+
+pub fetch_first : (h : ℕ) (v w : View) → GetsTurns (IsOneOf (jobs.Fetch (the_handle h))) v w
+    → GetsTurns (AreFetches h false) v w
+fetch_first h v w (ts, got, (t, one, of)) =
+    (ts, got, subst (AreFetches h false) (sym one) (of, tt))
+
+pub found_first : (h : ℕ) (way : Way) (b m : Bool) (v w : View)
+    → GetsTurns (IsFound h way b m) v w → GetsTurns (AreFetches h false) v w
+found_first h way b m v w (ts, got, (t, one, of, told, after)) =
+    (ts, got, subst (AreFetches h false) (sym one) (of, tt))
+
+pub found_told : (h : ℕ) (r : Option Reply) (way : Way) (b m : Bool) (v w : View)
+    → way ≡ ways.Told r → GetsTurns (IsFound h way b m) v w → GetsTurns (AreBringingTo h b m) v w
+found_told h r way b m v w is (ts, got, (t, one, of, told, after)) = (
   ts,
-  got ∙ ap (λ (xs : List Turn). ts ++ xs) same,
-  (subst (AreFetches h b) (sym is) (of ∙ fetch, tt), after),
+  got,
+  (
+    subst (AreFetches h false) (sym one) (of, tt),
+    after ∙ ap (brought_in_by b) (sym one),
+    subst (AreDone h) (sym one) (ap (λ (j : Job). job_behind_turn h j t.reply) of
+        ∙ subst (λ (z : Way). IsWayTold z t.reply) is told h),
+  ),
 )
+
+-- one behind a fetch that was told so, after which it is fetched again
+module _ (h : ℕ) (next : Job) (told : Option Reply) (none : brings told ≡ false)
+    (behind : next ≡ job_behind_fetch h told)
+    (last : (r : Option Reply) → job_behind_turn h next r ≡ jobs.Fetch (the_handle h)) where
+  second : (t s : Turn) → t.job ≡ jobs.Fetch (the_handle h) → t.reply ≡ told → s.job ≡ next
+      → AreFetches h false (s ∷ t ∷ [])
+  second t s of reply is = (
+    is ∙ behind ∙ sym (ap (λ (x : Bool). job_to_fetch h x (t ∷ []))
+        (ap (λ (r : Option Reply). brings r || false) reply ∙ ap (λ (x : Bool). x || false) none)
+        ∙ (λ i. job_behind_turn h (of i) (reply i))),
+    (of, tt),
+  )
+
+  second_at_most : (b m : Bool) (v w u : View) → GetsTurns (λ ts. (t : Turn) × (ts ≡ t ∷ [])
+      × (t.job ≡ jobs.Fetch (the_handle h)) × (t.reply ≡ told) × (m ≡ (brings t.reply || b))) v w
+      → GetsTurns (IsOneAtMost next) w u → GetsTurns (AreFetches h false) v u
+  second_at_most b m v w u (ts, got, (t, one, of, reply, knows)) (us, more, inl is) = (
+    us ++ ts,
+    turns_then ts us v w u got more,
+    subst (AreFetches h false) (sym (λ i. is i ++ one i)) (of, tt),
+  )
+  second_at_most b m v w u (ts, got, (t, one, of, reply, knows)) (us, more, inr (s, is, job)) = (
+    us ++ ts,
+    turns_then ts us v w u got more,
+    subst (AreFetches h false) (sym (λ i. is i ++ one i)) (second t s of reply job),
+  )
+
+  second_more : (b m n : Bool) (v w u : View) → GetsTurns (λ ts. (t : Turn) × (ts ≡ t ∷ [])
+      × (t.job ≡ jobs.Fetch (the_handle h)) × (t.reply ≡ told) × (m ≡ (brings t.reply || b))) v w
+      → GetsTurns (IsOneMore next m n) w u → GetsTurns (AreBringingTo h b n) v u
+  second_more b m n v w u (ts, got, (t, one, of, reply, knows)) (us, more, ((s, is, job), after)) =
+      let all : us ++ ts ≡ s ∷ t ∷ [] = (λ i. is i ++ one i) in (
+        us ++ ts,
+        turns_then ts us v w u got more,
+        (
+          subst (AreFetches h false) (sym all) (second t s of reply job),
+          after ∙ (λ i. brought_in_by (knows i) (is i)) ∙ ap (brought_in_by b) (sym all),
+          subst (AreDone h) (sym all)
+              (ap (λ (j : Job). job_behind_turn h j s.reply) job ∙ last s.reply),
+        ),
+      )
+
+-- so a row that is landed, and one that is swapped in
+module _ (h : ℕ) (way : Way) (b m : Bool) (v w u : View) (x : GetsTurns (IsFound h way b m) v w)
+  where
+    found_as : (z : Way) → way ≡ z → GetsTurns (IsFound h z b m) v w
+    found_as z is = subst (λ (y : Way). GetsTurns (IsFound h y b m) v w) is x
+
+    pub landed_at_most : (o : DecodeOrder) → way ≡ ways.Made o
+        → GetsTurns (IsOneAtMost jobs.Land) w u → GetsTurns (AreFetches h false) v u
+    landed_at_most o is y = second_at_most h jobs.Land
+        (Some (answer.Fetched (record { n = o.set }) o.position)) refl refl (λ r. refl) b m v w u
+        (found_as (ways.Made o) is) y
+
+    pub landed_more : (o : DecodeOrder) (n : Bool) → way ≡ ways.Made o
+        → GetsTurns (IsOneMore jobs.Land m n) w u → GetsTurns (AreBringingTo h b n) v u
+    landed_more o n is y = second_more h jobs.Land
+        (Some (answer.Fetched (record { n = o.set }) o.position)) refl refl (λ r. refl) b m n v w u
+        (found_as (ways.Made o) is) y
+
+    pub swapped_one : way ≡ ways.Direct → GetsTurns (IsOneOf (jobs.Swap (the_handle h))) w u
+        → GetsTurns (AreFetches h false) v u
+    swapped_one is (us, more, one) = second_at_most h (jobs.Swap (the_handle h)) (Some answer.Direct)
+        refl refl (λ r. refl) b m v w u (found_as ways.Direct is) (us, more, inr one)
+
+    pub swapped_more : (n : Bool) → way ≡ ways.Direct
+        → GetsTurns (IsOneMore (jobs.Swap (the_handle h)) m n) w u
+        → GetsTurns (AreBringingTo h b n) v u
+    swapped_more n is y = second_more h (jobs.Swap (the_handle h)) (Some answer.Direct) refl refl
+        (λ r. refl) b m n v w u (found_as ways.Direct is) y

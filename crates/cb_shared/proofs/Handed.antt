@@ -12,6 +12,8 @@ use Rattle.cb_types.specs.declared.order.Kept.{Kept}
 use Rattle.cb_types.specs.declared.order.Kept.TheVariants.{Encode, Decode}
 use Rattle.cb_types.specs.declared.reply.Reply.{Reply}
 use Rattle.cb_types.specs.declared.reply.Reply.TheVariants as answer
+use Rattle.cb_types.specs.Orders.{IsDecodable}
+use Rattle.cb_world.specs.declared.shown.Shown.{Shown}
 use Rattle.cb_world.specs.FarState.{FarState}
 use Rattle.cb_evict.specs.declared.gathering.Gathered.{Gathered}
 use Rattle.cb_evict.specs.declared.gathering.Gathered.TheVariants as gathered
@@ -19,6 +21,7 @@ use Rattle.cb_evict.specs.Gathering.{gathered_order}
 use Rattle.cb_swapin.specs.declared.fetching.Fetching.{Fetching}
 use Rattle.cb_swapin.specs.declared.fetching.Fetching.TheVariants as fetching
 use Rattle.cb_swapin.specs.FetchStep.{fetching_order}
+use Rattle.cb_core.specs.OrderLeaves.{fetch_hands}
 use Rattle.cb_core.specs.OrderParts.{decode_in}
 use Rattle.cb_rule.specs.declared.view.View.{View}
 use Rattle.cb_rule.specs.Slot.{Sat}
@@ -28,9 +31,9 @@ use Rattle.cb_shared.specs.declared.asked.Asked.{Asked}
 use Rattle.cb_shared.specs.declared.asked.Asked.TheVariants as asks
 use Rattle.cb_shared.specs.declared.asked.Outcome.{Outcome}
 use Rattle.cb_shared.specs.declared.asked.Outcome.TheVariants as ends
-use Rattle.cb_shared.specs.Ordering.{IsAnswered, IsFetched, IsGathered, IsInstalled, IsLanded}
-use Rattle.cb_shared.specs.Ordering.{IsNoWant, MayAsk, behind_fetch, behind_gather, fetch_told}
-use Rattle.cb_shared.specs.Ordering.{fetched_of, gather_told, job_of, order_run, told}
+use Rattle.cb_shared.specs.Ordering.{CanRun, IsAnswered, IsFetched, IsGathered, IsInstalled}
+use Rattle.cb_shared.specs.Ordering.{IsLanded, IsNoWant, MayAsk, behind_fetch, behind_gather}
+use Rattle.cb_shared.specs.Ordering.{fetch_told, fetched_of, gather_told, job_of, order_run, told}
 use Rattle.cb_shared.specs.Seats.{SeatAt, record_at}
 use Rattle.cb_shared.specs.Turning.{answer_of, freed_of, object_of}
 use Rattle.cb_shared.specs.UnderLock.{FreedMoves, IsBelow, TurnedBy}
@@ -79,6 +82,12 @@ pub fetch_handed : (r : Result Fetching NoMemory) (order new : Option Kept)
     → IfOk r (λ g. (o : DecodeOrder) → g ≡ fetching.Order o → new ≡ Some (Decode o))
 fetch_handed (Ok g) order new is = λ o e. is ∙ ap (fetching_order order) e
 fetch_handed (Err x) order new is = tt
+
+-- an order that was handed out, and can be run, is in range with its rows
+pub fetch_fits : (r : Result Fetching NoMemory) → CanRun (fetch_hands r)
+    → IfOk r (λ g. (o : DecodeOrder) → g ≡ fetching.Order o → IsDecodable o)
+fetch_fits (Ok g) runs = λ o e. subst (λ (z : Fetching). CanRun (fetch_hands (Ok z))) e runs
+fetch_fits (Err x) runs = tt
 
 -- the object that is looked at behind a fetch is in range
 pub fetched_below : (c : Config) (h : ℕ) (r : Result Reply NoMemory) → h < c.handles

@@ -35,8 +35,10 @@ mod ReadKept
 mod Glanced
 mod Seeking
 mod CallSteps
+mod FarSteps
 mod Fetches
 mod WriteParts
+mod Landings
 mod WorkedGround
 mod WorkedRights
 mod WorkedPins
@@ -57,6 +59,7 @@ mod WorkedFinds
 mod WorkedCalls
 mod WorkedTries
 mod WorkedVain
+mod WorkedWays
 mod WorkedMaking
 mod WorkedReplies
 mod WorkedAdds

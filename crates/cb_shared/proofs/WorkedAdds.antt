@@ -8,6 +8,7 @@ use Rattle.cb_member.specs.declared.no_memory.NoMemory.{NoMemory}
 use Rattle.cb_types.specs.declared.config.Field.TheVariants.{K}
 use Rattle.cb_types.specs.Config.{IsAccepted}
 use Rattle.cb_types.specs.declared.handle.SetId.{SetId}
+use Rattle.cb_types.specs.declared.job.Job.{Job}
 use Rattle.cb_types.specs.declared.job.Job.TheVariants as jobs
 use Rattle.cb_types.specs.declared.reply.Reply.{Reply}
 use Rattle.cb_types.specs.declared.reply.Reply.TheVariants as answer
@@ -29,10 +30,10 @@ use Rattle.cb_record.specs.Parts.{Part, grown, nothing_more, sum}
 use Rattle.cb_shared.specs.declared.answers.WriteAnswer.TheVariants as place
 use Rattle.cb_shared.specs.declared.pass.Pass.{Pass}
 use Rattle.cb_shared.specs.declared.runtime.Shared.{Shared}
-use Rattle.cb_shared.specs.Calls.{AsksFor, AtNone, AtThis, EndsAtLast, IsAnswer, IsInVain}
-use Rattle.cb_shared.specs.Calls.{IsUnanswered, IsUnfetched, IsWrittenOnce, ReadCallEnds, ReadTries}
-use Rattle.cb_shared.specs.Calls.{TurnGives, WriteAnswers, WriteCallEnds, again_in, the_handle}
-use Rattle.cb_shared.specs.Calls.{written_once}
+use Rattle.cb_shared.specs.Calls.{AsksFor, AtNone, AtThis, Brings, EndsAtLast, IsAnswer, IsAnswerTo}
+use Rattle.cb_shared.specs.Calls.{IsInVain, IsReadJob, IsUnanswered, IsWriteJob, IsWrittenOnce}
+use Rattle.cb_shared.specs.Calls.{OfThis, ReadCallEnds, TurnGives, WriteAnswers, WriteCallEnds}
+use Rattle.cb_shared.specs.Calls.{again_in, the_handle, written_once}
 use Rattle.cb_shared.specs.Joining.{IsSpare}
 use Rattle.cb_shared.specs.Passes.{IsPassOf}
 use Rattle.cb_shared.specs.Reading.{FindsGone, IsReadHere, looked, looked_freed, read_once}
@@ -43,6 +44,7 @@ use Rattle.cb_shared.proofs.WorkedGround.{a_stand, away, calm, made, moving, new
 use Rattle.cb_shared.proofs.WorkedGround.{part, pinned, two, whole, word_in, words_in}
 use Rattle.cb_shared.proofs.WorkedReads.{eight_bytes}
 use Rattle.cb_shared.proofs.WorkedSeat.{tells}
+use Rattle.cb_shared.proofs.CallSteps.{brings_lacks}
 use Rattle.cb_shared.proofs.DidAlone.{turn_alone}
 use Rattle.cb_shared.proofs.WorkedTurns.{DidJob, worn_turn}
 use Rattle.cb_shared.proofs.WorkedVain.{asks_turns}
@@ -50,15 +52,15 @@ use Rattle.cb_shared.proofs.WorkedUnder.{beginner, far, known, last}
 
 -- ---- tries in vain make turns of their job alone
 turned_in_vain : (t : Turn) → t.job ≡ jobs.Evict
-    → IsInVain AtNone (IsUnanswered (jobs.Make [])) (record nothing_more { turns = t ∷ [] }) → ⊥
+    → IsInVain AtNone (IsUnanswered (OfThis (jobs.Make []))) (record nothing_more { turns = t ∷ [] }) → ⊥
 turned_in_vain t work x = absurd (let e = sym work
-    ∙ (subst (Each (IsUnanswered (jobs.Make []))) (sym (ap (λ (d : Part). d.turns) x.part))
+    ∙ (subst (Each (IsUnanswered (OfThis (jobs.Make [])))) (sym (ap (λ (d : Part). d.turns) x.part))
     x.of).0.0 in cc)
 
 -- ---- a read that found the object freed at last: with an entry of no try, or with a pin beside it
 abbrev ReadsFreed : Part → Type 0
 ReadsFreed d =
-    EndsAtLast (AtThis 1) (IsUnfetched 1) (ReadCallEnds two 1 answer.Freed) part d
+    EndsAtLast (AtThis 1) (IsUnanswered (IsReadJob 1)) (ReadCallEnds two 1 answer.Freed) part d
 
 -- it was a look, where the part has no turn
 in_place : (d : Part) (x : ReadsFreed d) → length d.turns ≡ 0
@@ -68,10 +70,10 @@ in_place d x none = by x.ends_so
     by : ReadCallEnds two 1 answer.Freed (grown x.before part) x.last
         → FindsGone 1 (grown x.before part) x.last
     by (inl gone) = gone
-    by (inr (j, fetch, a)) =
+    by (inr a) =
         let turns : length d.turns ≡ length (x.last.turns ++ x.before.turns) =
         ap (λ (e : Part). length e.turns) x.part in
-        let one = asks_turns two j answer.Freed 1 _ x.last a in
+        let one = asks_turns two (IsReadJob 1) answer.Freed 1 _ x.last a in
         absurd (omega (arith, none, turns, one, length-append x.last.turns x.before.turns))
 
 reads_and_writes : ReadsFreed record (looked_freed 1 3 0) { written = made ∷ [] } → ⊥
@@ -92,11 +94,12 @@ reads_and_pins x =
 -- a refusal is that of a turn
 reads_worn_without_a_turn : ReadCallEnds two 1 answer.Worn part (looked 1 calm) → ⊥
 reads_worn_without_a_turn (inl x) = x
-reads_worn_without_a_turn (inr (j, fetch, a)) =
-    eqb-false 0 1 refl (asks_turns two j answer.Worn 1 part (looked 1 calm) a)
+reads_worn_without_a_turn (inr a) =
+    eqb-false 0 1 refl (asks_turns two (IsReadJob 1) answer.Worn 1 part (looked 1 calm) a)
 
-asks_and_moves : (d : Part) → AsksFor two (jobs.Swap (the_handle 1)) answer.Moving 1 part d → ⊥
-asks_and_moves d a = a.turned.0
+asks_and_moves : (d : Part) → AsksFor two (Brings 1) answer.Moving 1 part d → ⊥
+asks_and_moves d a =
+    brings_lacks 1 (again_in d.turns) a.turned.job answer.Moving a.turned.of a.turned.ends.0
 
 -- ---- a write in place of one byte
 abbrev Once : ℕ → Part → Type 0
@@ -363,19 +366,18 @@ ends_writing_moving v d (inr asks) = asks_no_more asks
     answers_none again (inl t) = t
     answers_none again (inr l) = l
 
-    asks_no_more : AsksFor two (jobs.Write (the_handle 1) 1 (12 ∷ [])) answer.Moving 1 v d → ⊥
-    asks_no_more a = answers_none (again_in a.later.turns) a.turned.0
+    no_answer : (again : Bool) (j : Job) → IsWriteJob 1 1 (12 ∷ []) j
+        → IsAnswerTo again j answer.Moving → ⊥
+    no_answer again j (inl is) x =
+        answers_none again (subst (λ (k : Job). IsAnswerTo again k answer.Moving) is x)
+    no_answer again j (inr (inl is)) x = subst (λ (k : Job). IsAnswerTo again k answer.Moving) is x
+    no_answer again j (inr (inr is)) x = subst (λ (k : Job). IsAnswerTo again k answer.Moving) is x
+
+    asks_no_more : AsksFor two (IsWriteJob 1 1 (12 ∷ [])) answer.Moving 1 v d → ⊥
+    asks_no_more a = no_answer (again_in d.turns) a.turned.job a.turned.of a.turned.ends.0
 
 writes_moving : (v w : View) → WriteAnswers two 1 1 (12 ∷ []) answer.Moving v w → ⊥
 writes_moving v w (d, x, is) = ends_writing_moving (grown x.before v) x.last x.ends_so
-
-reads_unread : ReadTries two 1 (Some answer.Freed) part (with_look 1 0 part) → ⊥
-reads_unread (d, inl x, is) = eqb-false 0 1 refl (ap (λ (v : View). length v.seen) is
-    ∙ ap (λ (e : Part). length (e.seen ++ [])) x.4)
-reads_unread (d, inr (j, fetch, a), is) =
-    let none : 0 ≡ length (d.turns ++ []) = ap (λ (v : View). length v.turns) is in
-    let one = asks_turns two j answer.Freed 1 part d a in
-    let all = length-append d.turns [] in absurd (omega (arith, none, one, all))
 
 -- ---- a job reads under a pin where it is a read, and nothing else does
 reads_nothing : JobReads (jobs.Read (the_handle 1)) [] (Ok answer.Worn) part nothing_more

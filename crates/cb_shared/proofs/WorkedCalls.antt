@@ -15,8 +15,8 @@ use Rattle.cb_rule.specs.Lists.{Each}
 use Rattle.cb_rule.specs.Steps.{IsNewest, look_at}
 use Rattle.cb_rule.specs.TriesAgain.{tries_again}
 use Rattle.cb_shared.specs.declared.answers.WriteAnswer.TheVariants as place
-use Rattle.cb_shared.specs.Calls.{AsksFor, AtNone, AtThis, EndsAtLast, IsAnswer, IsAnswerTo}
-use Rattle.cb_shared.specs.Calls.{IsInVain, IsLack, IsUnanswered, IsUnfetched, IsWrittenOnce}
+use Rattle.cb_shared.specs.Calls.{AsksFor, AtNone, AtThis, Brings, EndsAtLast, IsAnswer, IsAnswerTo}
+use Rattle.cb_shared.specs.Calls.{IsInVain, IsLack, IsReadJob, IsUnanswered, IsWrittenOnce, OfThis}
 use Rattle.cb_shared.specs.Calls.{ReadCallEnds, SaysAs, TurnEnds, TurnGives, WriteAnswers}
 use Rattle.cb_shared.specs.Calls.{again_in, the_handle, written_once}
 use Rattle.cb_record.specs.Deeds.{Deed, deed, happened, happening}
@@ -60,18 +60,23 @@ roomless job t = (t.job ≡ job) × (t.reply ≡ Some (answer.NoRoom 364 1 3))
 
 -- a read goes on where it is made again
 goes_on : (t : Turn) → roomless (jobs.Swap (the_handle 1)) t → tries_again t ≡ true
-    → IsUnfetched 1 t
+    → IsUnanswered (IsReadJob 1) t
 goes_on t (work, reply) again = (
-  jobs.Swap (the_handle 1),
-  inl refl,
-  (work, (answer.NoRoom 364 1 3, reply, λ lacks. false≢true (sym lacks ∙ again))),
+  inl (inl work),
+  (
+    answer.NoRoom 364 1 3,
+    reply,
+    λ lacks. false≢true (sym (subst (λ (j : Job). IsAnswerTo (tries_again t) j
+        (answer.NoRoom 364 1 3)) work lacks) ∙ again),
+  ),
 )
 
 -- and not for ever
 goes_on_for_ever : (t : Turn) → roomless (jobs.Swap (the_handle 1)) t → tries_again t ≡ false
-    → IsUnanswered (jobs.Swap (the_handle 1)) t → ⊥
+    → IsUnanswered (OfThis (jobs.Swap (the_handle 1))) t → ⊥
 goes_on_for_ever t (work, reply) off (job, (r, is, none)) =
-    none (subst (IsLack (tries_again t)) (same_Some _ _ (sym reply ∙ is)) off)
+    none (subst (λ (j : Job). IsAnswerTo (tries_again t) j r) (sym work)
+    (subst (IsLack (tries_again t)) (same_Some _ _ (sym reply ∙ is)) off))
 
 -- nor is it told of a turn that is made again
 hands_out : (v : View) (d : Part) (t : Turn) → d.turns ≡ t ∷ [] → tries_again t ≡ true
@@ -80,7 +85,7 @@ hands_out v d t only again (lacks, adds) =
     false≢true (sym lacks ∙ ap again_in only ∙ again)
 
 -- ---- tries that came to nothing
-pub in_vain : IsInVain (AtThis 1) (IsUnfetched 1) (looked 1 moving)
+pub in_vain : IsInVain (AtThis 1) (IsUnanswered (IsReadJob 1)) (looked 1 moving)
 in_vain = record {
   looks = look_at 1 moving ∷ [];
   turns = [];
@@ -90,21 +95,21 @@ in_vain = record {
   part = refl;
 }
 
-at_another : IsInVain (AtThis 1) (IsUnfetched 1) (looked 0 moving) → ⊥
+at_another : IsInVain (AtThis 1) (IsUnanswered (IsReadJob 1)) (looked 0 moving) → ⊥
 at_another x = eqb-false 0 1 refl (subst (Each (λ (l : Look). AtThis 1 l.handle))
     (sym (ap (λ (d : Part). d.looks) x.part)) x.at).0
 
-wrote_in_vain : IsInVain (AtThis 1) (IsUnfetched 1)
+wrote_in_vain : IsInVain (AtThis 1) (IsUnanswered (IsReadJob 1))
     (record (looked 1 moving) { written = made ∷ [] }) → ⊥
 wrote_in_vain x = eqb-false 1 0 refl (ap (λ (d : Part). length d.written) x.part)
 
-pinned_in_vain : IsInVain (AtThis 1) (IsUnfetched 1)
+pinned_in_vain : IsInVain (AtThis 1) (IsUnanswered (IsReadJob 1))
     (record (looked 1 moving) { ever = 1 }) → ⊥
 pinned_in_vain x = eqb-false 1 0 refl (ap (λ (d : Part). d.ever) x.part)
 
 made_in_vain : (t : Turn) → t.job ≡ jobs.Make (7 ∷ [])
     → t.reply ≡ Some (answer.Made (the_handle 0) 1)
-    → IsInVain AtNone (IsUnanswered (jobs.Make (7 ∷ [])))
+    → IsInVain AtNone (IsUnanswered (OfThis (jobs.Make (7 ∷ []))))
     (record nothing_more { turns = t ∷ [] }) → ⊥
 made_in_vain t work reply x =
     let idle = subst (Each (λ (u : Turn). happened (deed u) ≡ []))
@@ -158,7 +163,7 @@ says_nothing_of_a_race : SaysAs (place.Raced calm pinned) answer.Moving → ⊥
 says_nothing_of_a_race x = x
 
 -- ---- the last try
-reads_freed_at_last : EndsAtLast (AtThis 1) (IsUnfetched 1)
+reads_freed_at_last : EndsAtLast (AtThis 1) (IsUnanswered (IsReadJob 1))
     (ReadCallEnds two 1 answer.Freed)
     part (sum (looked 1 moving) (looked_freed 1 3 0))
 reads_freed_at_last = record {
@@ -175,7 +180,7 @@ reads_freed_at_last = record {
   part = refl;
 }
 
-answers_moving : EndsAtLast (AtThis 1) (IsUnfetched 1) (ReadCallEnds two 1 answer.Moving)
+answers_moving : EndsAtLast (AtThis 1) (IsUnanswered (IsReadJob 1)) (ReadCallEnds two 1 answer.Moving)
     part (looked 1 moving) → ⊥
 answers_moving x = read_lacks two 1 answer.Moving _ x.last (λ t. t) x.ends_so
 
@@ -213,42 +218,34 @@ gives_moving : TurnGives two (jobs.Make (10 ∷ [])) answer.Moving part part →
 gives_moving (d, x, is) = moving_is_no_answer (again_in x.last.turns) x.ends_so.0
 
 -- ---- a turn that was asked for where a look found the object far
-abbrev swap_one : Part
-swap_one = sum (looked 1 away) (worn_part (jobs.Swap (the_handle 1)))
+abbrev seen : ℕ → View
+seen word = grown (looked 1 word) part
 
-asks_for : AsksFor two (jobs.Swap (the_handle 1)) answer.Worn 1 part swap_one
+asks_for : AsksFor two (Brings 1) answer.Worn 1 (seen away) (worn_part (jobs.Swap (the_handle 1)))
 asks_for = record {
-  word = away;
-  later = worn_part (jobs.Swap (the_handle 1));
-  away = refl;
-  turned = (
-    tt,
-    adds_worn (jobs.Swap (the_handle 1)) (grown (looked 1 away) part) refl refl
-        knows_made (record { had = refl; left = refl; old = refl; ended = refl }) refl,
-  );
-  part = refl;
+  away = (refl, refl);
+  turned = record {
+    job = jobs.Swap (the_handle 1);
+    of = inl refl;
+    ends = (
+      tt,
+      adds_worn (jobs.Swap (the_handle 1)) (seen away) refl refl
+          knows_made (record { had = refl; left = refl; old = refl; ended = refl }) refl,
+    );
+  };
 }
 
 -- the turn alone, without a look
-asks_blindly : AsksFor two (jobs.Swap (the_handle 1)) answer.Worn 1 part
-    (worn_part (jobs.Swap (the_handle 1))) → ⊥
-asks_blindly a = let t = a.turned.1 in eqb-false 0 1 refl
-    (ap (λ (d : Part). length d.looks) (a.part ∙ ap (sum (looked 1 a.word)) t.part)
-    ∙ (λ i. length ((t.finds i).looks ++ (t.reads i).looks ++ (look_at 1 a.word ∷ []))))
+asks_blindly : (d : Part) → AsksFor two (Brings 1) answer.Worn 1 part d → ⊥
+asks_blindly d a = a.away
 
 -- the look found it being moved
-asks_of_moving : AsksFor two (jobs.Swap (the_handle 1)) answer.Worn 1 part
-    (sum (looked 1 moving) (worn_part (jobs.Swap (the_handle 1)))) → ⊥
-asks_of_moving a = let t = a.turned.1 in eqb-false 3 1 refl
-    (ap (λ (d : Part). state_number (state_of (word_of d.looks)))
-    (a.part ∙ ap (sum (looked 1 a.word)) t.part)
-    ∙ (λ i. state_number (state_of
-    (word_of ((t.finds i).looks ++ (t.reads i).looks ++ (look_at 1 a.word ∷ [])))))
-    ∙ ap state_number a.away)
-  where
-    word_of : List Look → ℕ
-    word_of [] = 0
-    word_of (l ∷ ls) = l.word
+asks_of_moving : (d : Part) → AsksFor two (Brings 1) answer.Worn 1 (seen moving) d → ⊥
+asks_of_moving d a = eqb-false 3 1 refl (ap state_number a.away.1)
+
+-- without a turn
+asks_nothing : AsksFor two (Brings 1) answer.Worn 1 (seen away) (looked 1 away) → ⊥
+asks_nothing a = eqb-false 0 1 refl (ap (λ (d : Part). length d.turns) a.turned.ends.1.part)
 
 -- ---- a write in place after one try in vain
 abbrev written_late : Part

@@ -74,8 +74,8 @@ version_answers_no_swap l = l
 -- ---- the jobs that calls make turns of
 called : IsCalled (job.Make []) × IsCalled (job.Write (the_handle 1) 0 [])
     × IsCalled (job.Free (the_handle 1)) × IsCalled (job.Swap (the_handle 1))
-    × IsCalled (job.Read (the_handle 1))
-called = (tt, tt, tt, tt, tt)
+    × IsCalled (job.Read (the_handle 1)) × IsCalled (job.Fetch (the_handle 1)) × IsCalled job.Land
+called = (tt, tt, tt, tt, tt, tt, tt)
 
 filters_not_called : IsCalled (job.Filter (the_handle 1)) → ⊥
 filters_not_called k = k

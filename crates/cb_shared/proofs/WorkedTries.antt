@@ -11,10 +11,10 @@ use Rattle.cb_rule.specs.Lists.{Each}
 use Rattle.cb_rule.specs.Steps.{IsNewest, look_at, with_look}
 use Rattle.cb_record.specs.Parts.{Part, grown, nothing_more, sum}
 use Rattle.cb_shared.specs.declared.answers.WriteAnswer.TheVariants as place
-use Rattle.cb_shared.specs.Calls.{AtNone, AtThis, IsCalled, IsNoReply, IsUnanswered, IsUnfetched}
-use Rattle.cb_shared.specs.Calls.{IsWornOut, ReadCallEnds, ReadGives, ReadTries, TriesInVain}
-use Rattle.cb_shared.specs.Calls.{TurnEnds, TurnTries, WriteCallEnds, WriteFinds, WriteTries}
-use Rattle.cb_shared.specs.Calls.{the_handle, worn_once}
+use Rattle.cb_shared.specs.Calls.{AtNone, AtThis, IsCalled, IsNoReply, IsReadJob, IsUnanswered}
+use Rattle.cb_shared.specs.Calls.{IsWornOut, OfThis, ReadCallEnds, ReadGives, ReadTries}
+use Rattle.cb_shared.specs.Calls.{TriesInVain, TurnEnds, TurnTries, WriteCallEnds, WriteFinds}
+use Rattle.cb_shared.specs.Calls.{WriteTries, the_handle, worn_once}
 use Rattle.cb_shared.specs.Reading.{looked, looked_freed, looked_twice}
 use Rattle.cb_shared.specs.Writing.{last_seen}
 use Rattle.cb_shared.proofs.WorkedGround.{a_stand, away, calm, freed_last, has_last, knows_made}
@@ -149,14 +149,15 @@ ends_moving : (v : View) (d : Part) → TurnEnds two (jobs.Free (the_handle 1)) 
 ends_moving v d (inl x, adds) = x
 ends_moving v d (inr x, adds) = x
 
-a_swap_is_called : IsCalled (jobs.Swap (the_handle 1))
-a_swap_is_called = tt
+a_swap_is_called : IsCalled (jobs.Swap (the_handle 1)) × IsCalled (jobs.Fetch (the_handle 1))
+    × IsCalled jobs.Land
+a_swap_is_called = (tt, tt, tt)
 
 an_eviction_is_not : IsCalled jobs.Evict → ⊥
 an_eviction_is_not x = x
 
 -- ---- tries that came to nothing
-tried : TriesInVain (AtThis 1) (IsUnfetched 1) part (with_look 1 moving part)
+tried : TriesInVain (AtThis 1) (IsUnanswered (IsReadJob 1)) part (with_look 1 moving part)
 tried = (
   looked 1 moving,
   record {
@@ -170,7 +171,7 @@ tried = (
   refl,
 )
 
-tried_and_pinned : TriesInVain (AtThis 1) (IsUnfetched 1) part
+tried_and_pinned : TriesInVain (AtThis 1) (IsUnanswered (IsReadJob 1)) part
     (record part { pins = a_stand ∷ [] }) → ⊥
 tried_and_pinned (d, x, is) = eqb-false 1 0 refl (ap (λ (v : View). length v.pins) is)
 
@@ -179,7 +180,7 @@ no_look : (ls : List Look) → Each (λ (l : Look). ⊥) ls → length (ls ++ []
 no_look [] each = refl
 no_look (l ∷ ls) each = absurd (each.0)
 
-made_and_looked : TriesInVain AtNone (IsUnanswered (jobs.Make (10 ∷ []))) part
+made_and_looked : TriesInVain AtNone (IsUnanswered (OfThis (jobs.Make (10 ∷ [])))) part
     (with_look 1 calm part) → ⊥
 made_and_looked (d, x, is) = eqb-false 1 0 refl (ap (λ (v : View). length v.looks) is
     ∙ ap (λ (e : Part). length (e.looks ++ [])) x.part ∙ no_look x.looks x.at)
@@ -210,23 +211,42 @@ reads_unread (d, x, is) = by x.ends_so
         let all = length-append d.seen [] in
         let both = length-append x.last.seen x.before.seen in
         omega (arith, none, seen, one, all, both)
-    by (inr (j, fetch, a)) =
+    by (inr a) =
         let none : 0 ≡ length (d.turns ++ []) = ap (λ (v : View). length v.turns) is in
         let turns : length d.turns ≡ length (x.last.turns ++ x.before.turns) =
         ap (λ (e : Part). length e.turns) x.part in
-        let one = asks_turns two j answer.Freed 1 _ x.last a in
+        let one = asks_turns two (IsReadJob 1) answer.Freed 1 _ x.last a in
         let all = length-append d.turns [] in
         let both = length-append x.last.turns x.before.turns in
         omega (arith, none, turns, one, all, both)
 
-tries_a_read : ReadTries two 1 (Some answer.Freed) part (grown (looked_freed 1 3 0) part)
-tries_a_read = (looked_freed 1 3 0, inl (0, 3, refl, newest_made, refl), refl)
+tries_a_read : ReadTries two 1 (Some answer.Freed) part
+    (grown (sum nothing_more (looked_freed 1 3 0)) part)
+tries_a_read = reads_freed
+
+tries_a_read_unread : ReadTries two 1 (Some answer.Freed) part (with_look 1 0 part) → ⊥
+tries_a_read_unread = reads_unread
 
 tries_a_read_in_vain : ReadTries two 1 None part (with_look 1 moving part)
 tries_a_read_in_vain = tried
 
-tries_a_write : WriteTries two 1 8 (12 ∷ []) (Some (answer.Range 8)) part (with_look 1 calm part)
-tries_a_write = (looked 1 calm, ends_in_place, refl)
+tries_a_write : WriteTries two 1 8 (12 ∷ []) (Some (answer.Range 8)) part
+    (grown (sum nothing_more (looked 1 calm)) part)
+tries_a_write = (
+  sum nothing_more (looked 1 calm),
+  record {
+    before = nothing_more;
+    last = looked 1 calm;
+    in_vain = record { looks = []; turns = []; at = tt; of = tt; idle = tt; part = refl };
+    ends_so = inl (
+      place.Range 8,
+      refl,
+      (calm, ((refl, refl, lit< tt), λ l. absurd (shared_part 1 l)), refl),
+    );
+    part = refl;
+  },
+  refl,
+)
 
 tries_no_write : WriteTries two 1 8 (12 ∷ []) None part (record part { pins = a_stand ∷ [] }) → ⊥
 tries_no_write (d, x, is) = eqb-false 1 0 refl (ap (λ (v : View). length v.pins) is)

@@ -1,9 +1,11 @@
 -- Worked tries in vain, and reads by turns: what meets each definition, and what breaks one of its
 -- parts alone.
 use Rattle.std.proofs.Common.{◌≡◌, ℕ, Bool, true, false, List, [], ◌∷◌, ◌++◌, length, length-append, None}
-use Rattle.std.proofs.Common.{Some, Option, refl, sym, ap, ◌∙◌, subst, inl, inr, lit≤, arith}
+use Rattle.std.proofs.Common.{Some, Option, Ok, refl, sym, ap, ◌∙◌, ◌+◌, ◌≤◌, subst, inl, inr}
+use Rattle.std.proofs.Common.{lit≤, arith}
 use Rattle.std.proofs.lemmas.Bool.{eqb-false}
 use Rattle.std.proofs.lemmas.Option.{none-some, same_Some}
+use Rattle.cb_ptr.specs.Word.{state_number}
 use Rattle.cb_types.specs.declared.config.Config.{Config}
 use Rattle.cb_types.specs.declared.job.Job.{Job}
 use Rattle.cb_types.specs.declared.job.Job.TheVariants as jobs
@@ -11,35 +13,47 @@ use Rattle.cb_types.specs.Jobs.{job_index}
 use Rattle.cb_types.specs.declared.reply.Reply.{Reply}
 use Rattle.cb_types.specs.declared.reply.Reply.TheVariants as answer
 use Rattle.cb_rule.specs.declared.turn.Turn.{Turn}
+use Rattle.cb_rule.specs.declared.view.Look.{Look}
 use Rattle.cb_rule.specs.declared.view.View.{View}
+use Rattle.cb_rule.specs.Lists.{Each}
+use Rattle.cb_rule.specs.Steps.{Knows}
 use Rattle.cb_record.specs.Parts.{Part, grown, nothing_more, sum}
-use Rattle.cb_shared.specs.Calls.{AsksFor, AtThis, IsAnswerTo, IsFetch, IsFetchForWant, IsForWant}
-use Rattle.cb_shared.specs.Calls.{IsInVain, IsUnanswered, IsUnfetched, LooksOf, ReadCallEnds}
-use Rattle.cb_shared.specs.Calls.{ReadStops, ReadsInPlace, StopsInVain, TellsWhatIs, again_in}
+use Rattle.cb_shared.specs.Calls.{AnswersBy, AsksFor, AtNone, AtThis, Brings, FoundFar, IsAnswerTo}
+use Rattle.cb_shared.specs.Calls.{IsForWant, IsInVain, IsReadJob, IsUnanswered, IsWriteJob}
+use Rattle.cb_shared.specs.Calls.{IsWriteJobAt, LooksOf, OfThis, ReadCallEnds, ReadStops}
+use Rattle.cb_shared.specs.Calls.{ReadsInPlace, StopsBy, StopsInVain, TellsWhatIs, TriesBy}
 use Rattle.cb_shared.specs.Calls.{the_handle}
-use Rattle.cb_shared.specs.Fetching.{AreFetches, GetsTurns, brought_in_by}
 use Rattle.cb_shared.specs.Reading.{looked, looked_freed}
+use Rattle.cb_shared.specs.Trying.{again_in}
+use Rattle.cb_shared.specs.Turning.{NotesWritten, TurnAdds}
+use Rattle.cb_shared.proofs.CallSteps.{brings_lacks, read_lacks}
+use Rattle.cb_shared.proofs.ReadParts.{grown_nothing}
 use Rattle.cb_shared.proofs.WorkedGround.{away, knows_made, moving, newest_made, part, two}
 use Rattle.cb_shared.proofs.WorkedCalls.{in_vain}
 use Rattle.cb_shared.proofs.WorkedTurns.{adds_worn, worn_part, worn_turn}
 
-abbrev swap : Job
+abbrev pub swap : Job
 swap = jobs.Swap (the_handle 1)
 
-abbrev read : Job
+abbrev pub read : Job
 read = jobs.Read (the_handle 1)
 
-abbrev told : Job → Option Reply → Turn
+abbrev pub fetch : Job
+fetch = jobs.Fetch (the_handle 1)
+
+abbrev write : Job
+write = jobs.Write (the_handle 1) 1 (12 ∷ [])
+
+abbrev pub told : Job → Option Reply → Turn
 told j r = record (worn_turn j) { reply = r }
 
 abbrev turned : Turn → Part
 turned t = record nothing_more { turns = t ∷ [] }
 
 -- a turn that was asked for stands in the part
-pub asks_turns : (c : Config) (j : Job) (r : Reply) (h : ℕ) (v : View) (d : Part)
-    → AsksFor c j r h v d → length d.turns ≡ 1
-asks_turns c j r h v d a =
-    ap (λ (e : Part). length e.turns) (a.part ∙ ap (sum (looked h a.word)) a.turned.1.part)
+pub asks_turns : (c : Config) (may : Job → Type 0) (r : Reply) (h : ℕ) (v : View) (d : Part)
+    → AsksFor c may r h v d → length d.turns ≡ 1
+asks_turns c may r h v d a = ap (λ (e : Part). length e.turns) a.turned.ends.1.part
 
 -- ---- what a read tells of its object
 bytes_tell : TellsWhatIs (answer.Bytes 3 (10 ∷ []))
@@ -55,50 +69,79 @@ crowded_is_no_answer : IsAnswerTo false read answer.Crowded → ⊥
 crowded_is_no_answer (inl x) = x
 crowded_is_no_answer (inr x) = x
 
--- ---- the jobs of a read
-a_swap_fetches : IsFetch 1 swap
-a_swap_fetches = inl refl
+-- one that brings an object in is answered by what it lacks alone
+fetches_in_vain : IsAnswerTo false fetch answer.Freed → ⊥
+fetches_in_vain x = x
 
-a_read_fetches : IsFetch 1 read
-a_read_fetches = inr refl
+lands_in_vain : IsAnswerTo false jobs.Land (answer.Swapped 0) → ⊥
+lands_in_vain x = x
 
+lacks_all : IsAnswerTo true fetch answer.Worn × IsAnswerTo true jobs.Land answer.Worn
+lacks_all = (tt, tt)
+
+-- ---- the jobs of calls
 abbrev number : Job → ℕ
 number (jobs.Swap handle) = handle.n
 number (jobs.Read handle) = handle.n
-number j = 2
+number (jobs.Fetch handle) = handle.n
+number (jobs.Write handle at bytes) = handle.n + at
+number jobs.Land = 7
+number j = 9
 
-another_object : IsFetch 1 (jobs.Read (the_handle 0)) → ⊥
-another_object (inl e) = eqb-false 0 1 refl (ap number e)
+of_this : OfThis swap swap
+of_this = refl
+
+of_that : OfThis swap read → ⊥
+of_that e = eqb-false 1 4 refl (ap job_index e)
+
+brings_it : Brings 1 swap × Brings 1 fetch × Brings 1 jobs.Land
+brings_it = (inl refl, inr (inl refl), inr (inr refl))
+
+a_read_brings_and_reads : Brings 1 read → ⊥
+a_read_brings_and_reads (inl e) = eqb-false 1 4 refl (ap job_index e)
+a_read_brings_and_reads (inr (inl e)) = eqb-false 1 21 refl (ap job_index e)
+a_read_brings_and_reads (inr (inr e)) = eqb-false 1 22 refl (ap job_index e)
+
+a_read_reads : IsReadJob 1 swap × IsReadJob 1 fetch × IsReadJob 1 jobs.Land × IsReadJob 1 read
+a_read_reads = (inl (inl refl), inl (inr (inl refl)), inl (inr (inr refl)), inr refl)
+
+another_object : IsReadJob 1 (jobs.Read (the_handle 0)) → ⊥
+another_object (inl (inl e)) = eqb-false 0 1 refl (ap number e)
+another_object (inl (inr (inl e))) = eqb-false 0 1 refl (ap number e)
+another_object (inl (inr (inr e))) = eqb-false 0 7 refl (ap number e)
 another_object (inr e) = eqb-false 0 1 refl (ap number e)
 
-another_job : IsFetch 1 jobs.Evict → ⊥
-another_job (inl e) = eqb-false 2 1 refl (ap number e)
-another_job (inr e) = eqb-false 2 1 refl (ap number e)
+another_job : IsReadJob 1 jobs.Evict → ⊥
+another_job (inl (inl e)) = eqb-false 9 1 refl (ap number e)
+another_job (inl (inr (inl e))) = eqb-false 9 1 refl (ap number e)
+another_job (inl (inr (inr e))) = eqb-false 9 7 refl (ap number e)
+another_job (inr e) = eqb-false 9 1 refl (ap number e)
 
--- a turn Swap that brought the object in, and behind it a turn Read; each turn of a read has its job
--- by those before it
-brings_it_in : brought_in_by false (told swap (Some (answer.Swapped 0)) ∷ []) ≡ true
-brings_it_in = refl
+a_write_writes : IsWriteJob 1 1 (12 ∷ []) write × IsWriteJob 1 1 (12 ∷ []) fetch
+    × IsWriteJob 1 1 (12 ∷ []) jobs.Land
+a_write_writes = (inl refl, inr (inl refl), inr (inr refl))
 
-was_there : brought_in_by false (told swap (Some answer.Stays) ∷ []) ≡ true
-was_there = refl
+a_write_swaps : IsWriteJob 1 1 (12 ∷ []) swap → ⊥
+a_write_swaps (inl e) = eqb-false 4 2 refl (ap job_index e)
+a_write_swaps (inr (inl e)) = eqb-false 4 21 refl (ap job_index e)
+a_write_swaps (inr (inr e)) = eqb-false 4 22 refl (ap job_index e)
 
-brings_nothing : brought_in_by false (told swap (Some answer.Moving) ∷ told swap None ∷ []) ≡ false
-brings_nothing = refl
+-- an object of eight bytes has no ninth
+lands_the_last : IsWriteJobAt 1 7 (12 ∷ []) away jobs.Land
+lands_the_last = inr (inr (refl, lit≤ tt))
 
-then_reads : AreFetches 1 false
-    (told read (Some answer.Moving) ∷ told swap (Some (answer.Swapped 0)) ∷ [])
-then_reads = (refl, (refl, tt))
+lands_past_the_end : IsWriteJobAt 1 8 (12 ∷ []) away jobs.Land → ⊥
+lands_past_the_end (inl e) = eqb-false 22 2 refl (ap job_index e)
+lands_past_the_end (inr (inl e)) = eqb-false 22 21 refl (ap job_index e)
+lands_past_the_end (inr (inr x)) = let e : 9 ≤ 8 = x.1 in omega (arith, e)
 
-swaps_again : AreFetches 1 false
-    (told swap None ∷ told swap (Some (answer.Swapped 0)) ∷ []) → ⊥
-swaps_again x = eqb-false 4 1 refl (ap job_index x.0)
+tells_past_the_end : IsWriteJobAt 1 8 (12 ∷ []) away (jobs.Write (the_handle 1) 8 (12 ∷ []))
+tells_past_the_end = inl refl
 
-reads_at_once : AreFetches 1 false (told read (Some answer.Moving) ∷ []) → ⊥
-reads_at_once x = eqb-false 1 4 refl (ap job_index x.0)
-
-of_its_turn : GetsTurns (AreFetches 1 false) part (record part { turns = told swap None ∷ [] })
-of_its_turn = (told swap None ∷ [], refl, (refl, tt))
+swaps_for_a_write : IsWriteJobAt 1 7 (12 ∷ []) away swap → ⊥
+swaps_for_a_write (inl e) = eqb-false 4 2 refl (ap job_index e)
+swaps_for_a_write (inr (inl e)) = eqb-false 4 21 refl (ap job_index e)
+swaps_for_a_write (inr (inr x)) = eqb-false 4 22 refl (ap job_index x.0)
 
 -- a read looks at its object
 looks_at_it : LooksOf read 1
@@ -111,83 +154,125 @@ a_swap_looks_at_none : LooksOf swap 1 → ⊥
 a_swap_looks_at_none x = x
 
 -- ---- a turn that was told no answer, and one that was
-swapped : IsUnanswered swap (told swap (Some (answer.Swapped 0)))
+swapped : IsUnanswered (OfThis swap) (told swap (Some (answer.Swapped 0)))
 swapped = (refl, (answer.Swapped 0, refl, λ x. x))
 
-of_another_job : IsUnanswered swap (told jobs.Evict (Some (answer.Swapped 0))) → ⊥
-of_another_job (e, x) = eqb-false 2 1 refl (ap number e)
-
-abbrev is_worn : Reply → ℕ
-is_worn answer.Worn = 1
-is_worn r = 0
+of_another_job : IsUnanswered (OfThis swap) (told jobs.Evict (Some (answer.Swapped 0))) → ⊥
+of_another_job (e, x) = eqb-false 9 1 refl (ap number e)
 
 -- worn is an answer, and so it is the one reply that this turn may not have
-worn_answers : IsUnanswered swap (worn_turn swap) → ⊥
+worn_answers : IsUnanswered (OfThis swap) (worn_turn swap) → ⊥
 worn_answers (e, (r, is, off)) =
     off (subst (IsAnswerTo false swap) (same_Some _ _ is) tt)
 
-without_memory : IsUnanswered swap (told swap None) → ⊥
+without_memory : IsUnanswered (OfThis swap) (told swap None) → ⊥
 without_memory (e, (r, is, off)) = none-some r is
 
-pinned_waits : IsUnanswered (jobs.Free (the_handle 1))
+pinned_waits : IsUnanswered (OfThis (jobs.Free (the_handle 1)))
     (told (jobs.Free (the_handle 1)) (Some (answer.Pinned 1))) → ⊥
 pinned_waits (e, (r, is, off)) =
     off (subst (IsAnswerTo false (jobs.Free (the_handle 1))) (same_Some _ _ is) (inl tt))
 
-read_moving : IsUnfetched 1 (told read (Some answer.Moving))
-read_moving = (read, inr refl, (refl, (answer.Moving, refl, λ x. no_answer x)))
+read_moving : IsUnanswered (IsReadJob 1) (told read (Some answer.Moving))
+read_moving = (inr refl, (answer.Moving, refl, λ x. no_answer x))
   where
     no_answer : IsAnswerTo false read answer.Moving → ⊥
     no_answer (inl x) = x
     no_answer (inr x) = x
 
-read_of_another : IsUnfetched 1 (told (jobs.Read (the_handle 0)) (Some answer.Moving)) → ⊥
-read_of_another (j, fetch, (e, x)) = another_object (subst (IsFetch 1) (sym e) fetch)
+fetched_in_vain : IsUnanswered (Brings 1) (told fetch (Some answer.Direct))
+fetched_in_vain = (inr (inl refl), (answer.Direct, refl, λ x. x))
+
+read_of_another : IsUnanswered (IsReadJob 1) (told (jobs.Read (the_handle 0)) (Some answer.Moving))
+    → ⊥
+read_of_another (of, x) = another_object of
 
 -- ---- a turn that found no memory
-found_none : IsForWant swap (told swap None)
+found_none : IsForWant (OfThis swap) (told swap None)
 found_none = (refl, refl)
 
-found_some : IsForWant swap (worn_turn swap) → ⊥
+found_some : IsForWant (OfThis swap) (worn_turn swap) → ⊥
 found_some (e, is) = none-some _ (sym is)
 
-for_another : IsForWant swap (told jobs.Evict None) → ⊥
-for_another (e, is) = eqb-false 2 1 refl (ap number e)
+for_another : IsForWant (OfThis swap) (told jobs.Evict None) → ⊥
+for_another (e, is) = eqb-false 9 1 refl (ap number e)
 
-a_read_found_none : IsFetchForWant 1 (told read None)
-a_read_found_none = (read, inr refl, (refl, refl))
+a_read_found_none : IsForWant (IsReadJob 1) (told read None)
+a_read_found_none = (inr refl, refl)
 
-a_read_of_another_found_none : IsFetchForWant 1 (told (jobs.Read (the_handle 0)) None) → ⊥
-a_read_of_another_found_none (j, fetch, (e, is)) =
-    another_object (subst (IsFetch 1) (sym e) fetch)
+a_read_of_another_found_none : IsForWant (IsReadJob 1) (told (jobs.Read (the_handle 0)) None) → ⊥
+a_read_of_another_found_none (of, is) = another_object of
 
--- ---- a read that stopped for want of memory: a look that found the object moving, then a turn Swap
--- that found none
-wants : IsInVain (AtThis 1) (IsFetchForWant 1) (turned (told swap None))
+-- ---- a read that stopped for want of memory: a look that found the object moving, then a turn Fetch
+-- that found none; and one that found none to make the row
+wants : IsInVain (AtThis 1) (IsForWant (IsReadJob 1)) (turned (told fetch None))
 wants = record {
   looks = [];
-  turns = told swap None ∷ [];
+  turns = told fetch None ∷ [];
   at = tt;
-  of = ((swap, inl refl, (refl, refl)), tt);
+  of = ((inl (inr (inl refl)), refl), tt);
   idle = (refl, tt);
   part = refl;
 }
 
-stops : ReadStops two 1 part (grown (turned (told swap None)) (grown (looked 1 moving) part))
+stops : ReadStops two 1 part (grown (turned (told fetch None)) (grown (looked 1 moving) part))
 stops = record {
   between = grown (looked 1 moving) part;
-  last = turned (told swap None);
+  last = turned (told fetch None);
   tries = (looked 1 moving, in_vain, refl);
   lacks = wants;
   one = lit≤ tt;
   left = refl;
 }
 
+abbrev fetched : Turn
+fetched = told fetch (Some (answer.Fetched (record { n = 3 }) 0))
+
+a_fetch : IsInVain AtNone (IsUnanswered (Brings 1)) (turned fetched)
+a_fetch = record {
+  looks = [];
+  turns = fetched ∷ [];
+  at = tt;
+  of = ((inr (inl refl), (answer.Fetched (record { n = 3 }) 0, refl, λ x. x)), tt);
+  idle = (refl, tt);
+  part = refl;
+}
+
+stops_before_its_row : StopsBy AtNone (Brings 1) part (grown (turned fetched) part)
+stops_before_its_row =
+    let none : IsInVain AtNone (IsForWant (Brings 1)) nothing_more =
+    record { looks = []; turns = []; at = tt; of = tt; idle = tt; part = refl } in record {
+      between = grown (turned fetched) part;
+      last = nothing_more;
+      tries = (turned fetched, a_fetch, refl);
+      lacks = none;
+      one = lit≤ tt;
+      left = grown_nothing (grown (turned fetched) part);
+    }
+
+stops_by_another_job : (x : StopsBy AtNone (Brings 1) part
+    (grown (turned (told jobs.Evict None)) part)) → x.between ≡ part → ⊥
+stops_by_another_job x is = no_job x.last.turns
+    (ap (λ (v : View). x.last.turns ++ v.turns) (sym is) ∙ sym (ap (λ (v : View). v.turns) x.left))
+    (subst (Each (IsForWant (Brings 1))) (sym (ap (λ (d : Part). d.turns) x.lacks.part)) x.lacks.of)
+  where
+    not_evict : Brings 1 jobs.Evict → ⊥
+    not_evict b = another_job (inl b)
+
+    no_job : (ts : List Turn) → ts ++ [] ≡ told jobs.Evict None ∷ [] → Each (IsForWant (Brings 1)) ts
+        → ⊥
+    no_job [] e each = eqb-false 0 1 refl (ap (λ (l : List Turn). length l) e)
+    no_job (t ∷ ts) e each = not_evict (subst (Brings 1) (ap first e) each.0.0)
+      where
+        first : List Turn → Job
+        first [] = swap
+        first (u ∷ us) = u.job
+
 -- two turns that found none; one that was answered; and an entry that was written
 abbrev turns_more : View → ℕ
 turns_more v = length v.turns
 
-stops_twice : (x : StopsInVain (AtThis 1) (IsUnfetched 1) (IsFetchForWant 1) part
+stops_twice : (x : StopsInVain (AtThis 1) (IsUnanswered (IsReadJob 1)) (IsForWant (IsReadJob 1)) part
     (grown (turned (told swap None)) (grown (turned (told swap None)) part)))
     → x.between ≡ part → ⊥
 stops_twice x is = let one = x.one in
@@ -211,52 +296,106 @@ reads_worn x = x
 ends_in_place : ReadCallEnds two 1 answer.Freed part (looked_freed 1 3 0)
 ends_in_place = inl reads_freed
 
-abbrev asks : Job → Part
-asks j = sum (looked 1 away) (worn_part j)
+-- one after a look that found the object far: by its newest look
+abbrev seen_far : View
+seen_far = grown (looked 1 away) part
 
-ends_by_swap : ReadCallEnds two 1 answer.Worn part (asks swap)
-ends_by_swap = inr (
-  swap,
-  inl refl,
-  record {
-    word = away;
-    later = worn_part swap;
-    away = refl;
-    turned = (
-      tt,
-      adds_worn swap (grown (looked 1 away) part) refl refl knows_made
+found_it_far : FoundFar 1 seen_far.looks
+found_it_far = (refl, refl)
+
+found_another_far : FoundFar 0 seen_far.looks → ⊥
+found_another_far x = eqb-false 1 0 refl x.0
+
+found_it_moving : FoundFar 1 (grown (looked 1 moving) part).looks → ⊥
+found_it_moving x = eqb-false 3 1 refl (ap state_number x.1)
+
+never_looked : FoundFar 1 part.looks → ⊥
+never_looked x = x
+
+pub worn_swap : TurnAdds two swap (Ok answer.Worn) seen_far (worn_part swap)
+worn_swap = adds_worn swap seen_far refl refl knows_made
+    (record { had = refl; left = refl; old = refl; ended = refl }) refl
+
+swap_answers : AnswersBy two (Brings 1) answer.Worn seen_far (worn_part swap)
+swap_answers = record { job = swap; of = inl refl; ends = (tt, worn_swap) }
+
+answers_by_evict : AnswersBy two (OfThis jobs.Evict) answer.Worn seen_far (worn_part swap) → ⊥
+answers_by_evict x = eqb-false 4 6 refl (ap job_index
+    (ap (λ (t : Turn). t.job) (first_turn x.ends.1.part) ∙ x.ends.1.job_is ∙ x.of))
+  where
+    newest : List Turn → Turn
+    newest [] = worn_turn jobs.Evict
+    newest (t ∷ ts) = t
+
+    first_turn : {e : Part} → worn_part swap ≡ e → newest (worn_part swap).turns ≡ newest e.turns
+    first_turn is = ap (λ (d : Part). newest d.turns) is
+
+answers_moving : (d : Part) → AnswersBy two (Brings 1) answer.Moving seen_far d → ⊥
+answers_moving d x = brings_lacks 1 (again_in d.turns) x.job answer.Moving x.of x.ends.0
+
+ends_by_swap : ReadCallEnds two 1 answer.Worn seen_far (worn_part swap)
+ends_by_swap = inr (record {
+  away = found_it_far;
+  turned = record { job = swap; of = inl (inl refl); ends = (tt, worn_swap) };
+})
+
+ends_by_read : ReadCallEnds two 1 answer.Worn seen_far (worn_part read)
+ends_by_read = inr (record {
+  away = found_it_far;
+  turned = record {
+    job = read;
+    of = inr refl;
+    ends = (
+      inr tt,
+      adds_worn read seen_far refl (inl (refl, tt)) knows_made
           (record { had = refl; left = refl; old = refl; ended = refl }) refl,
     );
-    part = refl;
-  },
-)
+  };
+})
 
-ends_by_read : ReadCallEnds two 1 answer.Worn part (asks read)
-ends_by_read = inr (
-  read,
-  inr refl,
-  record {
-    word = away;
-    later = worn_part read;
-    away = refl;
-    turned = (
-      inr tt,
-      adds_worn read (grown (looked 1 away) part) refl (inl (refl, tt))
-          knows_made (record { had = refl; left = refl; old = refl; ended = refl }) refl,
-    );
-    part = refl;
-  },
-)
+-- no look found it far
+ends_blindly : ReadCallEnds two 1 answer.Worn part (worn_part swap) → ⊥
+ends_blindly (inl x) = x
+ends_blindly (inr x) = x.away
 
 -- a reply that is no answer of a read
-ends_swapped : (d : Part) → ReadCallEnds two 1 (answer.Swapped 0) part d → ⊥
-ends_swapped d (inl x) = x
-ends_swapped d (inr (j, inl is, x)) =
-    (subst (λ (k : Job). AsksFor two k (answer.Swapped 0) 1 part d) is x).turned.0
-ends_swapped d (inr (j, inr is, x)) =
-    let y = subst (λ (k : Job). AsksFor two k (answer.Swapped 0) 1 part d) is x in
-    no_answer (again_in y.later.turns) y.turned.0
+ends_swapped : (v : View) (d : Part) → ReadCallEnds two 1 (answer.Swapped 0) v d → ⊥
+ends_swapped v d x = read_lacks two 1 (answer.Swapped 0) v d (λ t. t) x
+
+-- ---- turns of one bringing in: a fetch, and a swap-in that is answered
+abbrev both : Part
+both = sum (turned fetched) (worn_part swap)
+
+-- the record keeps no order behind them
+abbrev behind_fetch : View
+behind_fetch = grown (turned fetched) part
+
+tries_by : ((h : ℕ) → Knows h behind_fetch → 1 ≡ h)
+    → NotesWritten (worn_turn swap) [] behind_fetch
+    → TriesBy two AtNone (Brings 1) (Some answer.Worn) part (grown both part)
+tries_by knows notes = (
+  both,
+  record {
+    before = turned fetched;
+    last = worn_part swap;
+    in_vain = a_fetch;
+    ends_so = record {
+      job = swap;
+      of = inl refl;
+      ends = (tt, adds_worn swap behind_fetch refl refl knows notes refl);
+    };
+    part = refl;
+  },
+  refl,
+)
+
+tries_in_vain : TriesBy two AtNone (Brings 1) None part behind_fetch
+tries_in_vain = (turned fetched, a_fetch, refl)
+
+tries_and_looks : TriesBy two AtNone (Brings 1) None part (grown (looked 1 away) part) → ⊥
+tries_and_looks (d, x, is) = no_look x.looks (ap (λ (v : View). length v.looks) is
+    ∙ ap (λ (e : Part). length (e.looks ++ [])) x.part) x.at
   where
-    no_answer : (again : Bool) → IsAnswerTo again read (answer.Swapped 0) → ⊥
-    no_answer again (inl y) = y
-    no_answer again (inr y) = y
+    no_look : (ls : List Look) → 1 ≡ length (ls ++ []) → Each (λ (l : Look). AtNone l.handle) ls → ⊥
+    no_look [] e each = eqb-false 1 0 refl e
+    no_look (l ∷ ls) e each = each.0

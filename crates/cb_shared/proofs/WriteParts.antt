@@ -2,7 +2,6 @@
 use Rattle.std.proofs.Common.{◌≡◌, ℕ, ◌+◌, List, [], ◌∷◌, Option, None, Some, refl, ap, ◌∙◌, subst}
 use Rattle.std.proofs.Common.{arith, inl, inr}
 use Rattle.cb_types.specs.declared.config.Config.{Config}
-use Rattle.cb_types.specs.declared.job.Job.TheVariants as jobs
 use Rattle.cb_types.specs.declared.reply.Reply.{Reply}
 use Rattle.cb_ptr.specs.Word.{len_of}
 use Rattle.cb_world.specs.Written.{entry}
@@ -11,15 +10,13 @@ use Rattle.cb_rule.specs.declared.view.View.{View}
 use Rattle.cb_rule.specs.Steps.{look_at, with_look}
 use Rattle.cb_shared.specs.declared.answers.WriteAnswer.{WriteAnswer}
 use Rattle.cb_shared.specs.declared.answers.WriteAnswer.TheVariants as place
-use Rattle.cb_shared.specs.Calls.{AtNone, AtThis, IsForWant, IsNoReply, IsUnanswered, SaysAs}
-use Rattle.cb_shared.specs.Calls.{TriesInVain, TurnStops, TurnTries, WriteAnswers, WriteCallEnds}
-use Rattle.cb_shared.specs.Calls.{WriteFinds, WriteStops, WriteTries, the_handle, worn_once}
-use Rattle.cb_shared.specs.Calls.{written_once}
+use Rattle.cb_shared.specs.Calls.{AtThis, IsNoReply, IsUnanswered, IsWriteJob, SaysAs}
+use Rattle.cb_shared.specs.Calls.{TriesInVain, WriteAnswers, WriteCallEnds, WriteFinds, WriteTries}
+use Rattle.cb_shared.specs.Calls.{worn_once, written_once}
 use Rattle.cb_record.specs.Parts.{Part, Grows, grown}
 use Rattle.cb_shared.specs.Reading.{looked, looked_freed, looked_twice}
 use Rattle.cb_shared.specs.Writing.{WriteGives, last_seen}
-use Rattle.cb_shared.proofs.CallSteps.{ends_after, look_asks, look_stops, look_tries, stops_wider}
-use Rattle.cb_shared.proofs.CallSteps.{tries_then, tries_wider, vain_look}
+use Rattle.cb_shared.proofs.CallSteps.{ends_first, ends_then, tries_then, vain_look}
 use Rattle.cb_shared.proofs.ReadSteps.{freed_part, look_part, twice_part}
 
 written_part : (h word version : ℕ) (old new : List ℕ) (v : View)
@@ -91,7 +88,8 @@ write_finds h at bytes (place.Raced saw found) v w (other, left, here) =
 pub write_says : (c : Config) (h at : ℕ) (bytes : List ℕ) (a : WriteAnswer) (r : Reply) (v w : View)
     → SaysAs a r → WriteGives h at bytes a v w → WriteTries c h at bytes (Some r) v w
 write_says c h at bytes a r v w says x = let z = write_finds h at bytes a v w x in
-    (z.0, inl (a, says, z.2), z.1)
+    ends_first (AtThis h) (IsUnanswered (IsWriteJob h at bytes)) (WriteCallEnds c h at bytes r) v w
+    z.0 (inl (a, says, z.2)) z.1
 
 pub write_vain : (h at : ℕ) (bytes : List ℕ) (vain : Turn → Type 0) (a : WriteAnswer) (v w : View)
     → IsNoReply a → (a ≡ place.NotHere → ⊥) → WriteGives h at bytes a v w
@@ -122,47 +120,21 @@ pub write_tried : (c : Config) (h at : ℕ) (bytes : List ℕ) (a : WriteAnswer)
     (v w : View) → ((r : Reply) → o ≡ Some r → SaysAs a r) → (o ≡ None → IsNoReply a)
     → (a ≡ place.NotHere → ⊥) → WriteGives h at bytes a v w → WriteTries c h at bytes o v w
 write_tried c h at bytes a None v w says none here x = write_vain h at bytes
-    (IsUnanswered (jobs.Write (the_handle h) at bytes)) a v w (none refl) here x
+    (IsUnanswered (IsWriteJob h at bytes)) a v w (none refl) here x
 write_tried c h at bytes a (Some r) v w says none here x =
     write_says c h at bytes a r v w (says r refl) x
-
-pub away_write_stops : (c : Config) (h at : ℕ) (bytes : List ℕ) (a : WriteAnswer) (v w u : View)
-    → a ≡ place.NotHere → WriteGives h at bytes a v w
-    → TurnStops c (jobs.Write (the_handle h) at bytes) w u → WriteStops c h at bytes v u
-away_write_stops c h at bytes a v w u is x stops =
-    let y = subst (λ (z : WriteAnswer). WriteGives h at bytes z v w) is x in
-    let job = jobs.Write (the_handle h) at bytes in
-    look_stops h y.0 (IsUnanswered job) (IsForWant job) v w u (looked h y.0) refl
-    (y.2 ∙ look_part h y.0 v)
-    (stops_wider AtNone (AtThis h) (IsUnanswered job) (IsUnanswered job) (IsForWant job)
-    (IsForWant job) (λ k none. absurd none) (λ t z. z) (λ t z. z) w u stops)
-
-pub away_write_tries : (c : Config) (h at : ℕ) (bytes : List ℕ) (a : WriteAnswer) (o : Option Reply)
-    (v w u : View) → a ≡ place.NotHere → WriteGives h at bytes a v w
-    → TurnTries c (jobs.Write (the_handle h) at bytes) o w u → WriteTries c h at bytes o v u
-away_write_tries c h at bytes a None v w u is x y =
-    let z = subst (λ (q : WriteAnswer). WriteGives h at bytes q v w) is x in
-    let vain = IsUnanswered (jobs.Write (the_handle h) at bytes) in
-    look_tries h z.0 vain v w u (looked h z.0) refl (z.2 ∙ look_part h z.0 v)
-    (tries_wider AtNone (AtThis h) vain vain (λ k none. absurd none) (λ t q. q) w u y)
-away_write_tries c h at bytes a (Some r) v w u is x (e, ends, next) =
-    let y = subst (λ (z : WriteAnswer). WriteGives h at bytes z v w) is x in
-    let z = look_asks c h y.0 (jobs.Write (the_handle h) at bytes) r v w u (looked h y.0) e refl y.1
-    (y.2 ∙ look_part h y.0 v) ends refl next in (z.0, inr z.1, z.2)
 
 -- ---- the loop round the tries
 pub write_again : (c : Config) (h at : ℕ) (bytes : List ℕ) (o : Option Reply) (v w u : View)
     → o ≡ None → WriteTries c h at bytes None v w → WriteTries c h at bytes o w u
     → WriteTries c h at bytes None v u
 write_again c h at bytes o v w u is x y =
-    tries_then (AtThis h) (IsUnanswered (jobs.Write (the_handle h) at bytes)) v w u x
+    tries_then (AtThis h) (IsUnanswered (IsWriteJob h at bytes)) v w u x
     (subst (λ (z : Option Reply). WriteTries c h at bytes z w u) is y)
 
 pub write_at_last : (c : Config) (h at : ℕ) (bytes : List ℕ) (o : Option Reply) (r : Reply)
     (v w u : View) → o ≡ Some r → WriteTries c h at bytes None v w
     → WriteTries c h at bytes o w u → WriteAnswers c h at bytes r v u
-write_at_last c h at bytes o r v w u is (d, x, grew) y =
-    let z : WriteTries c h at bytes (Some r) w u =
-    subst (λ (q : Option Reply). WriteTries c h at bytes q w u) is y in
-    ends_after (AtThis h) (IsUnanswered (jobs.Write (the_handle h) at bytes))
-    (WriteCallEnds c h at bytes r) (λ (q : View). q) v w u d z.0 x grew z.1 z.2
+write_at_last c h at bytes o r v w u is x y =
+    ends_then (AtThis h) (IsUnanswered (IsWriteJob h at bytes)) (WriteCallEnds c h at bytes r)
+    (λ (q : View). q) v w u x (subst (λ (q : Option Reply). WriteTries c h at bytes q w u) is y)

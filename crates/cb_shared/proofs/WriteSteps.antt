@@ -19,8 +19,8 @@ use Rattle.cb_shared.specs.Claims.{with_only}
 use Rattle.cb_shared.specs.Glances.{Glances}
 use Rattle.cb_shared.specs.Passes.{IsAtRest}
 use Rattle.cb_shared.specs.Seats.{IsOf, SeatAt, Moves, record_at}
-use Rattle.cb_shared.specs.Writing.{IsRoomFor, IsWriteRefusal, WriteAt, WriteClaimed, WriteGives}
-use Rattle.cb_shared.specs.Writing.{last_seen}
+use Rattle.cb_shared.specs.Writing.{FoundFarAs, IsRoomFor, IsWriteRefusal, WriteAt, WriteClaimed}
+use Rattle.cb_shared.specs.Writing.{WriteGives, last_seen}
 use Rattle.cb_shared.proofs.Resting.{far_empty, here_empty, moving_empty, view_of}
 
 pub of_moves : (z : TableId) (k : Setup) (c : Config) (p q : SeatAt) (w : View) → IsOf z k c p
@@ -154,6 +154,19 @@ refused_writes h w at bytes (Pinned k) p q g why = (
 )
 refused_writes h w at bytes Worn p q g why = absurd why
 refused_writes h w at bytes (Raced s f) p q g why = absurd why
+
+-- with its word where it was found far
+pub refused_far : (h w at : ℕ) (bytes : List ℕ) (a : WriteAnswer) (p q : SeatAt) → Glances h w p q
+    → IsWriteRefusal at (length bytes) w a → a ≡ NotHere
+    → FoundFarAs h w (record_at p) (record_at q)
+refused_far h w at bytes a p q g why is =
+    let far = subst (IsWriteRefusal at (length bytes) w) is why in
+    (far, view_of p q (with_look h w (record_at p)) (g.other (λ e. far_empty (sym far ∙ e))))
+
+-- an exchange is made at a word that is here
+pub claimed_here : (h w at : ℕ) (bytes : List ℕ) (a : WriteAnswer) (v u : View)
+    → WriteAt h w at bytes a v u → a ≡ NotHere → ⊥
+claimed_here h w at bytes a v u x is = subst (λ (z : WriteAnswer). WriteAt h w at bytes z v u) is x
 
 -- ---- a look at a word that can be claimed, and then the exchange
 module _ (h w at : ℕ) (bytes : List ℕ) (p m q : SeatAt) (g : Glances h w p m)

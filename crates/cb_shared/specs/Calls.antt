@@ -22,6 +22,7 @@ use Rattle.cb_shared.specs.declared.answers.WriteAnswer.{WriteAnswer}
 use Rattle.cb_shared.specs.declared.answers.WriteAnswer.TheVariants as place
 use Rattle.cb_shared.specs.Glances.{IsLastAlone}
 use Rattle.cb_record.specs.Deeds.{deed, happened}
+use Rattle.cb_record.specs.Lists.{HasOne}
 use Rattle.cb_record.specs.Parts.{Part, Grows, grown, nothing_more, sum}
 pub use Rattle.cb_shared.specs.Trying.{again_in, newest_tries}
 use Rattle.cb_shared.specs.Reading.{FindsGone, FindsOther, FindsWord, IsReadHere, looked}
@@ -56,9 +57,11 @@ TellsWhatIs other = ⊥
 abbrev pub IsAnswer : Bool → Reply → Type 0
 IsAnswer again r = TellsOfIt r ⊎ IsLack again r
 
--- nor is one of this job; a swap tells nothing of its object
+-- nor is one of this job; one that brings its object in tells nothing of it
 abbrev pub IsAnswerTo : Bool → Job → Reply → Type 0
 IsAnswerTo again (jobs.Swap handle) r = IsLack again r
+IsAnswerTo again (jobs.Fetch handle) r = IsLack again r
+IsAnswerTo again jobs.Land r = IsLack again r
 IsAnswerTo again (jobs.Read handle) r = TellsWhatIs r ⊎ IsLack again r
 IsAnswerTo again other r = IsAnswer again r
 
@@ -69,31 +72,48 @@ IsCalled (jobs.Read handle) = Unit {0}
 IsCalled (jobs.Write handle at bytes) = Unit {0}
 IsCalled (jobs.Free handle) = Unit {0}
 IsCalled (jobs.Swap handle) = Unit {0}
+IsCalled (jobs.Fetch handle) = Unit {0}
+IsCalled jobs.Land = Unit {0}
 IsCalled other = ⊥
 
 abbrev pub the_handle : ℕ → Handle
 the_handle h = record { n = h }
 
--- the jobs of a read: its object is brought in, and in the second one it is read as well
-abbrev pub IsFetch : ℕ → Job → Type 0
-IsFetch h job = (job ≡ jobs.Swap (the_handle h)) ⊎ (job ≡ jobs.Read (the_handle h))
+-- this job, and no other
+abbrev pub OfThis : Job → Job → Type 0
+OfThis job j = j ≡ job
 
--- a turn of this job that was told no answer to its call
-abbrev pub IsUnanswered : Job → Turn → Type 0
-IsUnanswered job t = (t.job ≡ job)
-    × ((r : Reply) × (t.reply ≡ Some r) × (IsAnswerTo (tries_again t) job r → ⊥))
+-- The jobs that bring this object in where it is far: it is swapped in; or the rows out of which
+-- its own can be made are fetched, and then the row that was made of them is landed.
+abbrev pub Brings : ℕ → Job → Type 0
+Brings h job = (job ≡ jobs.Swap (the_handle h))
+    ⊎ ((job ≡ jobs.Fetch (the_handle h)) ⊎ (job ≡ jobs.Land))
 
--- so one of a read
-abbrev pub IsUnfetched : ℕ → Turn → Type 0
-IsUnfetched h t = (job : Job) × IsFetch h job × IsUnanswered job t
+-- the jobs of a read: these, and its own, which reads the object as well
+abbrev pub IsReadJob : ℕ → Job → Type 0
+IsReadJob h job = Brings h job ⊎ (job ≡ jobs.Read (the_handle h))
 
--- a turn of this job that found no memory
-abbrev pub IsForWant : Job → Turn → Type 0
-IsForWant job t = (t.job ≡ job) × (t.reply ≡ None)
+-- those of a write: its own, by which the object is swapped in too, and the two by which its row is
+-- made
+abbrev pub IsWriteJob : ℕ → ℕ → List ℕ → Job → Type 0
+IsWriteJob h at bytes job = (job ≡ jobs.Write (the_handle h) at bytes)
+    ⊎ ((job ≡ jobs.Fetch (the_handle h)) ⊎ (job ≡ jobs.Land))
 
--- so one of a read
-abbrev pub IsFetchForWant : ℕ → Turn → Type 0
-IsFetchForWant h t = (job : Job) × IsFetch h job × IsForWant job t
+-- so of one that found its object far with this word: the row is landed only where the bytes lie
+-- inside of the object
+abbrev pub IsWriteJobAt : ℕ → ℕ → List ℕ → ℕ → Job → Type 0
+IsWriteJobAt h at bytes word job = (job ≡ jobs.Write (the_handle h) at bytes)
+    ⊎ ((job ≡ jobs.Fetch (the_handle h))
+    ⊎ ((job ≡ jobs.Land) × (at + length bytes ≤ len_of word)))
+
+-- a turn of such a job that was told no answer to its call
+abbrev pub IsUnanswered : (Job → Type 0) → Turn → Type 0
+IsUnanswered may t = may t.job
+    × ((r : Reply) × (t.reply ≡ Some r) × (IsAnswerTo (tries_again t) t.job r → ⊥))
+
+-- a turn of such a job that found no memory
+abbrev pub IsForWant : (Job → Type 0) → Turn → Type 0
+IsForWant may t = may t.job × (t.reply ≡ None)
 
 -- Tries that came to nothing: looks at such objects and such turns, which wrote, read and pinned
 -- nothing, and by which nothing was made.
@@ -144,13 +164,23 @@ pub record EndsAtLast (on : ℕ → Type 0) (vain : Turn → Type 0) (ends : Vie
 abbrev pub TurnEnds : Config → Job → Reply → View → Part → Type 0
 TurnEnds c job r v d = IsAnswerTo (again_in d.turns) job r × TurnAdds c job (Ok r) v d
 
--- a look that found the object far, and then such a turn
-pub record AsksFor (c : Config) (job : Job) (r : Reply) (h : ℕ) (v : View) (d : Part) : Type 0 where
-  pub word : ℕ
-  pub later : Part
-  pub away : state_of word ≡ state.Far
-  pub turned : TurnEnds c job r (grown (looked h word) v) later
-  pub part : d ≡ sum (looked h word) later
+-- so one of such jobs
+pub record AnswersBy (c : Config) (may : Job → Type 0) (r : Reply) (v : View) (d : Part) : Type 0
+  where
+    pub job : Job
+    pub of : may job
+    pub ends : TurnEnds c job r v d
+
+-- the newest look found this object far
+abbrev pub FoundFar : ℕ → List Look → Type 0
+FoundFar h [] = ⊥
+FoundFar h (l ∷ older) = (l.handle ≡ h) × (state_of l.word ≡ state.Far)
+
+-- such a turn, made where the newest look of the pass found the object far
+pub record AsksFor (c : Config) (may : Job → Type 0) (r : Reply) (h : ℕ) (v : View) (d : Part)
+    : Type 0 where
+  pub away : FoundFar h v.looks
+  pub turned : AnswersBy c may r v d
 
 -- a read under a pin of its own, or a look that finds the object freed
 abbrev pub ReadsInPlace : ℕ → Reply → View → Part → Type 0
@@ -161,8 +191,7 @@ ReadsInPlace h r v d = ⊥
 -- The last try of a read: in place, or by a turn where a look found the object far: one that can't
 -- bring it in, or one of the read's own job.
 abbrev pub ReadCallEnds : Config → ℕ → Reply → View → Part → Type 0
-ReadCallEnds c h r v d =
-    ReadsInPlace h r v d ⊎ ((job : Job) × IsFetch h job × AsksFor c job r h v d)
+ReadCallEnds c h r v d = ReadsInPlace h r v d ⊎ AsksFor c (IsReadJob h) r h v d
 
 -- a look and an exchange that claimed the object at this word, and the entry that was written
 abbrev pub written_once : ℕ → ℕ → ℕ → List ℕ → List ℕ → Part
@@ -231,50 +260,72 @@ IsNoReply place.Moving = Unit {0}
 IsNoReply (place.Raced saw found) = Unit {0}
 IsNoReply other = ⊥
 
--- The last try of a write: in place, or by a turn where a look found the object far.
+-- The last try of a write: in place, or by a turn where a look found the object far: one that can't
+-- bring it in, or one of the write's own job.
 abbrev pub WriteCallEnds : Config → ℕ → ℕ → List ℕ → Reply → View → Part → Type 0
 WriteCallEnds c h at bytes r v d =
     ((a : WriteAnswer) × SaysAs a r × WriteFinds h at bytes a v d)
-    ⊎ AsksFor c (jobs.Write (the_handle h) at bytes) r h v d
+    ⊎ AsksFor c (IsWriteJob h at bytes) r h v d
 
 -- the record after a read, a write, and a make or a free by turns
 abbrev pub ReadGives : Config → ℕ → Reply → View → View → Type 0
 ReadGives c h r v w = (d : Part)
-    × EndsAtLast (AtThis h) (IsUnfetched h) (ReadCallEnds c h r) v d × Grows v d w
+    × EndsAtLast (AtThis h) (IsUnanswered (IsReadJob h)) (ReadCallEnds c h r) v d × Grows v d w
 
 abbrev pub WriteAnswers : Config → ℕ → ℕ → List ℕ → Reply → View → View → Type 0
 WriteAnswers c h at bytes r v w = (d : Part)
-    × EndsAtLast (AtThis h) (IsUnanswered (jobs.Write (the_handle h) at bytes))
+    × EndsAtLast (AtThis h) (IsUnanswered (IsWriteJob h at bytes))
     (WriteCallEnds c h at bytes r) v d × Grows v d w
+
+-- a look that found the object far, with so many bytes from the byte number `at` on inside of it
+abbrev pub FoundInside : ℕ → ℕ → ℕ → Look → Type 0
+FoundInside h at count l =
+    (l.handle ≡ h) × (state_of l.word ≡ state.Far) × (at + count ≤ len_of l.word)
+
+-- the record grew, by a turn that landed a row only where it has such a look more
+abbrev pub LandsInside : ℕ → ℕ → ℕ → View → View → Type 0
+LandsInside h at count v w = (d : Part) × Grows v d w
+    × (HasOne (λ (t : Turn). t.job ≡ jobs.Land) d.turns → HasOne (FoundInside h at count) d.looks)
 
 -- a handle that was made is the pass's own
 abbrev pub TurnGives : Config → Job → Reply → View → View → Type 0
 TurnGives c job r v w = (d : Part)
-    × EndsAtLast (LooksOf job) (IsUnanswered job) (TurnEnds c job r) v d
+    × EndsAtLast (LooksOf job) (IsUnanswered (OfThis job)) (TurnEnds c job r) v d
     × (w ≡ with_own (made_by_turn job (Some r)) (grown d v))
 
--- what is left of each where there was no memory
+-- what is left where there was no memory, of looks at such objects and turns of such jobs; and so of
+-- each call
+abbrev pub StopsBy : (ℕ → Type 0) → (Job → Type 0) → View → View → Type 0
+StopsBy on may v w = StopsInVain on (IsUnanswered may) (IsForWant may) v w
+
 abbrev pub ReadStops : Config → ℕ → View → View → Type 0
-ReadStops c h v w = StopsInVain (AtThis h) (IsUnfetched h) (IsFetchForWant h) v w
+ReadStops c h v w = StopsBy (AtThis h) (IsReadJob h) v w
 
 abbrev pub WriteStops : Config → ℕ → ℕ → List ℕ → View → View → Type 0
-WriteStops c h at bytes v w = let job = jobs.Write (the_handle h) at bytes in
-    StopsInVain (AtThis h) (IsUnanswered job) (IsForWant job) v w
+WriteStops c h at bytes v w = StopsBy (AtThis h) (IsWriteJob h at bytes) v w
 
 abbrev pub TurnStops : Config → Job → View → View → Type 0
-TurnStops c job v w = StopsInVain (LooksOf job) (IsUnanswered job) (IsForWant job) v w
+TurnStops c job v w = StopsBy (LooksOf job) (OfThis job) v w
 
 -- what one try comes to: it ends so, or came to nothing
 abbrev pub TurnTries : Config → Job → Option Reply → View → View → Type 0
 TurnTries c job (Some r) v w =
     (d : Part) × TurnEnds c job r v d × (w ≡ with_own (made_by_turn job (Some r)) (grown d v))
-TurnTries c job None v w = TriesInVain (LooksOf job) (IsUnanswered job) v w
+TurnTries c job None v w = TriesInVain (LooksOf job) (IsUnanswered (OfThis job)) v w
 
+-- So some turns of such jobs: all but the last one came to nothing, and there was no look among
+-- these; and the last one answers the call, or came to nothing too.
+abbrev pub TriesBy : Config → (ℕ → Type 0) → (Job → Type 0) → Option Reply → View → View → Type 0
+TriesBy c on may (Some r) v w = (d : Part)
+    × EndsAtLast AtNone (IsUnanswered may) (AnswersBy c may r) v d × Grows v d w
+TriesBy c on may None v w = TriesInVain on (IsUnanswered may) v w
+
+-- So a look at an object, and where it is far such turns.
 abbrev pub ReadTries : Config → ℕ → Option Reply → View → View → Type 0
-ReadTries c h (Some r) v w = (d : Part) × ReadCallEnds c h r v d × Grows v d w
-ReadTries c h None v w = TriesInVain (AtThis h) (IsUnfetched h) v w
+ReadTries c h (Some r) v w = ReadGives c h r v w
+ReadTries c h None v w = TriesInVain (AtThis h) (IsUnanswered (IsReadJob h)) v w
 
 abbrev pub WriteTries : Config → ℕ → ℕ → List ℕ → Option Reply → View → View → Type 0
-WriteTries c h at bytes (Some r) v w = (d : Part) × WriteCallEnds c h at bytes r v d × Grows v d w
+WriteTries c h at bytes (Some r) v w = WriteAnswers c h at bytes r v w
 WriteTries c h at bytes None v w =
-    TriesInVain (AtThis h) (IsUnanswered (jobs.Write (the_handle h) at bytes)) v w
+    TriesInVain (AtThis h) (IsUnanswered (IsWriteJob h at bytes)) v w

@@ -1,5 +1,5 @@
 -- The jobs by which a read brings a far object in.
-use Rattle.std.specs.Prelude.{◌≡◌, ℕ, ◌||◌, Bool, true, false, List, [], ◌∷◌, ◌++◌, Option, Some}
+use Rattle.std.specs.Prelude.{◌≡◌, ◌⊎◌, ℕ, ◌||◌, Bool, true, false, List, [], ◌∷◌, ◌++◌, Option, Some}
 use Rattle.cb_types.specs.declared.job.Job.{Job}
 use Rattle.cb_types.specs.declared.job.Job.TheVariants as jobs
 use Rattle.cb_types.specs.declared.reply.Reply.{Reply}
@@ -18,17 +18,38 @@ abbrev pub brought_in_by : Bool → List Turn → Bool
 brought_in_by before [] = before
 brought_in_by before (t ∷ ts) = brings t.reply || brought_in_by before ts
 
--- A read of a far object brings it in. Where it was brought in before, and has left again, the next
--- turn reads it as well.
-abbrev pub job_to_fetch : ℕ → Bool → Job
-job_to_fetch h false = jobs.Swap (record { n = h })
-job_to_fetch h true = jobs.Read (record { n = h })
+-- The job behind a fetch that was told so: rows that it handed out are landed; where the object's own
+-- row is not lost it is swapped in; and else it is fetched again.
+abbrev pub job_behind_fetch : ℕ → Option Reply → Job
+job_behind_fetch h (Some (answer.Fetched set position)) = jobs.Land
+job_behind_fetch h (Some answer.Direct) = jobs.Swap (record { n = h })
+job_behind_fetch h told = jobs.Fetch (record { n = h })
+
+-- and behind any turn of a call that brings its object in
+abbrev pub job_behind_turn : ℕ → Job → Option Reply → Job
+job_behind_turn h (jobs.Fetch handle) told = job_behind_fetch h told
+job_behind_turn h job told = jobs.Fetch (record { n = h })
+
+-- so behind these turns, the newest first; a fetch comes first
+abbrev pub job_behind : ℕ → List Turn → Job
+job_behind h [] = jobs.Fetch (record { n = h })
+job_behind h (t ∷ ts) = job_behind_turn h t.job t.reply
+
+-- A read of a far object brings it in so. Where it was brought in before, and has left again, the
+-- next turn reads it as well.
+abbrev pub job_to_fetch : ℕ → Bool → List Turn → Job
+job_to_fetch h false ts = job_behind h ts
+job_to_fetch h true ts = jobs.Read (record { n = h })
 
 -- each of these turns, the newest first, has that job by those before it
 abbrev pub AreFetches : ℕ → Bool → List Turn → Type 0
 AreFetches h before [] = Unit {0}
 AreFetches h before (t ∷ ts) =
-    (t.job ≡ job_to_fetch h (brought_in_by before ts)) × AreFetches h before ts
+    (t.job ≡ job_to_fetch h (brought_in_by before ts) ts) × AreFetches h before ts
+
+-- the newest one is no fetch behind which a row is still to be landed or swapped in
+abbrev pub AreDone : ℕ → List Turn → Type 0
+AreDone h ts = job_behind h ts ≡ jobs.Fetch (record { n = h })
 
 -- the turns that a record got
 abbrev pub GetsTurns : (List Turn → Type 0) → View → View → Type 0
@@ -38,9 +59,19 @@ GetsTurns P v w = (ts : List Turn) × (w.turns ≡ ts ++ v.turns) × P ts
 abbrev pub IsOneOf : Job → List Turn → Type 0
 IsOneOf job ts = (t : Turn) × (ts ≡ t ∷ []) × (t.job ≡ job)
 
+-- there is none, or that one
+abbrev pub IsOneAtMost : Job → List Turn → Type 0
+IsOneAtMost job ts = (ts ≡ []) ⊎ IsOneOf job ts
+
 -- by them it is known whether the object was brought in
 abbrev pub IsOneMore : Job → Bool → Bool → List Turn → Type 0
 IsOneMore job before after ts = IsOneOf job ts × (after ≡ brought_in_by before ts)
 
 abbrev pub AreFetchesTo : ℕ → Bool → Bool → List Turn → Type 0
-AreFetchesTo h before after ts = AreFetches h before ts × (after ≡ brought_in_by before ts)
+AreFetchesTo h before after ts =
+    AreFetches h before ts × (after ≡ brought_in_by before ts) × AreDone h ts
+
+-- so of turns that bring the object in, and do not read it, whether or not it was brought in before
+abbrev pub AreBringingTo : ℕ → Bool → Bool → List Turn → Type 0
+AreBringingTo h before after ts =
+    AreFetches h false ts × (after ≡ brought_in_by before ts) × AreDone h ts

@@ -22,3 +22,4 @@ pub mod Rights
 pub mod Calls
 pub mod Fetching
 pub mod Ordering
+pub mod Ways

@@ -102,7 +102,7 @@ handed_by (ends.Install r) = None
 handed_by (ends.Fetch r) = fetch_hands r
 handed_by (ends.Land r) = None
 
--- such an order can be run
+-- an order can be run, if there is one
 abbrev pub CanRun : Option Kept → Type 0
 CanRun None = Unit {0}
 CanRun (Some (Encode o)) = IsEncodable o

@@ -79,6 +79,10 @@ WriteGives h at bytes (Pinned count) v w = LooksOnce h v w (λ n.
 WriteGives h at bytes Worn v w = IsWorn h at (length bytes) v w
 WriteGives h at bytes (Raced saw found) v w = LoosesRace h saw found v w
 
+-- the call looked at the object once, and found it far with this word
+abbrev pub FoundFarAs : ℕ → ℕ → View → View → Type 0
+FoundFarAs h word v w = (state_of word ≡ state.Far) × (w ≡ with_look h word v)
+
 -- why a write is refused by the word that was found
 abbrev pub IsWriteRefusal : ℕ → ℕ → ℕ → WriteAnswer → Type 0
 IsWriteRefusal at count n Freed = state_of n ≡ state.Empty

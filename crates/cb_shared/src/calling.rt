@@ -5,15 +5,15 @@ ghost use Rattle.cb_types.specs.Config.{most_bytes};
 ghost use Rattle.cb_types.specs.declared.job.Job.TheVariants as jobs;
 ghost use Rattle.cb_types.specs.declared.reply.Reply.{Reply};
 ghost use Rattle.cb_shared.specs.declared.answers.WriteAnswer.TheVariants as places;
-ghost use Rattle.cb_core.specs.Jobs.{IsJob};
+ghost use Rattle.cb_core.specs.Jobs.{IsJob, NeedsNoOrder};
 ghost use Rattle.cb_rule.specs.Steps.{Knows};
-ghost use Rattle.cb_shared.specs.Calls.{IsAnswerTo, IsCalled, IsLack, IsNoReply, ReadGives};
-ghost use Rattle.cb_shared.specs.Calls.{ReadStops, ReadTries, SaysAs, TellsOfIt, TellsWhatIs};
+ghost use Rattle.cb_shared.specs.Calls.{AtNone, AtThis, IsAnswerTo, IsCalled, IsLack, IsNoReply};
+ghost use Rattle.cb_shared.specs.Calls.{IsReadJob, IsWriteJobAt, LandsInside, ReadGives, ReadStops};
+ghost use Rattle.cb_shared.specs.Calls.{ReadTries, SaysAs, StopsBy, TellsOfIt, TellsWhatIs, TriesBy};
 ghost use Rattle.cb_shared.specs.Calls.{TurnGives, TurnStops, TurnTries, WriteAnswers, WriteStops};
 ghost use Rattle.cb_shared.specs.Calls.{WriteTries};
 ghost use Rattle.cb_record.specs.Parts.{Part, Grows};
 ghost use Rattle.cb_shared.specs.Fetching.{AreFetches, AreFetchesTo, GetsTurns, IsOneMore, IsOneOf};
-ghost use Rattle.cb_shared.specs.Fetching.{job_to_fetch};
 ghost use Rattle.cb_shared.specs.Making.{MakesNew, TriesNew};
 ghost use Rattle.cb_shared.specs.Passes.{IsPassOf, record_of};
 ghost use Rattle.cb_shared.specs.Reading.{ReadFinds, looked};
@@ -22,23 +22,25 @@ ghost use Rattle.cb_ptr.specs.declared.word.State.TheVariants as state;
 ghost use Rattle.cb_ptr.specs.Word.{state_of};
 
 use crate::answers::WriteAnswer;
+use crate::ways::Way;
 use crate::handles::count_pins;
 use crate::pass::Pass;
 use crate::reading::{ReadAnswer, read_pinned};
 use crate::runtime::Shared;
 use crate::waiting::Patience;
+use crate::writing::is_inside;
 use cb_types::{Bytes, Handle, Job, NoMemory, Reply};
 use std::alloc::Global;
 use std::sync::Wait;
 
 impl Shared {
     /// The version and the bytes of an object that the pass knows, under a pin of its own beside
-    /// those of the scope; Freed where it was freed. A far object is brought in by a turn of the
-    /// job Swap, and looked at again at once; where it has left again by then, by a turn of the job
-    /// Read, which reads it too. Where that can't be, the answer is why: Unavailable, NoRoom, or
-    /// Worn by the count of turns. Tries again where the object is being moved or written, has as
-    /// many pins as its word can count, or another pass came first, and where too few spans were
-    /// loose but there are so many frames that more may come. Waits.
+    /// those of the scope; Freed where it was freed. A far object is brought in as `bring` says,
+    /// and looked at again at once; where it has left again by then, by a turn of the job Read,
+    /// which reads it too. Where that can't be, the answer is why: Unavailable, NoRoom, or Worn by
+    /// the count of turns. Tries again where the object is being moved or written, has as many pins
+    /// as its word can count, or another pass came first, and where too few spans were loose but
+    /// there are so many frames that more may come. Waits.
     ///
     /// This is the read for callers, who hold the far lock only within those turns; that for turns
     /// of the job Read is `read_by_seat`.
@@ -70,10 +72,12 @@ impl Shared {
     /// Writes over a part of an object that the pass knows, `bytes` from the byte number `at` on,
     /// where it is and has no pins: Version with its next version; Freed where it was freed; Range
     /// with its length where the bytes go past its end; Pinned with the count of its pins; Worn
-    /// where its version has no next one. A far object is written by a turn of the job Write; where
-    /// it can't be brought in, the answer is why: Unavailable, NoRoom, or Worn by the count of
-    /// turns. Tries again where the object is being moved or written, or another pass came first,
-    /// and where too few spans were loose but there are so many frames that more may come. Waits.
+    /// where its version has no next one. Of a far object whose row is lost that row is made and
+    /// landed, as `bring` says, and the write looks again; but where the bytes go past its end, and
+    /// where its row is not lost, it is written by a turn of the job Write. Where it can't be
+    /// brought in, the answer is why: Unavailable, NoRoom, or Worn by the count of turns. Tries
+    /// again where the object is being moved or written, or another pass came first, and where too
+    /// few spans were loose but there are so many frames that more may come. Waits.
     pub fn write<R: Wait>(
         &self,
         rt: &R,
@@ -90,6 +94,8 @@ impl Shared {
             (record_of pass.old) (record_of pass.new)) }
         ensures error { OnErr result (WriteStops self.now.config h.n at bytes.now
             (record_of pass.old) (record_of pass.new)) }
+        ensures lands { LandsInside h.n at (length bytes.now) (record_of pass.old)
+            (record_of pass.new) }
     {
         let mut patience = Patience::new();
         for _ in rt.forever() {
@@ -161,6 +167,7 @@ impl Shared {
         requires job { IsJob self.now.config job.now }
         requires knows { KnowsOf job.now (record_of pass.old) }
         requires called { IsCalled job.now }
+        requires alone { NeedsNoOrder job.now }
         ensures of { IsPassOf self.now pass.new }
         ensures turn { IfOk result (λ reply. TurnGives self.now.config job.now reply
             (record_of pass.old) (record_of pass.new)) }
@@ -180,7 +187,7 @@ impl Shared {
 
     /// A turn of a job; None where it does not answer the call, after a wait where others stand in
     /// its way.
-    fn try_turn<R: Wait>(
+    pub(crate) fn try_turn<R: Wait>(
         &self,
         rt: &R,
         alloc: Global,
@@ -192,6 +199,7 @@ impl Shared {
         requires job { IsJob self.now.config job.now }
         requires knows { KnowsOf job.now (record_of pass.old) }
         requires called { IsCalled job.now }
+        requires alone { NeedsNoOrder job.now }
         ensures of { IsPassOf self.now pass.new }
         ensures turn { IfOk result (λ o. TurnTries self.now.config job.now o (record_of pass.old)
             (record_of pass.new)) }
@@ -212,7 +220,7 @@ impl Shared {
         }
     }
 
-    /// One read under a pin of its own, or a turn where the object is far; None where neither
+    /// One read under a pin of its own, or turns where the object is far; None where none of them
     /// answers the call, after a wait where others stand in its way.
     fn try_read<R: Wait>(
         &self,
@@ -237,10 +245,7 @@ impl Shared {
         match self.read_beside(alloc, pass, h)? {
             ReadAnswer::Bytes { version, bytes } => Ok(Some(Reply::Bytes { version, bytes })),
             ReadAnswer::Freed => Ok(Some(Reply::Freed)),
-            ReadAnswer::NotHere => {
-                let job = fetch_job(h, patience);
-                self.try_turn(rt, alloc, pass, &job, patience)
-            }
+            ReadAnswer::NotHere => self.read_far(rt, alloc, pass, h, patience),
             ReadAnswer::Moving | ReadAnswer::Crowded | ReadAnswer::Raced { .. } => {
                 self.wait(rt, patience);
                 Ok(None)
@@ -248,8 +253,38 @@ impl Shared {
         }
     }
 
-    /// One write in place, or a turn where the object is far; None where neither answers the call,
-    /// after a wait where others stand in its way.
+    /// Turns of a read that found its object far: they bring it in, and where that was done before
+    /// and it has left again, a turn of the job Read reads it too. Nobody can take the object away
+    /// between the two parts of such a turn.
+    fn read_far<R: Wait>(
+        &self,
+        rt: &R,
+        alloc: Global,
+        pass: &mut Pass,
+        h: Handle,
+        patience: &mut Patience,
+    ) -> Result<Option<Reply>, NoMemory>
+        requires of { IsPassOf self.now pass.old }
+        requires knows { Knows h.n (record_of pass.old) }
+        ensures of { IsPassOf self.now pass.new }
+        ensures read { IfOk result (λ o. TriesBy self.now.config (AtThis h.n) (IsReadJob h.n) o
+            (record_of pass.old) (record_of pass.new)) }
+        ensures error { OnErr result (ReadStops self.now.config h.n (record_of pass.old)
+            (record_of pass.new)) }
+        ensures jobs { GetsTurns (AreFetches h.n patience.old.brought) (record_of pass.old)
+            (record_of pass.new) }
+        ensures brought { IfOk result (λ o. o ≡ None → GetsTurns (AreFetchesTo h.n
+            patience.old.brought patience.new.brought) (record_of pass.old) (record_of pass.new)) }
+    {
+        if patience.has_brought() {
+            self.try_turn(rt, alloc, pass, &Job::Read { handle: h }, patience)
+        } else {
+            self.bring(rt, alloc, pass, h, patience)
+        }
+    }
+
+    /// One write in place, or turns where the object is far; None where none of them answers the
+    /// call, after a wait where others stand in its way.
     fn try_write<R: Wait>(
         &self,
         rt: &R,
@@ -267,21 +302,80 @@ impl Shared {
             (record_of pass.old) (record_of pass.new)) }
         ensures error { OnErr result (WriteStops self.now.config h.n at bytes.now
             (record_of pass.old) (record_of pass.new)) }
+        ensures lands { LandsInside h.n at (length bytes.now) (record_of pass.old)
+            (record_of pass.new) }
     {
-        let answer = self.write_here(pass, h, at, bytes);
+        let (word, answer) = self.write_seen(pass, h, at, bytes);
         if is_away(answer) {
-            let job = Job::Write {
-                handle: h,
-                at,
-                bytes: Bytes::copy_of(alloc, bytes)?,
-            };
-            return self.try_turn(rt, alloc, pass, &job, patience);
+            return self.write_far(rt, alloc, pass, h, at, bytes, word, patience);
         }
         let reply = reply_of(answer);
         if reply.is_none() {
             self.wait(rt, patience);
         }
         Ok(reply)
+    }
+
+    /// Turns of a write that found its object far, with this word. Where its row is lost, and the
+    /// bytes lie inside of the object, the row is made and landed; else they are written by a turn
+    /// of the job Write, which tells where they go past the end with nothing brought in.
+    fn write_far<R: Wait>(
+        &self,
+        rt: &R,
+        alloc: Global,
+        pass: &mut Pass,
+        h: Handle,
+        at: u32,
+        bytes: &[u8],
+        word: u64,
+        patience: &mut Patience,
+    ) -> Result<Option<Reply>, NoMemory>
+        requires of { IsPassOf self.now pass.old }
+        requires knows { Knows h.n (record_of pass.old) }
+        ensures of { IsPassOf self.now pass.new }
+        ensures write { IfOk result (λ o. TriesBy self.now.config AtNone
+            (IsWriteJobAt h.n at bytes.now word) o (record_of pass.old) (record_of pass.new)) }
+        ensures error { OnErr result (StopsBy AtNone (IsWriteJobAt h.n at bytes.now word)
+            (record_of pass.old) (record_of pass.new)) }
+    {
+        match self.find_way(rt, pass, h, patience)? {
+            Way::Made(order) => {
+                if is_inside(word, at, bytes.len()) {
+                    self.land_order(rt, alloc, pass, order, patience)
+                } else {
+                    self.write_by_turn(rt, alloc, pass, h, at, bytes, patience)
+                }
+            }
+            Way::Direct => self.write_by_turn(rt, alloc, pass, h, at, bytes, patience),
+            Way::Told(told) => Ok(told),
+        }
+    }
+
+    /// A turn of the job Write, with a copy of the bytes.
+    fn write_by_turn<R: Wait>(
+        &self,
+        rt: &R,
+        alloc: Global,
+        pass: &mut Pass,
+        h: Handle,
+        at: u32,
+        bytes: &[u8],
+        patience: &mut Patience,
+    ) -> Result<Option<Reply>, NoMemory>
+        requires of { IsPassOf self.now pass.old }
+        requires knows { Knows h.n (record_of pass.old) }
+        ensures of { IsPassOf self.now pass.new }
+        ensures turn { IfOk result (λ o. TurnTries self.now.config
+            (jobs.Write h at bytes.now) o (record_of pass.old) (record_of pass.new)) }
+        ensures error { OnErr result (TurnStops self.now.config (jobs.Write h at bytes.now)
+            (record_of pass.old) (record_of pass.new)) }
+    {
+        let job = Job::Write {
+            handle: h,
+            at,
+            bytes: Bytes::copy_of(alloc, bytes)?,
+        };
+        self.try_turn(rt, alloc, pass, &job, patience)
     }
 
     /// One read under a pin beside those of the pass.
@@ -300,18 +394,6 @@ impl Shared {
     }
 }
 
-/// The job of a read whose object is far: Swap, and Read where it was brought in before and has
-/// left again. Nobody can take the object away between the two parts of a turn Read.
-fn fetch_job(h: Handle, patience: &Patience) -> Job
-    ensures { result ≡ job_to_fetch h.n patience.now.brought }
-{
-    if patience.has_brought() {
-        Job::Read { handle: h }
-    } else {
-        Job::Swap { handle: h }
-    }
-}
-
 /// Whether a turn of this job with this reply, which may be one that is made again, answers its
 /// call.
 fn is_answer(again: bool, job: &Job, reply: &Reply) -> bool
@@ -319,7 +401,7 @@ fn is_answer(again: bool, job: &Job, reply: &Reply) -> bool
     ensures no { result ≡ false → IsAnswerTo again job.now reply.now → ⊥ }
 {
     match job {
-        Job::Swap { .. } => is_lack(again, reply),
+        Job::Swap { .. } | Job::Fetch { .. } | Job::Land => is_lack(again, reply),
         Job::Read { .. } => tells_what_is(reply) || is_lack(again, reply),
         _ => tells_of_it(reply) || is_lack(again, reply),
     }
@@ -350,7 +432,7 @@ fn tells_of_it(reply: &Reply) -> bool
 
 /// Whether the reply of a turn, which may be one that is made again, tells why an object can't be
 /// brought in.
-fn is_lack(again: bool, reply: &Reply) -> bool
+pub(crate) fn is_lack(again: bool, reply: &Reply) -> bool
     ensures yes { result ≡ true → IsLack again reply.now }
     ensures no { result ≡ false → IsLack again reply.now → ⊥ }
 {

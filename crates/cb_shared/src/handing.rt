@@ -11,8 +11,9 @@ ghost use Rattle.cb_evict.specs.InstallRule.{kept_behind};
 ghost use Rattle.cb_core.specs.OrderLeaves.{fetch_hands, gather_hands};
 ghost use Rattle.cb_swapin.specs.declared.fetching.Fetching.TheVariants as fetching;
 ghost use Rattle.cb_shared.specs.Ordering.{CanRun, FetchFinds, IsAnswered, IsPlainFetch};
-ghost use Rattle.cb_shared.specs.Ordering.{IsPlainGather, MayAsk, behind_fetch, behind_gather, behind_landing};
-ghost use Rattle.cb_shared.specs.Ordering.{fetch_told, gather_told, handed_by, job_of, keeps_of, told};
+ghost use Rattle.cb_shared.specs.Ordering.{IsPlainGather, MayAsk, behind_fetch, behind_gather};
+ghost use Rattle.cb_shared.specs.Ordering.{behind_landing, fetch_told, gather_told, handed_by};
+ghost use Rattle.cb_shared.specs.Ordering.{job_of, keeps_of, told};
 ghost use Rattle.cb_shared.specs.Passes.{IsAtRest, IsPassOf, record_of};
 ghost use Rattle.cb_shared.specs.Seats.{IsOf, record_at};
 ghost use Rattle.cb_shared.specs.Trying.{tries_of};
@@ -102,10 +103,31 @@ impl Shared {
         ensures runs { CanRun (fetch_hands result) }
     {
         let _alloc = alloc;
-        let outcome = self.ask(rt, pass, &Asked::Fetch(h));
-        let fetching = outcome.into_fetching();
+        let fetching = self.fetch_within(rt, pass, h);
         self.find_swapped(rt, pass, fetched_of(h, &fetching));
         fetching
+    }
+
+    /// A turn of the job Fetch as a part of a call that goes on: as `fetch`, but that nothing is
+    /// looked for behind it.
+    pub(crate) fn fetch_within<R: Wait>(
+        &self,
+        rt: &R,
+        pass: &mut Pass,
+        h: Handle,
+    ) -> Result<Fetching, NoMemory>
+        requires of { IsPassOf self.now pass.old }
+        requires handle { h.n < self.now.config.handles }
+        ensures of { IsPassOf self.now pass.new }
+        ensures turn { TurnBy self.now.config (jobs.Fetch h) (fetch_told result)
+            (record_of pass.old) (record_of pass.new) }
+        ensures keeps { (record_of pass.new).order
+            ≡ behind_fetch result (record_of pass.old).order }
+        ensures plain { IsPlainFetch result }
+        ensures runs { CanRun (fetch_hands result) }
+    {
+        let outcome = self.ask(rt, pass, &Asked::Fetch(h));
+        outcome.into_fetching()
     }
 
     /// A turn of the job Land, as `turn` makes one: the position of the order that the pass keeps

@@ -34,6 +34,7 @@ mod starting;
 mod trying;
 pub mod turning;
 pub mod waiting;
+mod ways;
 mod working;
 mod writing;
 

@@ -1,17 +1,18 @@
-ghost use Rattle.std.specs.Prelude.{◌≡◌, ℕ, ◌+◌, ◌*◌, ◌^◌, ◌<◌, List, length, slice_index, Option};
-ghost use Rattle.std.specs.Prelude.{None, Some};
-ghost use Rattle.cb_ptr.specs.Word.{pins_of};
+ghost use Rattle.std.specs.Prelude.{◌≡◌, ℕ, ◌+◌, ◌*◌, ◌^◌, ◌<◌, ◌≤◌, true, false, List, length};
+ghost use Rattle.std.specs.Prelude.{slice_index, Option, None, Some};
+ghost use Rattle.cb_ptr.specs.Word.{len_of, pins_of};
 ghost use Rattle.cb_world.specs.Memory.{words_for};
 ghost use Rattle.cb_world.specs.Write.{IsWrite};
 ghost use Rattle.cb_mutate.specs.Merged.{IsWordMerged};
 ghost use Rattle.cb_rule.specs.declared.view.Held.{Held};
 ghost use Rattle.cb_rule.specs.Steps.{Knows};
 ghost use Rattle.cb_shared.specs.declared.answers.WriteAnswer.{WriteAnswer};
+ghost use Rattle.cb_shared.specs.declared.answers.WriteAnswer.TheVariants as answers;
 ghost use Rattle.cb_shared.specs.Claims.{HoldsOnly, IsFreshClaim, IsWithin, with_memory, with_only};
 ghost use Rattle.cb_shared.specs.Passes.{IsAtRest, IsPassOf, record_of};
 ghost use Rattle.cb_shared.specs.Seats.{IsOf, Moves, record_at};
-ghost use Rattle.cb_shared.specs.Writing.{IsRoomFor, IsWriteRefusal, WriteAt, WriteClaimed};
-ghost use Rattle.cb_shared.specs.Writing.{WriteGives};
+ghost use Rattle.cb_shared.specs.Writing.{FoundFarAs, IsRoomFor, IsWriteRefusal, WriteAt};
+ghost use Rattle.cb_shared.specs.Writing.{WriteClaimed, WriteGives};
 
 use crate::answers::WriteAnswer;
 use crate::board::{SeatAt, Top};
@@ -36,11 +37,33 @@ impl Shared {
         ensures write { WriteGives h.n at bytes.now result
             (record_of pass.old) (record_of pass.new) }
     {
+        self.write_seen(pass, h, at, bytes).1
+    }
+
+    /// So, with the word that its look found in front.
+    pub(crate) fn write_seen(
+        &self,
+        pass: &mut Pass,
+        h: Handle,
+        at: u32,
+        bytes: &[u8],
+    ) -> (u64, WriteAnswer)
+        requires of { IsPassOf self.now pass.old }
+        requires knows { Knows h.n (record_of pass.old) }
+        ensures of { IsPassOf self.now pass.new }
+        ensures write { WriteGives h.n at bytes.now result.1
+            (record_of pass.old) (record_of pass.new) }
+        ensures far { result.1 ≡ answers.NotHere → FoundFarAs h.n result.0 (record_of pass.old)
+            (record_of pass.new) }
+    {
         let top = &self.board.shared;
         let saw = glance(top, &mut pass.seat, &self.config, h.n);
         match refuse_write(saw, at, bytes.len()) {
-            Some(answer) => answer,
-            None => write_at(top, &mut pass.seat, &self.config, h.n, saw, at, bytes),
+            Some(answer) => (saw, answer),
+            None => (
+                saw,
+                write_at(top, &mut pass.seat, &self.config, h.n, saw, at, bytes),
+            ),
         }
     }
 }
@@ -62,6 +85,15 @@ fn refuse_write(word: u64, at: u32, count: usize) -> Option<WriteAnswer>
         State::Here if fields.pins > 0 => Some(WriteAnswer::Pinned { count: fields.pins }),
         State::Here => None,
     }
+}
+
+/// Whether so many bytes from the byte number `at` on lie inside of an object with this word.
+pub(crate) fn is_inside(word: u64, at: u32, count: usize) -> bool
+    requires { count < 2 ^ 63 }
+    ensures yes { result ≡ true → at + count ≤ len_of word }
+    ensures no { result ≡ false → len_of word < at + count }
+{
+    at as usize + count <= unpack(word).len as usize
 }
 
 /// The claim of an object at the word that was seen, and its write.

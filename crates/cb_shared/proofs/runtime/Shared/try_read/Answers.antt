@@ -1,14 +1,13 @@
 use Rattle.std.proofs.Common.{sym}
 use Rattle.std.proofs.lemmas.Option.{none-some}
 use Rattle.std.proofs.lemmas.Result.{IfOk-from_err, IfOk-weaker, on_err_weaker}
-use Rattle.cb_shared.proofs.CallSteps.{away_stops, away_tries, err_always, fetch_called, fetch_job}
-use Rattle.cb_shared.proofs.CallSteps.{fetch_knows, found_bytes, found_freed, found_hindered}
+use Rattle.cb_shared.proofs.CallSteps.{err_always, found_bytes, found_freed, found_hindered}
 use Rattle.cb_shared.proofs.CallSteps.{found_knows, is_hindered, lacks_room}
-use Rattle.cb_shared.proofs.Fetches.{fetch_is, fetched, fetched_more, fetches_none, found_same}
-use Rattle.cb_shared.proofs.Fetches.{lacks_same, no_fetches}
-use Rattle.cb_shared.specs.Calls.{IsUnfetched}
+use Rattle.cb_shared.proofs.FarSteps.{far_read, far_stops, found_far}
+use Rattle.cb_shared.proofs.Fetches.{fetches_none, found_same, gets_behind, lacks_same, no_fetches}
+use Rattle.cb_shared.specs.Calls.{IsReadJob, IsUnanswered}
+use Rattle.cb_shared.specs.Fetching.{AreFetches, AreFetchesTo}
 use Rattle.cb_shared.specs.Passes.{record_of}
-use Rattle.cb_shared.proofs.Resting.{known_below}
 use Rattle.cb_shared.proofs.runtime.Shared.try_read.Goals as goal
 
 pub returns-in_err-version-clause-error : goal.returns-in_err-version-clause-error
@@ -16,24 +15,10 @@ returns-in_err-version-clause-error g c = err_always c.from_residual.result _
     (lacks_room c.args.self.now.config c.args.h.n (record_of c.args.pass.now)
     (record_of c.read_beside.new.pass) c.in_err-version.ensures.error)
 
-pub try_turn-requires-clause-job : goal.try_turn-requires-clause-job
-try_turn-requires-clause-job g c = fetch_job c.args.self.now.config c.args.h.n
-    c.fetch_job-job.result (fetch_is c.args.h.n c.args.patience.now.brought c.fetch_job-job.result
-    c.fetch_job-job.ensures) (known_below c.args.self.now.config c.args.h.n
-    (record_of c.args.pass.now) c.requires.of.rest c.requires.knows)
-
-pub try_turn-requires-clause-knows : goal.try_turn-requires-clause-knows
-try_turn-requires-clause-knows g c = fetch_knows c.args.h.n c.fetch_job-job.result
-    (record_of c.read_beside.new.pass)
-    (fetch_is c.args.h.n c.args.patience.now.brought c.fetch_job-job.result
-    c.fetch_job-job.ensures) (found_knows c.args.h.n
+pub read_far-requires-clause-knows : goal.read_far-requires-clause-knows
+read_far-requires-clause-knows g c = found_knows c.args.h.n
     c.in_ok-version.field-0 (record_of c.args.pass.now) (record_of c.read_beside.new.pass)
-    c.requires.knows c.in_ok-version.ensures.read)
-
-pub try_turn-requires-clause-called : goal.try_turn-requires-clause-called
-try_turn-requires-clause-called g c = fetch_called c.args.h.n c.fetch_job-job.result
-    (fetch_is c.args.h.n c.args.patience.now.brought c.fetch_job-job.result
-    c.fetch_job-job.ensures)
+    c.requires.knows c.in_ok-version.ensures.read
 
 pub returns-in-Bytes-clause-read : goal.returns-in-Bytes-clause-read
 returns-in-Bytes-clause-read g c = found_bytes c.args.self.now.config c.args.h.n c.in-Bytes.version
@@ -46,22 +31,18 @@ returns-in-Freed-clause-read g c = found_freed c.args.self.now.config c.args.h.n
     c.in-Freed.is c.in_ok-version.ensures.read
 
 pub returns-in-NotHere-clause-read : goal.returns-in-NotHere-clause-read
-returns-in-NotHere-clause-read g c = IfOk-weaker c.try_turn.result _ _
-    (λ o x. away_tries c.args.self.now.config c.args.h.n c.fetch_job-job.result
-    c.in_ok-version.field-0 o (record_of c.args.pass.now) (record_of c.read_beside.new.pass)
-    (record_of c.try_turn.new.pass)
-    (fetch_is c.args.h.n c.args.patience.now.brought c.fetch_job-job.result
-    c.fetch_job-job.ensures) c.in-NotHere.is
-    c.in_ok-version.ensures.read x) c.try_turn.ensures.turn
+returns-in-NotHere-clause-read g c = IfOk-weaker c.read_far.result _ _
+    (λ o x. far_read c.args.self.now.config c.args.h.n o (record_of c.args.pass.now)
+    (record_of c.read_beside.new.pass) (record_of c.read_far.new.pass) (found_far c.args.h.n
+    c.in_ok-version.field-0 (record_of c.args.pass.now) (record_of c.read_beside.new.pass)
+    c.in-NotHere.is c.in_ok-version.ensures.read) x) c.read_far.ensures.read
 
 pub returns-in-NotHere-clause-error : goal.returns-in-NotHere-clause-error
-returns-in-NotHere-clause-error g c = on_err_weaker c.try_turn.result
-    (λ x. away_stops c.args.self.now.config c.args.h.n c.fetch_job-job.result
+returns-in-NotHere-clause-error g c = on_err_weaker c.read_far.result
+    (λ x. far_stops c.args.h.n (IsReadJob c.args.h.n) (record_of c.args.pass.now)
+    (record_of c.read_beside.new.pass) (record_of c.read_far.new.pass) (found_far c.args.h.n
     c.in_ok-version.field-0 (record_of c.args.pass.now) (record_of c.read_beside.new.pass)
-    (record_of c.try_turn.new.pass)
-    (fetch_is c.args.h.n c.args.patience.now.brought c.fetch_job-job.result
-    c.fetch_job-job.ensures) c.in-NotHere.is
-    c.in_ok-version.ensures.read x) c.try_turn.ensures.error
+    c.in-NotHere.is c.in_ok-version.ensures.read) x) c.read_far.ensures.error
 
 pub returns-in_err-version-clause-of : goal.returns-in_err-version-clause-of
 returns-in_err-version-clause-of g c = c.in_err-version.ensures.of
@@ -69,8 +50,8 @@ returns-in_err-version-clause-of g c = c.in_err-version.ensures.of
 pub returns-in_err-version-clause-read : goal.returns-in_err-version-clause-read
 returns-in_err-version-clause-read g c = IfOk-from_err _ _ c.from_residual.ensures.0
 
-pub try_turn-requires-clause-of : goal.try_turn-requires-clause-of
-try_turn-requires-clause-of g c = c.in_ok-version.ensures.of
+pub read_far-requires-clause-of : goal.read_far-requires-clause-of
+read_far-requires-clause-of g c = c.in_ok-version.ensures.of
 
 pub returns-in-Bytes-clause-of : goal.returns-in-Bytes-clause-of
 returns-in-Bytes-clause-of g c = c.in_ok-version.ensures.of
@@ -80,7 +61,7 @@ returns-in-Freed-clause-of g c = c.in_ok-version.ensures.of
 
 pub returns-in-Moving-clause-read : goal.returns-in-Moving-clause-read
 returns-in-Moving-clause-read g c = found_hindered c.args.h.n
-    (IsUnfetched c.args.h.n) c.in_ok-version.field-0
+    (IsUnanswered (IsReadJob c.args.h.n)) c.in_ok-version.field-0
     (record_of c.args.pass.now) (record_of c.read_beside.new.pass)
     (is_hindered c.in_ok-version.field-0 c.in-Moving.is) c.in_ok-version.ensures.read
 
@@ -88,7 +69,7 @@ pub returns-in-Moving-clause-of : goal.returns-in-Moving-clause-of
 returns-in-Moving-clause-of g c = c.in_ok-version.ensures.of
 
 pub returns-in-NotHere-clause-of : goal.returns-in-NotHere-clause-of
-returns-in-NotHere-clause-of g c = c.try_turn.ensures.of
+returns-in-NotHere-clause-of g c = c.read_far.ensures.of
 
 pub returns-in-Bytes-clause-jobs : goal.returns-in-Bytes-clause-jobs
 returns-in-Bytes-clause-jobs g c = no_fetches c.args.h.n c.args.patience.now.brought
@@ -130,18 +111,16 @@ pub returns-in_err-version-clause-brought : goal.returns-in_err-version-clause-b
 returns-in_err-version-clause-brought g c = IfOk-from_err _ _ c.from_residual.ensures.0
 
 pub returns-in-NotHere-clause-jobs : goal.returns-in-NotHere-clause-jobs
-returns-in-NotHere-clause-jobs g c = fetched c.args.h.n c.args.patience.now.brought
-    c.fetch_job-job.result (record_of c.args.pass.now) (record_of c.read_beside.new.pass)
-    (record_of c.try_turn.new.pass) c.fetch_job-job.ensures (found_same c.args.h.n
-    c.in_ok-version.field-0 (record_of c.args.pass.now) (record_of c.read_beside.new.pass)
-    c.in_ok-version.ensures.read) c.try_turn.ensures.one
-
-pub returns-in-NotHere-clause-brought : goal.returns-in-NotHere-clause-brought
-returns-in-NotHere-clause-brought g c = IfOk-weaker c.try_turn.result _ _
-    (λ o x none. fetched_more c.args.h.n c.args.patience.now.brought
-    c.try_turn.new.patience.brought c.fetch_job-job.result (record_of c.args.pass.now)
-    (record_of c.read_beside.new.pass) (record_of c.try_turn.new.pass) c.fetch_job-job.ensures
+returns-in-NotHere-clause-jobs g c = gets_behind (AreFetches c.args.h.n c.args.patience.now.brought)
+    (record_of c.args.pass.now) (record_of c.read_beside.new.pass) (record_of c.read_far.new.pass)
     (found_same c.args.h.n
     c.in_ok-version.field-0 (record_of c.args.pass.now) (record_of c.read_beside.new.pass)
-    c.in_ok-version.ensures.read)
-    (x none)) c.try_turn.ensures.brought
+    c.in_ok-version.ensures.read) c.read_far.ensures.jobs
+
+pub returns-in-NotHere-clause-brought : goal.returns-in-NotHere-clause-brought
+returns-in-NotHere-clause-brought g c = IfOk-weaker c.read_far.result _ _
+    (λ o x none. gets_behind (AreFetchesTo c.args.h.n c.args.patience.now.brought
+    c.read_far.new.patience.brought) (record_of c.args.pass.now) (record_of c.read_beside.new.pass)
+    (record_of c.read_far.new.pass) (found_same c.args.h.n
+    c.in_ok-version.field-0 (record_of c.args.pass.now) (record_of c.read_beside.new.pass)
+    c.in_ok-version.ensures.read) (x none)) c.read_far.ensures.brought

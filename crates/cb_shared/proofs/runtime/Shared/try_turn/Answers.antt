@@ -2,12 +2,11 @@ use Rattle.std.proofs.Common.{sym}
 use Rattle.std.proofs.lemmas.Option.{none-some}
 use Rattle.cb_shared.specs.Passes.{record_of}
 use Rattle.cb_shared.proofs.CallSteps.{err_always, turn_ends, turn_in_vain, turn_without}
-use Rattle.cb_shared.proofs.DidAlone.{called_alone}
 use Rattle.cb_shared.proofs.Fetches.{one_more, one_of}
 use Rattle.cb_shared.proofs.runtime.Shared.try_turn.Goals as goal
 
 pub turn_within-requires-clause-alone : goal.turn_within-requires-clause-alone
-turn_within-requires-clause-alone g c = called_alone c.args.job.now c.requires.called
+turn_within-requires-clause-alone g c = c.requires.alone
 
 pub returns-in_err-reply-clause-error : goal.returns-in_err-reply-clause-error
 returns-in_err-reply-clause-error g c = err_always c.from_residual.result _

@@ -1,5 +1,5 @@
 use Rattle.std.proofs.lemmas.Result.{IfOk-from_err}
-use Rattle.cb_shared.specs.Calls.{IsForWant, IsUnanswered, LooksOf}
+use Rattle.cb_shared.specs.Calls.{IsForWant, IsUnanswered, LooksOf, OfThis}
 use Rattle.cb_shared.specs.Passes.{record_of}
 use Rattle.cb_shared.specs.Turning.{object_of}
 use Rattle.cb_shared.proofs.CallSteps.{err_always, known_still, new_at_last, so_far, stops_then}
@@ -9,7 +9,7 @@ use Rattle.cb_shared.proofs.runtime.Shared.turn_until.Goals as goal
 pub loop-init : goal.loop-init
 loop-init g c = (
   c.requires.of,
-  so_far (LooksOf c.args.job.now) (IsUnanswered c.args.job.now)
+  so_far (LooksOf c.args.job.now) (IsUnanswered (OfThis c.args.job.now))
       (record_of c.args.pass.now),
 )
 
@@ -18,13 +18,13 @@ try_turn-requires-clause-of g c = c.loop.invariant.0
 
 pub try_turn-requires-clause-knows : goal.try_turn-requires-clause-knows
 try_turn-requires-clause-knows g c = known_still (LooksOf c.args.job.now)
-    (IsUnanswered c.args.job.now) (object_of c.args.job.now)
+    (IsUnanswered (OfThis c.args.job.now)) (object_of c.args.job.now)
     (record_of c.args.pass.now) (record_of c.loop.pass) c.requires.knows c.loop.invariant.1
 
 pub returns-in_err-reply-clause-error : goal.returns-in_err-reply-clause-error
 returns-in_err-reply-clause-error g c = err_always c.from_residual.result _
-    (stops_then (LooksOf c.args.job.now) (IsUnanswered c.args.job.now)
-    (IsForWant c.args.job.now) (record_of c.args.pass.now) (record_of c.loop.pass)
+    (stops_then (LooksOf c.args.job.now) (IsUnanswered (OfThis c.args.job.now))
+    (IsForWant (OfThis c.args.job.now)) (record_of c.args.pass.now) (record_of c.loop.pass)
     (record_of c.try_turn.new.pass) c.loop.invariant.1 c.in_err-reply.ensures.error)
 
 pub returns-in-Some-2-clause-turn : goal.returns-in-Some-2-clause-turn
@@ -42,7 +42,7 @@ loop-preserved g c = (
 
 pub returns-in-Some-2-clause-new : goal.returns-in-Some-2-clause-new
 returns-in-Some-2-clause-new g c = new_at_last c.args.self.now.board.shared.key.first
-    (LooksOf c.args.job.now) (IsUnanswered c.args.job.now) c.args.job.now
+    (LooksOf c.args.job.now) (IsUnanswered (OfThis c.args.job.now)) c.args.job.now
     c.in_ok-reply.field-0 c.in-Some-2.reply (record_of c.args.pass.now)
     (record_of c.loop.pass) c.in-Some-2.is c.loop.invariant.1 c.in_ok-reply.ensures.new
 
@@ -51,6 +51,9 @@ try_turn-requires-clause-job g c = c.requires.job
 
 pub try_turn-requires-clause-called : goal.try_turn-requires-clause-called
 try_turn-requires-clause-called g c = c.requires.called
+
+pub try_turn-requires-clause-alone : goal.try_turn-requires-clause-alone
+try_turn-requires-clause-alone g c = c.requires.alone
 
 pub returns-in_err-reply-clause-of : goal.returns-in_err-reply-clause-of
 returns-in_err-reply-clause-of g c = c.in_err-reply.ensures.of

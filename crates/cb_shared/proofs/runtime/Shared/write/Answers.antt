@@ -1,9 +1,9 @@
-use Rattle.std.proofs.Common.{Some}
+use Rattle.std.proofs.Common.{Some, length}
 use Rattle.std.proofs.lemmas.Result.{IfOk-from_err}
-use Rattle.cb_types.specs.declared.job.Job.TheVariants as jobs
-use Rattle.cb_shared.specs.Calls.{AtThis, IsForWant, IsUnanswered, the_handle}
+use Rattle.cb_shared.specs.Calls.{AtThis, IsForWant, IsUnanswered, IsWriteJob}
 use Rattle.cb_shared.specs.Passes.{record_of}
 use Rattle.cb_shared.proofs.CallSteps.{err_always, known_still, so_far, stops_then}
+use Rattle.cb_shared.proofs.Landings.{lands_so_far, lands_then}
 use Rattle.cb_shared.proofs.WriteParts.{write_again, write_at_last}
 use Rattle.cb_shared.proofs.runtime.Shared.write.Goals as goal
 
@@ -11,8 +11,9 @@ pub loop-init : goal.loop-init
 loop-init g c = (
   c.requires.of,
   so_far (AtThis c.args.h.n) (IsUnanswered
-      (jobs.Write (the_handle c.args.h.n) c.args.at c.args.bytes.now))
+      (IsWriteJob c.args.h.n c.args.at c.args.bytes.now))
       (record_of c.args.pass.now),
+  lands_so_far c.args.h.n c.args.at (length c.args.bytes.now) (record_of c.args.pass.now),
 )
 
 pub try_write-requires-clause-of : goal.try_write-requires-clause-of
@@ -21,15 +22,15 @@ try_write-requires-clause-of g c = c.loop.invariant.0
 pub try_write-requires-clause-knows : goal.try_write-requires-clause-knows
 try_write-requires-clause-knows g c = known_still (AtThis c.args.h.n)
     (IsUnanswered
-    (jobs.Write (the_handle c.args.h.n) c.args.at c.args.bytes.now)) (Some c.args.h.n)
+    (IsWriteJob c.args.h.n c.args.at c.args.bytes.now)) (Some c.args.h.n)
     (record_of c.args.pass.now) (record_of c.loop.pass) c.requires.knows
     c.loop.invariant.1
 
 pub returns-in_err-reply-clause-error : goal.returns-in_err-reply-clause-error
 returns-in_err-reply-clause-error g c = err_always c.from_residual.result _
     (stops_then (AtThis c.args.h.n) (IsUnanswered
-    (jobs.Write (the_handle c.args.h.n) c.args.at c.args.bytes.now))
-    (IsForWant (jobs.Write (the_handle c.args.h.n) c.args.at c.args.bytes.now))
+    (IsWriteJob c.args.h.n c.args.at c.args.bytes.now))
+    (IsForWant (IsWriteJob c.args.h.n c.args.at c.args.bytes.now))
     (record_of c.args.pass.now) (record_of c.loop.pass) (record_of c.try_write.new.pass)
     c.loop.invariant.1 c.in_err-reply.ensures.error)
 
@@ -45,7 +46,20 @@ loop-preserved g c = (
   write_again c.args.self.now.config c.args.h.n c.args.at c.args.bytes.now c.in_ok-reply.field-0
       (record_of c.args.pass.now) (record_of c.loop.pass) (record_of c.try_write.new.pass)
       c.in_default.is c.loop.invariant.1 c.in_ok-reply.ensures.write,
+  lands_then c.args.h.n c.args.at (length c.args.bytes.now) (record_of c.args.pass.now)
+      (record_of c.loop.pass) (record_of c.try_write.new.pass) c.loop.invariant.2
+      c.in_ok-reply.ensures.lands,
 )
+
+pub returns-in_err-reply-clause-lands : goal.returns-in_err-reply-clause-lands
+returns-in_err-reply-clause-lands g c = lands_then c.args.h.n c.args.at (length c.args.bytes.now)
+    (record_of c.args.pass.now) (record_of c.loop.pass) (record_of c.try_write.new.pass)
+    c.loop.invariant.2 c.in_err-reply.ensures.lands
+
+pub returns-in-Some-2-clause-lands : goal.returns-in-Some-2-clause-lands
+returns-in-Some-2-clause-lands g c = lands_then c.args.h.n c.args.at (length c.args.bytes.now)
+    (record_of c.args.pass.now) (record_of c.loop.pass) (record_of c.try_write.new.pass)
+    c.loop.invariant.2 c.in_ok-reply.ensures.lands
 
 pub returns-in_err-reply-clause-of : goal.returns-in_err-reply-clause-of
 returns-in_err-reply-clause-of g c = c.in_err-reply.ensures.of

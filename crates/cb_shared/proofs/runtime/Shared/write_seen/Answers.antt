@@ -5,9 +5,9 @@ use Rattle.cb_shared.specs.Seats.{record_at}
 use Rattle.cb_shared.proofs.Glanced.{kept_glance, of_kept, of_pass, write_tries}
 use Rattle.cb_shared.proofs.ReadKept.{IsSeatKept}
 use Rattle.cb_shared.proofs.Resting.{known_below, knows_glance}
-use Rattle.cb_shared.proofs.WriteSteps.{claimed_writes, refused_writes}
-use Rattle.cb_shared.proofs.runtime.Shared.write_here.Goals as goal
-use Rattle.cb_shared.proofs.runtime.Shared.write_here.Goals.{After-glance-saw}
+use Rattle.cb_shared.proofs.WriteSteps.{claimed_here, claimed_writes, refused_far, refused_writes}
+use Rattle.cb_shared.proofs.runtime.Shared.write_seen.Goals as goal
+use Rattle.cb_shared.proofs.runtime.Shared.write_seen.Goals.{After-glance-saw}
 
 pub glance-saw-requires-clause-of : goal.glance-saw-requires-clause-of
 glance-saw-requires-clause-of c = of_pass c.args.self.now c.args.pass.now c.requires.of
@@ -35,6 +35,16 @@ pub returns-in-Some-clause-write : goal.returns-in-Some-clause-write
 returns-in-Some-clause-write c = refused_writes c.args.h.n c.glance-saw.result c.args.at
     c.args.bytes.now c.in-Some.answer c.args.pass.now.seat c.glance-saw.new.seat c.glance-saw.ensures
     (c.refuse_write.ensures.refused c.in-Some.answer c.in-Some.is)
+
+pub returns-in-Some-clause-far : goal.returns-in-Some-clause-far
+returns-in-Some-clause-far c = λ is. refused_far c.args.h.n c.glance-saw.result c.args.at
+    c.args.bytes.now c.in-Some.answer c.args.pass.now.seat c.glance-saw.new.seat c.glance-saw.ensures
+    (c.refuse_write.ensures.refused c.in-Some.answer c.in-Some.is) is
+
+pub returns-in-None-clause-far : goal.returns-in-None-clause-far
+returns-in-None-clause-far c = λ is. absurd (claimed_here c.args.h.n c.glance-saw.result c.args.at
+    c.args.bytes.now c.write_at.result (record_at c.glance-saw.new.seat)
+    (record_at c.write_at.new.seat) c.write_at.ensures.write is)
 
 pub write_at-requires-clause-of : goal.write_at-requires-clause-of
 write_at-requires-clause-of c = let s = c.args.self.now in

@@ -1,0 +1,353 @@
+-- Worked turns that bring a far object in: what meets each definition, and what breaks one of its
+-- parts alone.
+use Rattle.std.proofs.Common.{◌≡◌, ℕ, zero, suc, ◌<◌, Bool, true, false, List, [], ◌∷◌, ◌++◌, length, get_or}
+use Rattle.std.proofs.Common.{Option, None, Some, Ok, Err, refl, sym, ap, ◌∙◌, subst, inl, inr, lit≤, arith}
+use Rattle.std.proofs.lemmas.Bool.{eqb-false, false≢true}
+use Rattle.std.proofs.lemmas.Option.{none-some, same_Some}
+use Rattle.cb_member.specs.declared.no_memory.NoMemory.{NoMemory}
+use Rattle.cb_types.specs.declared.job.Job.{Job}
+use Rattle.cb_types.specs.declared.job.Job.TheVariants as jobs
+use Rattle.cb_types.specs.Jobs.{job_index}
+use Rattle.cb_types.specs.declared.order.DecodeOrder.{DecodeOrder}
+use Rattle.cb_types.specs.declared.order.EncodeOrder.{EncodeOrder}
+use Rattle.cb_types.specs.declared.order.Kept.{Kept}
+use Rattle.cb_types.specs.declared.order.Kept.TheVariants.{Encode, Decode}
+use Rattle.cb_types.specs.declared.reply.Reply.{Reply}
+use Rattle.cb_types.specs.declared.reply.Reply.TheVariants as answer
+use Rattle.cb_types.specs.Orders.{IsDecodable}
+use Rattle.cb_ptr.specs.Word.{state_number}
+use Rattle.cb_swapin.specs.declared.fetching.Fetching.TheVariants as fetching
+use Rattle.cb_rule.specs.declared.turn.Turn.{Turn}
+use Rattle.cb_rule.specs.declared.view.Look.{Look}
+use Rattle.cb_rule.specs.declared.view.View.{View}
+use Rattle.cb_rule.specs.Steps.{look_at, with_look}
+use Rattle.cb_record.specs.Lists.{HasOne}
+use Rattle.cb_record.specs.Parts.{Part, grown, nothing_more}
+use Rattle.cb_shared.specs.declared.ways.Way.TheVariants as ways
+use Rattle.cb_shared.specs.Calls.{FoundInside, LandsInside, the_handle}
+use Rattle.cb_shared.specs.Fetching.{AreBringingTo, AreDone, AreFetches, AreFetchesTo, GetsTurns}
+use Rattle.cb_shared.specs.Fetching.{IsOneAtMost, IsOneMore, IsOneOf, brought_in_by, job_behind}
+use Rattle.cb_shared.specs.Fetching.{job_to_fetch}
+use Rattle.cb_shared.specs.Ordering.{CanRun}
+use Rattle.cb_shared.specs.Reading.{looked}
+use Rattle.cb_shared.specs.Ways.{HasWay, IsFound, IsWayBy, IsWayOf, IsWayTold, way_told}
+use Rattle.cb_shared.specs.Writing.{FoundFarAs}
+use Rattle.cb_shared.proofs.WorkedGround.{away, calm, moving, part}
+use Rattle.cb_shared.proofs.WorkedVain.{fetch, read, swap, told}
+
+-- the row at the third position of the third set, of one data row and two parities
+abbrev order : ℕ → DecodeOrder
+order p = record {
+  set = 3;
+  position = p;
+  k = 1;
+  r = 2;
+  present = 1 ∷ [];
+  rows = [] ∷ [];
+}
+
+abbrev fetched : Turn
+fetched = told fetch (Some (answer.Fetched (record { n = 3 }) 2))
+
+abbrev direct : Turn
+direct = told fetch (Some answer.Direct)
+
+abbrev landed : Turn
+landed = told jobs.Land (Some (answer.Swapped 0))
+
+abbrev swapped : Turn
+swapped = told swap (Some (answer.Swapped 0))
+
+-- ---- a turn that brought the object in, or found it there
+brings_it_in : brought_in_by false (swapped ∷ direct ∷ []) ≡ true
+brings_it_in = refl
+
+was_there : brought_in_by false (told fetch (Some answer.Stays) ∷ []) ≡ true
+was_there = refl
+
+brings_nothing : brought_in_by false (told swap (Some answer.Moving) ∷ told fetch None ∷ []) ≡ false
+brings_nothing = refl
+
+-- ---- the job behind turns
+first_fetches : job_behind 1 [] ≡ fetch
+first_fetches = refl
+
+then_lands : job_behind 1 (fetched ∷ []) ≡ jobs.Land
+then_lands = refl
+
+then_swaps : job_behind 1 (direct ∷ []) ≡ swap
+then_swaps = refl
+
+then_fetches : (job_behind 1 (landed ∷ fetched ∷ []) ≡ fetch)
+    × (job_behind 1 (told fetch (Some answer.Moving) ∷ []) ≡ fetch)
+    × (job_behind 1 (told read (Some (answer.Fetched (record { n = 3 }) 2)) ∷ []) ≡ fetch)
+then_fetches = (refl, refl, refl)
+
+then_reads : (job_to_fetch 1 true (fetched ∷ []) ≡ read) × (job_to_fetch 1 false (fetched ∷ []) ≡ jobs.Land)
+then_reads = (refl, refl)
+
+-- ---- turns that each have the job by those before
+lands_and_reads : AreFetches 1 false (told read (Some answer.Moving) ∷ landed ∷ fetched ∷ [])
+lands_and_reads = (refl, (refl, (refl, tt)))
+
+swaps_in : AreFetches 1 false (swapped ∷ direct ∷ [])
+swaps_in = (refl, (refl, tt))
+
+fetches_again : AreFetches 1 false
+    (fetched ∷ told jobs.Land (Some (answer.Changed (record { n = 3 }))) ∷ fetched ∷ [])
+fetches_again = (refl, (refl, (refl, tt)))
+
+swaps_at_once : AreFetches 1 false (swapped ∷ []) → ⊥
+swaps_at_once x = eqb-false 4 21 refl (ap job_index x.0)
+
+lands_at_once : AreFetches 1 false (landed ∷ []) → ⊥
+lands_at_once x = eqb-false 22 21 refl (ap job_index x.0)
+
+lands_what_is_direct : AreFetches 1 false (landed ∷ direct ∷ []) → ⊥
+lands_what_is_direct x = eqb-false 22 4 refl (ap job_index x.0)
+
+swaps_what_is_lost : AreFetches 1 false (swapped ∷ fetched ∷ []) → ⊥
+swaps_what_is_lost x = eqb-false 4 22 refl (ap job_index x.0)
+
+reads_at_once : AreFetches 1 false (told read (Some answer.Moving) ∷ []) → ⊥
+reads_at_once x = eqb-false 1 21 refl (ap job_index x.0)
+
+brings_it_twice : AreFetches 1 false (fetched ∷ swapped ∷ direct ∷ []) → ⊥
+brings_it_twice x = eqb-false 21 1 refl (ap job_index x.0)
+
+begins_wrong : AreFetches 1 false (landed ∷ swapped ∷ []) → ⊥
+begins_wrong x = eqb-false 4 21 refl (ap job_index x.1.0)
+
+of_its_turn : GetsTurns (AreFetches 1 false) part (record part { turns = fetched ∷ [] })
+of_its_turn = (fetched ∷ [], refl, (refl, tt))
+
+-- ---- behind which nothing is left to be done
+done : AreDone 1 (landed ∷ fetched ∷ [])
+done = refl
+
+left_to_land : AreDone 1 (fetched ∷ []) → ⊥
+left_to_land e = eqb-false 22 21 refl (ap job_index e)
+
+left_to_swap : AreDone 1 (direct ∷ []) → ⊥
+left_to_swap e = eqb-false 4 21 refl (ap job_index e)
+
+none_or_one : IsOneAtMost swap [] × IsOneAtMost swap (swapped ∷ [])
+none_or_one = (inl refl, inr (swapped, refl, refl))
+
+two_at_most : IsOneAtMost swap (swapped ∷ swapped ∷ []) → ⊥
+two_at_most (inl e) = eqb-false 2 0 refl (ap (λ (ts : List Turn). length ts) e)
+two_at_most (inr (t, is, of)) = eqb-false 2 1 refl (ap (λ (ts : List Turn). length ts) is)
+
+abbrev newest_job : List Turn → Job
+newest_job [] = jobs.Evict
+newest_job (t ∷ ts) = t.job
+
+one_of_another : IsOneAtMost swap (landed ∷ []) → ⊥
+one_of_another (inl e) = eqb-false 1 0 refl (ap (λ (ts : List Turn). length ts) e)
+one_of_another (inr (t, is, of)) = eqb-false 22 4 refl (ap job_index (ap newest_job is ∙ of))
+
+one_more : IsOneMore swap false true (swapped ∷ [])
+one_more = ((swapped, refl, refl), refl)
+
+one_more_forgets : IsOneMore swap false false (swapped ∷ []) → ⊥
+one_more_forgets x = false≢true x.1
+
+fetched_to : AreFetchesTo 1 false true (landed ∷ fetched ∷ [])
+fetched_to = ((refl, (refl, tt)), refl, refl)
+
+fetched_to_nothing : AreFetchesTo 1 false false (landed ∷ fetched ∷ []) → ⊥
+fetched_to_nothing x = false≢true x.1
+
+fetched_in_part : AreFetchesTo 1 false false (fetched ∷ []) → ⊥
+fetched_in_part x = left_to_land x.2
+
+landed_first : AreFetchesTo 1 false true (landed ∷ []) → ⊥
+landed_first x = lands_at_once x.0
+
+-- turns that do not read bring it in once more
+brings_once_more : AreBringingTo 1 true true (told fetch (Some answer.Moving) ∷ [])
+brings_once_more = ((refl, tt), refl, refl)
+
+reads_once_more : AreBringingTo 1 true true (told read (Some answer.Moving) ∷ []) → ⊥
+reads_once_more x = reads_at_once x.0
+
+forgets_before : AreBringingTo 1 true false (told fetch (Some answer.Moving) ∷ []) → ⊥
+forgets_before x = false≢true x.1
+
+brings_in_part : AreBringingTo 1 true true (fetched ∷ []) → ⊥
+brings_in_part x = left_to_land x.2
+
+-- ---- orders that can be run
+abbrev encode : ℕ → EncodeOrder
+encode k = record { set = 3; k = k; r = 2; rows = [] ∷ [] }
+
+one_long : (k : ℕ) (d : List ℕ) → k < 1 → length (get_or ([] ∷ []) k d) ≡ 0
+one_long zero d l = refl
+one_long (suc k) d l = absurd (omega (arith, l))
+
+runs_nothing : CanRun None
+runs_nothing = tt
+
+runs_one : CanRun (Some (Encode (encode 1)))
+runs_one = record {
+  range = record {
+    data_least = lit≤ tt;
+    data_most = lit≤ tt;
+    parities_least = lit≤ tt;
+    parities_most = lit≤ tt;
+  };
+  count = refl;
+  lengths = λ k d l. one_long k d l;
+}
+
+runs_without_a_row : CanRun (Some (Encode (encode 2))) → ⊥
+runs_without_a_row x = eqb-false 1 2 refl x.count
+
+runs_past_its_code : CanRun (Some (Decode (order 3))) → ⊥
+runs_past_its_code x = let l = x.wanted in omega (arith, l)
+
+-- ---- the ways, by what a fetch was told
+answers_by_its_reply : (way_told (ways.Told (Some answer.Worn)) ≡ Some answer.Worn)
+    × (way_told (ways.Told None) ≡ None) × (way_told ways.Direct ≡ None)
+    × (way_told (ways.Made (order 2)) ≡ None)
+answers_by_its_reply = (refl, refl, refl, refl)
+
+abbrev keeps : ℕ → View
+keeps p = record part { order = Some (Decode (order p)) }
+
+has_its_order : IsDecodable (order 2) → HasWay (ways.Made (order 2)) (keeps 2)
+has_its_order fits = (refl, fits)
+
+abbrev position_of : Option Kept → ℕ
+position_of (Some (Decode o)) = o.position
+position_of k = 9
+
+has_another_order : HasWay (ways.Made (order 2)) (keeps 1) → ⊥
+has_another_order x = eqb-false 1 2 refl (ap position_of x.0)
+
+has_no_order_to_run : HasWay (ways.Made (order 3)) (keeps 3) → ⊥
+has_no_order_to_run x = runs_past_its_code x.1
+
+has_any : HasWay ways.Direct part × HasWay (ways.Told None) part
+has_any = (tt, tt)
+
+told_of_an_order : IsWayTold (ways.Made (order 2)) (Some (answer.Fetched (record { n = 3 }) 2))
+told_of_an_order = refl
+
+abbrev number : Option Reply → ℕ
+number (Some (answer.Fetched set position)) = position
+number (Some answer.Direct) = 7
+number r = 8
+
+told_of_another : IsWayTold (ways.Made (order 2)) (Some (answer.Fetched (record { n = 3 }) 1)) → ⊥
+told_of_another e = eqb-false 1 2 refl (ap number e)
+
+told_it_is_direct : IsWayTold ways.Direct (Some answer.Direct)
+told_it_is_direct = refl
+
+told_it_is_not : IsWayTold ways.Direct (Some answer.Stays) → ⊥
+told_it_is_not e = eqb-false 8 7 refl (ap number e)
+
+told_neither : IsWayTold (ways.Told None) (Some answer.Moving)
+told_neither = λ h. refl
+
+told_after_all : IsWayTold (ways.Told None) (Some answer.Direct) → ⊥
+told_after_all f = left_to_swap (f 1)
+
+finds_an_order : IsFound 1 (ways.Made (order 2)) false false (fetched ∷ [])
+finds_an_order = (fetched, refl, refl, refl, refl)
+
+finds_it_there : IsFound 1 (ways.Told None) false true (told fetch (Some answer.Stays) ∷ [])
+finds_it_there = (told fetch (Some answer.Stays), refl, refl, (λ h. refl), refl)
+
+abbrev newest_told : List Turn → Option Reply
+newest_told [] = None
+newest_told (t ∷ ts) = t.reply
+
+finds_twice : IsFound 1 (ways.Made (order 2)) false false (fetched ∷ fetched ∷ []) → ⊥
+finds_twice x = eqb-false 2 1 refl (ap (λ (ts : List Turn). length ts) x.1)
+
+finds_by_a_swap : IsFound 1 (ways.Told None) false true (swapped ∷ []) → ⊥
+finds_by_a_swap x = eqb-false 4 21 refl (ap job_index (ap newest_job x.1 ∙ x.2))
+
+finds_another : IsFound 1 (ways.Made (order 1)) false false (fetched ∷ []) → ⊥
+finds_another x = eqb-false 2 1 refl (ap number (ap newest_told x.1 ∙ x.3))
+
+finds_and_forgets : IsFound 1 (ways.Told None) false false (told fetch (Some answer.Stays) ∷ []) → ⊥
+finds_and_forgets x = false≢true (x.4
+    ∙ sym (ap (λ (ts : List Turn). brought_in_by false ts) x.1))
+
+-- ---- and by what it was answered
+module _ (e f : NoMemory) where
+  ways_of : IsWayOf false true true (Ok (fetching.Order (order 2))) (Ok (ways.Made (order 2)))
+      × IsWayOf false false false (Ok (fetching.Answer answer.Direct)) (Ok ways.Direct)
+      × IsWayOf false true true (Err e) (Err f)
+  ways_of = ((refl, refl), (refl, refl), tt)
+
+  lost_on_the_way : IsWayOf false true true (Ok (fetching.Order (order 2))) (Err e) → ⊥
+  lost_on_the_way x = x
+
+  forgotten : IsWayOf false true false (Ok (fetching.Order (order 2))) (Ok (ways.Made (order 2))) → ⊥
+  forgotten x = false≢true x.1
+
+worn_is_told : IsWayBy false true true answer.Worn (ways.Told (Some answer.Worn))
+worn_is_told = (refl, (λ e. eqb-false 8 7 refl (ap (λ r. number (Some r)) e)), tt, refl)
+
+worn_is_not_told : IsWayBy false true true answer.Worn (ways.Told None) → ⊥
+worn_is_not_told x = x.1 tt
+
+moving_is_told : IsWayBy false true true answer.Moving (ways.Told (Some answer.Moving)) → ⊥
+moving_is_told x = x.2
+
+moving_looks_again : IsWayBy false true true answer.Moving (ways.Told None)
+moving_looks_again = ((λ e. eqb-false 8 7 refl (ap (λ r. number (Some r)) e)), (λ x. x), refl)
+
+stays_is_forgotten : IsWayBy false false false answer.Stays (ways.Told None) → ⊥
+stays_is_forgotten x = false≢true x.2
+
+direct_looks_again : IsWayBy false true true answer.Direct (ways.Told None) → ⊥
+direct_looks_again x = x.0 refl
+
+made_without_an_order : IsWayBy false true true answer.Direct (ways.Made (order 2)) → ⊥
+made_without_an_order x = x
+
+-- ---- a row is landed for a write that lies inside of the object
+abbrev lands_it : Part
+lands_it = record nothing_more { looks = look_at 1 away ∷ []; turns = landed ∷ fetched ∷ [] }
+
+found_inside : FoundInside 1 7 1 (look_at 1 away)
+found_inside = (refl, refl, lit≤ tt)
+
+found_past_the_end : FoundInside 1 8 1 (look_at 1 away) → ⊥
+found_past_the_end x = let l = x.2 in omega (arith, l)
+
+found_of_another : FoundInside 0 7 1 (look_at 1 away) → ⊥
+found_of_another x = eqb-false 1 0 refl x.0
+
+found_here : FoundInside 1 7 1 (look_at 1 calm) → ⊥
+found_here x = eqb-false 2 1 refl (ap state_number x.1)
+
+lands_inside : LandsInside 1 7 1 part (grown lands_it part)
+lands_inside = (lands_it, refl, λ has. inl found_inside)
+
+lands_none : LandsInside 1 8 1 part (grown (looked 1 away) part)
+lands_none = (looked 1 away, refl, λ has. absurd has)
+
+lands_past_the_end : (x : LandsInside 1 8 1 part (grown lands_it part)) → x.0 ≡ lands_it → ⊥
+lands_past_the_end (d, is, inside) e = none (subst (λ (p : Part).
+    HasOne (λ (t : Turn). t.job ≡ jobs.Land) p.turns → HasOne (FoundInside 1 8 1) p.looks) e inside
+    (inl refl))
+  where
+    none : HasOne (FoundInside 1 8 1) (look_at 1 away ∷ []) → ⊥
+    none (inl x) = found_past_the_end x
+    none (inr x) = x
+
+-- ---- a look that found it far, with its word
+far_as : FoundFarAs 1 away part (with_look 1 away part)
+far_as = (refl, refl)
+
+far_as_moving : FoundFarAs 1 moving part (with_look 1 moving part) → ⊥
+far_as_moving x = eqb-false 3 1 refl (ap state_number x.0)
+
+far_as_unseen : FoundFarAs 1 away part part → ⊥
+far_as_unseen x = eqb-false 0 1 refl (ap (λ (v : View). length v.looks) x.1)

@@ -1,0 +1,81 @@
+use Rattle.std.proofs.Common.{◌∙◌, [], Some, ap, sym, inl, refl}
+use Rattle.std.proofs.lemmas.Option.{none-some}
+use Rattle.std.proofs.lemmas.Result.{IfOk-from_err}
+use Rattle.cb_types.specs.declared.job.Job.TheVariants.{Land}
+use Rattle.cb_types.specs.declared.order.DecodeOrder.{DecodeOrder}
+use Rattle.cb_types.specs.declared.order.Kept.TheVariants.{Decode}
+use Rattle.cb_shared.specs.Calls.{AtNone, IsForWant, IsUnanswered, OfThis}
+use Rattle.cb_shared.specs.Passes.{record_of}
+use Rattle.cb_shared.proofs.CallSteps.{err_always, stops_at_once, turn_ends, turn_in_vain}
+use Rattle.cb_shared.proofs.CallSteps.{turn_without}
+use Rattle.cb_shared.proofs.Fetches.{at_most_one, one_more, one_of}
+use Rattle.cb_shared.proofs.FarSteps.{order_kept}
+use Rattle.cb_shared.proofs.runtime.Shared.land_order.Goals as goal
+
+pub land-requires-clause-kept : goal.land-requires-clause-kept
+land-requires-clause-kept g c = c.requires.kept
+    ∙ ap (λ (o : DecodeOrder). Some (Decode o)) (sym (order_kept c.run_decode.result c.in-Ok.done
+    c.args.order c.in-Ok.is c.run_decode.ensures.order))
+
+pub returns-in_err-reply-in-Ok-clause-of : goal.returns-in_err-reply-in-Ok-clause-of
+returns-in_err-reply-in-Ok-clause-of g c = c.in_err-reply-in-Ok.ensures.of
+
+pub returns-in_err-reply-in-Ok-clause-turn : goal.returns-in_err-reply-in-Ok-clause-turn
+returns-in_err-reply-in-Ok-clause-turn g c = IfOk-from_err _ _ c.from_residual.ensures.0
+
+pub returns-in_err-reply-in-Ok-clause-error : goal.returns-in_err-reply-in-Ok-clause-error
+returns-in_err-reply-in-Ok-clause-error g c = err_always c.from_residual.result _
+    (turn_without c.args.self.now.config Land c.in_err-reply-in-Ok.field-0.0 (record_of c.args.pass.now)
+    (record_of c.land.new.pass) tt c.in_err-reply-in-Ok.ensures.turn)
+
+pub returns-in_err-reply-in-Ok-clause-one : goal.returns-in_err-reply-in-Ok-clause-one
+returns-in_err-reply-in-Ok-clause-one g c = at_most_one Land (record_of c.args.pass.now)
+    (record_of c.land.new.pass) (one_of c.args.self.now.config Land _ (record_of c.args.pass.now)
+    (record_of c.land.new.pass) c.in_err-reply-in-Ok.ensures.turn)
+
+pub returns-in_err-reply-in-Ok-clause-brought : goal.returns-in_err-reply-in-Ok-clause-brought
+returns-in_err-reply-in-Ok-clause-brought g c = IfOk-from_err _ _ c.from_residual.ensures.0
+
+pub returns-then-is_lack-clause-of : goal.returns-then-is_lack-clause-of
+returns-then-is_lack-clause-of g c = c.in_ok-reply-in-Ok.ensures.of
+
+pub returns-then-is_lack-clause-turn : goal.returns-then-is_lack-clause-turn
+returns-then-is_lack-clause-turn g c = turn_ends c.args.self.now.config Land c.in_ok-reply-in-Ok.reply
+    c.again.result (record_of c.args.pass.now) (record_of c.land.new.pass) c.again.ensures
+    (c.is_lack.ensures.yes c.if-is_lack.true) c.in_ok-reply-in-Ok.ensures.turn
+
+pub returns-then-is_lack-clause-one : goal.returns-then-is_lack-clause-one
+returns-then-is_lack-clause-one g c = at_most_one Land (record_of c.args.pass.now)
+    (record_of c.land.new.pass) (one_of c.args.self.now.config Land _ (record_of c.args.pass.now)
+    (record_of c.land.new.pass) c.in_ok-reply-in-Ok.ensures.turn)
+
+pub returns-then-is_lack-clause-brought : goal.returns-then-is_lack-clause-brought
+returns-then-is_lack-clause-brought g c = λ none. absurd (none-some _ (sym none))
+
+pub returns-in-Ok-clause-of : goal.returns-in-Ok-clause-of
+returns-in-Ok-clause-of g c = c.in_ok-reply-in-Ok.ensures.of
+
+pub returns-in-Ok-clause-turn : goal.returns-in-Ok-clause-turn
+returns-in-Ok-clause-turn g c = turn_in_vain c.args.self.now.config Land c.in_ok-reply-in-Ok.reply
+    c.again.result (record_of c.args.pass.now) (record_of c.land.new.pass) tt c.again.ensures
+    (c.is_lack.ensures.no c.if-is_lack.false) c.in_ok-reply-in-Ok.ensures.turn
+
+pub returns-in-Ok-clause-one : goal.returns-in-Ok-clause-one
+returns-in-Ok-clause-one g c = at_most_one Land (record_of c.args.pass.now)
+    (record_of c.land.new.pass) (one_of c.args.self.now.config Land _ (record_of c.args.pass.now)
+    (record_of c.land.new.pass) c.in_ok-reply-in-Ok.ensures.turn)
+
+pub returns-in-Ok-clause-brought : goal.returns-in-Ok-clause-brought
+returns-in-Ok-clause-brought g c = λ none. one_more c.args.self.now.config Land c.in_ok-reply-in-Ok.reply
+    c.args.patience.now.brought c.wait_behind.new.patience.brought (record_of c.args.pass.now)
+    (record_of c.land.new.pass) c.in_ok-reply-in-Ok.ensures.turn c.wait_behind.ensures.brought
+
+pub returns-clause-of : goal.returns-clause-of
+returns-clause-of g c = c.requires.of
+
+pub returns-clause-error : goal.returns-clause-error
+returns-clause-error g c = stops_at_once AtNone (IsUnanswered (OfThis Land))
+    (IsForWant (OfThis Land)) (record_of c.args.pass.now)
+
+pub returns-clause-one : goal.returns-clause-one
+returns-clause-one g c = ([], refl, inl refl)

@@ -1,0 +1,126 @@
+use Rattle.std.proofs.Common.{Option, ap, refl, subst}
+use Rattle.std.proofs.lemmas.Result.{IfOk-from_err, IfOk-weaker, on_err_weaker}
+use Rattle.cb_types.specs.declared.job.Job.TheVariants as jobs
+use Rattle.cb_types.specs.declared.reply.Reply.{Reply}
+use Rattle.cb_shared.specs.declared.ways.Way.{Way}
+use Rattle.cb_shared.specs.Calls.{AtNone, IsWriteJobAt, OfThis, TriesBy}
+use Rattle.cb_shared.specs.Passes.{record_of}
+use Rattle.cb_shared.specs.Ways.{HasWay, way_told}
+use Rattle.cb_shared.proofs.CallSteps.{err_always}
+use Rattle.cb_shared.proofs.FarSteps.{own_stops, own_tries, stops_by_then, tries_by_then}
+use Rattle.cb_shared.proofs.FarSteps.{tries_by_wider, turn_stops, turn_tries, vain_by_wider}
+use Rattle.cb_shared.proofs.FarSteps.{vain_way, way_knows, write_fetch, write_land}
+use Rattle.cb_shared.proofs.Resting.{known_below}
+use Rattle.cb_shared.proofs.runtime.Shared.write_far.Goals as goal
+
+pub find_way-requires-clause-handle : goal.find_way-requires-clause-handle
+find_way-requires-clause-handle g c = known_below c.args.self.now.config c.args.h.n
+    (record_of c.args.pass.now) c.requires.of.rest c.requires.knows
+
+pub returns-in_err-order-clause-of : goal.returns-in_err-order-clause-of
+returns-in_err-order-clause-of g c = c.in_err-order.ensures.of
+
+pub returns-in_err-order-clause-write : goal.returns-in_err-order-clause-write
+returns-in_err-order-clause-write g c = IfOk-from_err _ _ c.from_residual.ensures.0
+
+pub returns-in_err-order-clause-error : goal.returns-in_err-order-clause-error
+returns-in_err-order-clause-error g c = let h = c.args.h.n in let a = c.args.at in
+    let b = c.args.bytes.now in err_always c.from_residual.result _
+    (turn_stops AtNone (IsWriteJobAt h a b c.args.word) (jobs.Fetch c.args.h) (write_fetch h a b c.args.word _ refl) (λ k x. x)
+    c.args.self.now.config (record_of c.args.pass.now) (record_of c.find_way.new.pass)
+    c.in_err-order.ensures.error)
+
+pub land_order-requires-clause-of : goal.land_order-requires-clause-of
+land_order-requires-clause-of g c = c.in_ok-order.ensures.of
+
+pub land_order-requires-clause-kept : goal.land_order-requires-clause-kept
+land_order-requires-clause-kept g c = (subst (λ (z : Way). HasWay z (record_of c.find_way.new.pass))
+    c.in-Made.is c.in_ok-order.ensures.way).0
+
+pub land_order-requires-clause-fits : goal.land_order-requires-clause-fits
+land_order-requires-clause-fits g c = (subst (λ (z : Way). HasWay z (record_of c.find_way.new.pass))
+    c.in-Made.is c.in_ok-order.ensures.way).1
+
+pub write_by_turn-requires-clause-of : goal.write_by_turn-requires-clause-of
+write_by_turn-requires-clause-of g c = c.in_ok-order.ensures.of
+
+pub write_by_turn-requires-clause-knows : goal.write_by_turn-requires-clause-knows
+write_by_turn-requires-clause-knows g c = way_knows c.args.self.now.config (jobs.Fetch c.args.h) _
+    c.args.h.n (record_of c.args.pass.now) (record_of c.find_way.new.pass)
+    (ap way_told c.in-Made.is) c.in_ok-order.ensures.tries c.requires.knows
+
+pub write_by_turn-requires-in-Direct-clause-of : goal.write_by_turn-requires-in-Direct-clause-of
+write_by_turn-requires-in-Direct-clause-of g c = c.in_ok-order.ensures.of
+
+pub write_by_turn-requires-in-Direct-clause-knows :
+    goal.write_by_turn-requires-in-Direct-clause-knows
+write_by_turn-requires-in-Direct-clause-knows g c = way_knows c.args.self.now.config
+    (jobs.Fetch c.args.h) _ c.args.h.n (record_of c.args.pass.now) (record_of c.find_way.new.pass)
+    (ap way_told c.in-Direct.is) c.in_ok-order.ensures.tries c.requires.knows
+
+pub returns-then-is_inside-clause-of : goal.returns-then-is_inside-clause-of
+returns-then-is_inside-clause-of g c = c.land_order.ensures.of
+
+pub returns-then-is_inside-clause-write : goal.returns-then-is_inside-clause-write
+returns-then-is_inside-clause-write g c = let h = c.args.h.n in let a = c.args.at in
+    let b = c.args.bytes.now in let k = c.args.self.now.config in
+    let v = record_of c.args.pass.now in let w = record_of c.find_way.new.pass in
+    let u = record_of c.land_order.new.pass in IfOk-weaker c.land_order.result _ _
+    (λ o x. tries_by_then k AtNone (IsWriteJobAt h a b c.args.word) o v w u (vain_by_wider
+    (OfThis (jobs.Fetch c.args.h)) (IsWriteJobAt h a b c.args.word) (write_fetch h a b c.args.word) AtNone v w
+    (vain_way k (jobs.Fetch c.args.h) _ v w (ap way_told c.in-Made.is) c.in_ok-order.ensures.tries))
+    (turn_tries AtNone (IsWriteJobAt h a b c.args.word) jobs.Land (write_land h a b c.args.word (c.is_inside.ensures.yes c.if-is_inside.true)) (λ j y. y) k o w u (λ r. refl)
+    x)) c.land_order.ensures.turn
+
+pub returns-then-is_inside-clause-error : goal.returns-then-is_inside-clause-error
+returns-then-is_inside-clause-error g c = let h = c.args.h.n in let a = c.args.at in
+    let b = c.args.bytes.now in let k = c.args.self.now.config in
+    let v = record_of c.args.pass.now in let w = record_of c.find_way.new.pass in
+    let u = record_of c.land_order.new.pass in on_err_weaker c.land_order.result
+    (λ x. stops_by_then (IsWriteJobAt h a b c.args.word) v w u (vain_by_wider
+    (OfThis (jobs.Fetch c.args.h)) (IsWriteJobAt h a b c.args.word) (write_fetch h a b c.args.word) AtNone v w
+    (vain_way k (jobs.Fetch c.args.h) _ v w (ap way_told c.in-Made.is) c.in_ok-order.ensures.tries))
+    (turn_stops AtNone (IsWriteJobAt h a b c.args.word) jobs.Land (write_land h a b c.args.word (c.is_inside.ensures.yes c.if-is_inside.true)) (λ j y. y) k w u x))
+    c.land_order.ensures.error
+
+pub returns-else-is_inside-clause-of : goal.returns-else-is_inside-clause-of
+returns-else-is_inside-clause-of g c = c.write_by_turn.ensures.of
+
+pub returns-else-is_inside-clause-write : goal.returns-else-is_inside-clause-write
+returns-else-is_inside-clause-write g c = own_tries c.args.self.now.config c.args.h.n c.args.at
+    c.args.bytes.now c.args.word _ c.write_by_turn.result (record_of c.args.pass.now)
+    (record_of c.find_way.new.pass) (record_of c.write_by_turn.new.pass) (ap way_told c.in-Made.is)
+    c.in_ok-order.ensures.tries c.write_by_turn.ensures.turn
+
+pub returns-else-is_inside-clause-error : goal.returns-else-is_inside-clause-error
+returns-else-is_inside-clause-error g c = own_stops c.args.self.now.config c.args.h.n c.args.at
+    c.args.bytes.now c.args.word _ c.write_by_turn.result (record_of c.args.pass.now)
+    (record_of c.find_way.new.pass) (record_of c.write_by_turn.new.pass) (ap way_told c.in-Made.is)
+    c.in_ok-order.ensures.tries c.write_by_turn.ensures.error
+
+pub returns-in-Direct-clause-of : goal.returns-in-Direct-clause-of
+returns-in-Direct-clause-of g c = c.write_by_turn-in-Direct.ensures.of
+
+pub returns-in-Direct-clause-write : goal.returns-in-Direct-clause-write
+returns-in-Direct-clause-write g c = own_tries c.args.self.now.config c.args.h.n c.args.at
+    c.args.bytes.now c.args.word _ c.write_by_turn-in-Direct.result (record_of c.args.pass.now)
+    (record_of c.find_way.new.pass) (record_of c.write_by_turn-in-Direct.new.pass)
+    (ap way_told c.in-Direct.is) c.in_ok-order.ensures.tries c.write_by_turn-in-Direct.ensures.turn
+
+pub returns-in-Direct-clause-error : goal.returns-in-Direct-clause-error
+returns-in-Direct-clause-error g c = own_stops c.args.self.now.config c.args.h.n c.args.at
+    c.args.bytes.now c.args.word _ c.write_by_turn-in-Direct.result (record_of c.args.pass.now)
+    (record_of c.find_way.new.pass) (record_of c.write_by_turn-in-Direct.new.pass)
+    (ap way_told c.in-Direct.is) c.in_ok-order.ensures.tries
+    c.write_by_turn-in-Direct.ensures.error
+
+pub returns-in-Told-clause-of : goal.returns-in-Told-clause-of
+returns-in-Told-clause-of g c = c.in_ok-order.ensures.of
+
+pub returns-in-Told-clause-write : goal.returns-in-Told-clause-write
+returns-in-Told-clause-write g c = let h = c.args.h.n in let a = c.args.at in
+    let b = c.args.bytes.now in let k = c.args.self.now.config in
+    let v = record_of c.args.pass.now in let w = record_of c.find_way.new.pass in
+    tries_by_wider (OfThis (jobs.Fetch c.args.h)) (IsWriteJobAt h a b c.args.word) (write_fetch h a b c.args.word) k AtNone
+    c.in-Told.told v w (subst (λ (o : Option Reply). TriesBy k AtNone (OfThis (jobs.Fetch c.args.h))
+    o v w) (ap way_told c.in-Told.is) c.in_ok-order.ensures.tries)

@@ -1,0 +1,165 @@
+//! How a call brings a far object in: by a turn of the job Fetch, and where its row is lost by
+//! making that row outside of the far lock.
+ghost use Rattle.std.specs.Prelude.{◌≡◌, ◌<◌, true, false, None, Some, IfOk, OnErr};
+ghost use Rattle.cb_types.specs.declared.job.Job.TheVariants as jobs;
+ghost use Rattle.cb_types.specs.declared.order.Kept.TheVariants.{Decode};
+ghost use Rattle.cb_types.specs.declared.reply.Reply.TheVariants as answer;
+ghost use Rattle.cb_types.specs.Orders.{IsDecodable};
+ghost use Rattle.cb_shared.specs.Ways.{HasWay, IsFound, IsWayOf, way_told};
+ghost use Rattle.cb_shared.specs.Calls.{AtNone, Brings, IsLack, OfThis, StopsBy, TriesBy, TurnStops};
+ghost use Rattle.cb_shared.specs.Calls.{TurnTries};
+ghost use Rattle.cb_shared.specs.Fetching.{AreBringingTo, AreFetches, GetsTurns};
+ghost use Rattle.cb_shared.specs.Fetching.{IsOneAtMost, IsOneMore, IsOneOf};
+ghost use Rattle.cb_shared.specs.Passes.{IsPassOf, record_of};
+
+use crate::calling::is_lack;
+use crate::pass::Pass;
+use crate::runtime::Shared;
+use crate::waiting::Patience;
+use cb_orders::run_decode;
+use cb_swapin::Fetching;
+use cb_types::{DecodeOrder, Handle, Job, NoMemory, Reply};
+use std::alloc::Global;
+use std::sync::Wait;
+
+/// How a far object can be brought in, by what a turn of the job Fetch was answered.
+#[derive(Drop)]
+pub(crate) enum Way {
+    /// Its row is lost, and is made by this order.
+    Made(DecodeOrder),
+    /// Its row is at hand.
+    Direct,
+    /// Not by this turn: its reply where that says why, and else the call looks again.
+    Told(Option<Reply>),
+}
+
+impl Shared {
+    /// Turns that bring a far object in, for a call that looks at it again: one of the job Fetch,
+    /// and behind it one of the job Land with the row that was made outside of the far lock, or one
+    /// of the job Swap where its own row is not lost. The reply of the last one where it tells why
+    /// the object can't be brought in: Unavailable, NoRoom, or Worn by the count of turns. Else
+    /// None, after a wait where others stand in its way, and without one where the object is here
+    /// now. Where there is no memory to make the row, the pass keeps the order. Waits.
+    pub fn bring<R: Wait>(
+        &self,
+        rt: &R,
+        alloc: Global,
+        pass: &mut Pass,
+        h: Handle,
+        patience: &mut Patience,
+    ) -> Result<Option<Reply>, NoMemory>
+        requires of { IsPassOf self.now pass.old }
+        requires handle { h.n < self.now.config.handles }
+        ensures of { IsPassOf self.now pass.new }
+        ensures brings { IfOk result (λ o. TriesBy self.now.config AtNone (Brings h.n) o
+            (record_of pass.old) (record_of pass.new)) }
+        ensures error { OnErr result (StopsBy AtNone (Brings h.n) (record_of pass.old)
+            (record_of pass.new)) }
+        ensures jobs { GetsTurns (AreFetches h.n false) (record_of pass.old) (record_of pass.new) }
+        ensures brought { IfOk result (λ o. o ≡ None → GetsTurns (AreBringingTo h.n
+            patience.old.brought patience.new.brought) (record_of pass.old) (record_of pass.new)) }
+    {
+        match self.find_way(rt, pass, h, patience)? {
+            Way::Made(order) => self.land_order(rt, alloc, pass, order, patience),
+            Way::Direct => self.try_turn(rt, alloc, pass, &Job::Swap { handle: h }, patience),
+            Way::Told(told) => Ok(told),
+        }
+    }
+
+    /// A turn of the job Fetch.
+    pub(crate) fn find_way<R: Wait>(
+        &self,
+        rt: &R,
+        pass: &mut Pass,
+        h: Handle,
+        patience: &mut Patience,
+    ) -> Result<Way, NoMemory>
+        requires of { IsPassOf self.now pass.old }
+        requires handle { h.n < self.now.config.handles }
+        ensures of { IsPassOf self.now pass.new }
+        ensures tries { IfOk result (λ way. TriesBy self.now.config AtNone (OfThis (jobs.Fetch h))
+            (way_told way) (record_of pass.old) (record_of pass.new)) }
+        ensures way { IfOk result (λ way. HasWay way (record_of pass.new)) }
+        ensures error { OnErr result (TurnStops self.now.config (jobs.Fetch h)
+            (record_of pass.old) (record_of pass.new)) }
+        ensures one { GetsTurns (IsOneOf (jobs.Fetch h)) (record_of pass.old)
+            (record_of pass.new) }
+        ensures found { IfOk result (λ way. GetsTurns (IsFound h.n way patience.old.brought
+            patience.new.brought) (record_of pass.old) (record_of pass.new)) }
+    {
+        let fetching = self.fetch_within(rt, pass, h);
+        self.way_of(rt, pass.again(), fetching, patience)
+    }
+
+    /// The way by what a fetch was answered, after a wait where others stand in its way.
+    fn way_of<R: Wait>(
+        &self,
+        rt: &R,
+        again: bool,
+        fetching: Result<Fetching, NoMemory>,
+        patience: &mut Patience,
+    ) -> Result<Way, NoMemory>
+        ensures { IsWayOf again patience.old.brought patience.new.brought fetching result }
+    {
+        match fetching? {
+            Fetching::Order(order) => Ok(Way::Made(order)),
+            Fetching::Answer(reply) => {
+                if is_direct(&reply) {
+                    return Ok(Way::Direct);
+                }
+                if is_lack(again, &reply) {
+                    return Ok(Way::Told(Some(reply)));
+                }
+                self.wait_behind(rt, &reply, patience);
+                Ok(Way::Told(None))
+            }
+        }
+    }
+
+    /// Makes the row of the order that the pass keeps, while no lock is held, and lands it by a
+    /// turn. Where there is no memory for the row no turn is made.
+    pub(crate) fn land_order<R: Wait>(
+        &self,
+        rt: &R,
+        alloc: Global,
+        pass: &mut Pass,
+        order: DecodeOrder,
+        patience: &mut Patience,
+    ) -> Result<Option<Reply>, NoMemory>
+        requires of { IsPassOf self.now pass.old }
+        requires kept { (record_of pass.old).order ≡ Some (Decode order) }
+        requires fits { IsDecodable order }
+        ensures of { IsPassOf self.now pass.new }
+        ensures turn { IfOk result (λ o. TurnTries self.now.config jobs.Land o
+            (record_of pass.old) (record_of pass.new)) }
+        ensures error { OnErr result (TurnStops self.now.config jobs.Land (record_of pass.old)
+            (record_of pass.new)) }
+        ensures one { GetsTurns (IsOneAtMost jobs.Land) (record_of pass.old)
+            (record_of pass.new) }
+        ensures brought { IfOk result (λ o. o ≡ None → GetsTurns (IsOneMore jobs.Land
+            patience.old.brought patience.new.brought) (record_of pass.old) (record_of pass.new)) }
+    {
+        match run_decode(alloc, order) {
+            Ok(done) => {
+                let reply = self.land(rt, alloc, pass, done)?;
+                if is_lack(pass.again(), &reply) {
+                    return Ok(Some(reply));
+                }
+                self.wait_behind(rt, &reply, patience);
+                Ok(None)
+            }
+            Err(_) => Err(NoMemory),
+        }
+    }
+}
+
+/// Whether a fetch was told that the object's own row is not lost.
+fn is_direct(reply: &Reply) -> bool
+    ensures yes { result ≡ true → reply.now ≡ answer.Direct }
+    ensures no { result ≡ false → reply.now ≡ answer.Direct → ⊥ }
+{
+    match reply {
+        Reply::Direct => true,
+        _ => false,
+    }
+}
