@@ -1,8 +1,7 @@
 -- Tries of a call, one after another.
-use Rattle.std.proofs.Common.{◌≡◌, ◌<◌, ◌≤◌, ℕ, length, lit≤, List, [], ◌∷◌, ◌++◌, None, Some}
+use Rattle.std.proofs.Common.{◌≡◌, ◌≤◌, ℕ, length, lit≤, List, [], ◌∷◌, ◌++◌, None, Some}
 use Rattle.std.proofs.Common.{Bool, Option, Result, Ok, Err, sym, refl, ap, ◌∙◌, ◌⊎◌, ⊎_elim, subst}
 use Rattle.std.proofs.Common.{inl, inr}
-use Rattle.std.proofs.lemmas.List.{append-nil}
 use Rattle.std.specs.Result.{OnErr}
 use Rattle.cb_member.specs.declared.no_memory.NoMemory.{NoMemory}
 use Rattle.cb_types.specs.declared.config.Config.{Config}
@@ -15,7 +14,6 @@ use Rattle.cb_ptr.specs.declared.word.State.TheVariants as state
 use Rattle.cb_ptr.specs.Word.{state_of}
 use Rattle.cb_world.specs.declared.entry.Entry.{Entry}
 use Rattle.cb_world.specs.declared.event.Event.{Event}
-use Rattle.cb_core.specs.Jobs.{IsJob}
 use Rattle.cb_mutate.specs.JobWrites.{FreeWrites, MakeWrites, WriteWrites}
 use Rattle.cb_rule.specs.declared.turn.Turn.{Turn}
 use Rattle.cb_rule.specs.declared.view.Look.{Look}
@@ -33,8 +31,8 @@ use Rattle.cb_record.specs.Parts.{Part, Grows, grown, nothing_more, sum}
 use Rattle.cb_shared.specs.declared.reading.ReadAnswer.{ReadAnswer}
 use Rattle.cb_shared.specs.declared.reading.ReadAnswer.TheVariants as found
 use Rattle.cb_shared.specs.Making.{MakesNew, TriesNew}
-use Rattle.cb_shared.specs.Reading.{FindsWord, ReadFinds, looked}
-use Rattle.cb_shared.specs.Turning.{FindsAtLast, FindsFreedAfter, JobReads, KnowsIt, KnowsOf}
+use Rattle.cb_shared.specs.Reading.{ReadFinds, looked}
+use Rattle.cb_shared.specs.Turning.{FindsAtLast, FindsFreedAfter, JobReads, KnowsIt}
 use Rattle.cb_shared.specs.Turning.{TurnAdds, TurnBy, answer_of, freed_of, made_by_turn, made_in}
 use Rattle.cb_shared.specs.Turning.{object_of, turn_part, with_own}
 use Rattle.cb_shared.proofs.ReadParts.{grown_nothing, grown_sum}

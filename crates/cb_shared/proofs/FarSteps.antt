@@ -33,8 +33,8 @@ use Rattle.cb_shared.specs.declared.ways.Way.TheVariants as ways
 use Rattle.cb_shared.specs.Calls.{AnswersBy, AsksFor, AtNone, AtThis, Brings, EndsAtLast, FoundFar}
 use Rattle.cb_shared.specs.Calls.{IsForWant, IsInVain, IsLack, IsReadJob, IsUnanswered, IsWriteJob}
 use Rattle.cb_shared.specs.Calls.{IsWriteJobAt, LooksOf}
-use Rattle.cb_shared.specs.Calls.{OfThis, ReadCallEnds, ReadStops, ReadTries, StopsBy, TriesBy}
-use Rattle.cb_shared.specs.Calls.{TriesInVain, TurnStops, TurnTries, WriteCallEnds, WriteStops}
+use Rattle.cb_shared.specs.Calls.{OfThis, ReadCallEnds, ReadTries, StopsBy, TriesBy}
+use Rattle.cb_shared.specs.Calls.{TriesInVain, TurnStops, TurnTries, WriteCallEnds}
 use Rattle.cb_shared.specs.Calls.{WriteTries, again_in, the_handle}
 use Rattle.cb_shared.specs.Fetching.{GetsTurns, brings, job_behind_fetch}
 use Rattle.cb_shared.specs.Ordering.{IsPlainFetch, fetch_told}

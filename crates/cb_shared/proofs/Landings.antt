@@ -10,7 +10,6 @@ use Rattle.cb_types.specs.declared.job.Job.TheVariants as jobs
 use Rattle.cb_types.specs.declared.reply.Reply.{Reply}
 use Rattle.cb_ptr.specs.Word.{len_of}
 use Rattle.cb_rule.specs.declared.turn.Turn.{Turn}
-use Rattle.cb_rule.specs.declared.view.Look.{Look}
 use Rattle.cb_rule.specs.declared.view.View.{View}
 use Rattle.cb_rule.specs.Lists.{Each}
 use Rattle.cb_rule.specs.Steps.{look_at}
@@ -21,7 +20,6 @@ use Rattle.cb_shared.specs.declared.answers.WriteAnswer.{WriteAnswer}
 use Rattle.cb_shared.specs.declared.answers.WriteAnswer.TheVariants as place
 use Rattle.cb_shared.specs.Calls.{AnswersBy, FoundInside, IsForWant, IsInVain, IsUnanswered}
 use Rattle.cb_shared.specs.Calls.{IsWriteJob, IsWriteJobAt, LandsInside, StopsBy, TriesBy, WriteFinds}
-use Rattle.cb_shared.specs.Calls.{the_handle}
 use Rattle.cb_shared.specs.Reading.{looked}
 use Rattle.cb_shared.specs.Writing.{FoundFarAs, WriteGives}
 use Rattle.cb_shared.proofs.CallSteps.{each_both, each_map}

@@ -25,7 +25,7 @@ use Rattle.cb_rule.specs.declared.view.View.{View}
 use Rattle.cb_rule.specs.Lists.{Each}
 use Rattle.cb_rule.specs.LockSteps.{AddsTurn, turn_of}
 use Rattle.cb_rule.specs.Slot.{LockSlot}
-use Rattle.cb_rule.specs.Steps.{freed_seen, with_look}
+use Rattle.cb_rule.specs.Steps.{freed_seen}
 use Rattle.cb_record.specs.Parts.{Part, grown, nothing_more, sum}
 use Rattle.cb_shared.specs.declared.answers.WriteAnswer.TheVariants as place
 use Rattle.cb_shared.specs.declared.pass.Pass.{Pass}

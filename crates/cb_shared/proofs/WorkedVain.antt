@@ -1,6 +1,6 @@
 -- Worked tries in vain, and reads by turns: what meets each definition, and what breaks one of its
 -- parts alone.
-use Rattle.std.proofs.Common.{◌≡◌, ℕ, Bool, true, false, List, [], ◌∷◌, ◌++◌, length, length-append, None}
+use Rattle.std.proofs.Common.{◌≡◌, ℕ, true, false, List, [], ◌∷◌, ◌++◌, length, length-append, None}
 use Rattle.std.proofs.Common.{Some, Option, Ok, refl, sym, ap, ◌∙◌, ◌+◌, ◌≤◌, subst, inl, inr}
 use Rattle.std.proofs.Common.{lit≤, arith}
 use Rattle.std.proofs.lemmas.Bool.{eqb-false}

@@ -1,9 +1,8 @@
 -- Worked turns that bring a far object in: what meets each definition, and what breaks one of its
 -- parts alone.
-use Rattle.std.proofs.Common.{◌≡◌, ℕ, zero, suc, ◌<◌, Bool, true, false, List, [], ◌∷◌, ◌++◌, length, get_or}
+use Rattle.std.proofs.Common.{◌≡◌, ℕ, zero, suc, ◌<◌, true, false, List, [], ◌∷◌, length, get_or}
 use Rattle.std.proofs.Common.{Option, None, Some, Ok, Err, refl, sym, ap, ◌∙◌, subst, inl, inr, lit≤, arith}
 use Rattle.std.proofs.lemmas.Bool.{eqb-false, false≢true}
-use Rattle.std.proofs.lemmas.Option.{none-some, same_Some}
 use Rattle.cb_member.specs.declared.no_memory.NoMemory.{NoMemory}
 use Rattle.cb_types.specs.declared.job.Job.{Job}
 use Rattle.cb_types.specs.declared.job.Job.TheVariants as jobs
@@ -18,15 +17,14 @@ use Rattle.cb_types.specs.Orders.{IsDecodable}
 use Rattle.cb_ptr.specs.Word.{state_number}
 use Rattle.cb_swapin.specs.declared.fetching.Fetching.TheVariants as fetching
 use Rattle.cb_rule.specs.declared.turn.Turn.{Turn}
-use Rattle.cb_rule.specs.declared.view.Look.{Look}
 use Rattle.cb_rule.specs.declared.view.View.{View}
 use Rattle.cb_rule.specs.Steps.{look_at, with_look}
 use Rattle.cb_record.specs.Lists.{HasOne}
 use Rattle.cb_record.specs.Parts.{Part, grown, nothing_more}
 use Rattle.cb_shared.specs.declared.ways.Way.TheVariants as ways
-use Rattle.cb_shared.specs.Calls.{FoundInside, LandsInside, the_handle}
+use Rattle.cb_shared.specs.Calls.{FoundInside, LandsInside}
 use Rattle.cb_shared.specs.Fetching.{AreBringingTo, AreDone, AreFetches, AreFetchesTo, GetsTurns}
-use Rattle.cb_shared.specs.Fetching.{IsOneAtMost, IsOneMore, IsOneOf, brought_in_by, job_behind}
+use Rattle.cb_shared.specs.Fetching.{IsOneAtMost, IsOneMore, brought_in_by, job_behind}
 use Rattle.cb_shared.specs.Fetching.{job_to_fetch}
 use Rattle.cb_shared.specs.Ordering.{CanRun}
 use Rattle.cb_shared.specs.Reading.{looked}

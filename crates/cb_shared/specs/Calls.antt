@@ -25,7 +25,7 @@ use Rattle.cb_record.specs.Deeds.{deed, happened}
 use Rattle.cb_record.specs.Lists.{HasOne}
 use Rattle.cb_record.specs.Parts.{Part, Grows, grown, nothing_more, sum}
 pub use Rattle.cb_shared.specs.Trying.{again_in, newest_tries}
-use Rattle.cb_shared.specs.Reading.{FindsGone, FindsOther, FindsWord, IsReadHere, looked}
+use Rattle.cb_shared.specs.Reading.{FindsGone, FindsOther, FindsWord, IsReadHere}
 use Rattle.cb_shared.specs.Reading.{looked_twice}
 use Rattle.cb_shared.specs.Turning.{TurnAdds, made_by_turn, with_own}
 use Rattle.cb_shared.specs.Writing.{IsPastEnd, IsPinnedSo, IsRoomFor, last_seen}

@@ -22,12 +22,12 @@ ghost use Rattle.cb_ptr.specs.declared.word.State.TheVariants as state;
 ghost use Rattle.cb_ptr.specs.Word.{state_of};
 
 use crate::answers::WriteAnswer;
-use crate::ways::Way;
 use crate::handles::count_pins;
 use crate::pass::Pass;
 use crate::reading::{ReadAnswer, read_pinned};
 use crate::runtime::Shared;
 use crate::waiting::Patience;
+use crate::ways::Way;
 use crate::writing::is_inside;
 use cb_types::{Bytes, Handle, Job, NoMemory, Reply};
 use std::alloc::Global;

@@ -1,14 +1,14 @@
-use Rattle.std.proofs.Common.{◌∙◌, Bool, Option, Some, ap, subst, inl, inr, refl}
+use Rattle.std.proofs.Common.{Option, ap, subst, refl}
 use Rattle.std.proofs.lemmas.Result.{IfOk-from_err, IfOk-weaker, on_err_weaker}
 use Rattle.cb_types.specs.declared.job.Job.TheVariants as jobs
 use Rattle.cb_types.specs.declared.reply.Reply.{Reply}
 use Rattle.cb_shared.specs.declared.ways.Way.{Way}
-use Rattle.cb_shared.specs.Calls.{AtNone, Brings, OfThis, TriesBy, the_handle}
+use Rattle.cb_shared.specs.Calls.{AtNone, Brings, OfThis, TriesBy}
 use Rattle.cb_shared.specs.Passes.{record_of}
 use Rattle.cb_shared.specs.Ways.{HasWay, way_told}
 use Rattle.cb_shared.proofs.CallSteps.{err_always}
 use Rattle.cb_shared.proofs.FarSteps.{brings_fetch, brings_land, brings_swap, stops_by_then}
-use Rattle.cb_shared.proofs.FarSteps.{stops_by_wider, tries_by_then, tries_by_wider, turn_stops}
+use Rattle.cb_shared.proofs.FarSteps.{tries_by_then, tries_by_wider, turn_stops}
 use Rattle.cb_shared.proofs.FarSteps.{turn_tries, vain_by_wider, vain_way}
 use Rattle.cb_shared.proofs.Fetches.{fetch_first, found_first, found_told, landed_at_most}
 use Rattle.cb_shared.proofs.Fetches.{landed_more, swapped_more, swapped_one}
