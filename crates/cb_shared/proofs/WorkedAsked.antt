@@ -1,6 +1,5 @@
 -- Worked examples of turns that hand an order out or take one.
-use Rattle.std.proofs.Common.{◌≡◌, ℕ, zero, suc, ◌<◌, true, false, List, [], ◌∷◌, ◌++◌, length}
-use Rattle.std.proofs.Common.{get_or, Option, None}
+use Rattle.std.proofs.Common.{◌≡◌, ℕ, ◌<◌, true, false, List, [], ◌∷◌, ◌++◌, length, Option, None}
 use Rattle.std.proofs.Common.{Some, Ok, Err, refl, sym, ap, ◌∙◌, subst, inl, inr, lit<, lit≤, arith}
 use Rattle.std.proofs.Common.{length-append}
 use Rattle.std.proofs.lemmas.Bool.{eqb-false}
@@ -39,7 +38,7 @@ use Rattle.cb_shared.specs.declared.asked.Asked.TheVariants as asks
 use Rattle.cb_shared.specs.declared.asked.Outcome.{Outcome}
 use Rattle.cb_shared.specs.declared.asked.Outcome.TheVariants as ends
 use Rattle.cb_shared.specs.Calls.{the_handle}
-use Rattle.cb_shared.specs.Ordering.{AsksBelow, AsksDesk, CanRun, FetchFinds, IsAnswered, IsNoWant}
+use Rattle.cb_shared.specs.Ordering.{AsksBelow, AsksDesk, FetchFinds, IsAnswered, IsNoWant}
 use Rattle.cb_shared.specs.Ordering.{IsPlainFetch, IsPlainGather, MayAsk, fetched_of, handed_by}
 use Rattle.cb_shared.specs.Ordering.{keeps_of, order_run, told}
 use Rattle.cb_shared.specs.Reading.{looked_freed}
@@ -100,38 +99,6 @@ tells_reply = (refl, refl, refl)
 
 tells_lack : (e : NoMemory) → told (ends.Gather (Err e)) ≡ Err e
 tells_lack e = refl
-
--- an order with its rows can be run; one without a row can't, of either kind
-abbrev small : EncodeOrder
-small = record { set = 3; k = 1; r = 1; rows = [] ∷ [] }
-
-one_row : (i : ℕ) (d : List ℕ) → i < 1 → length (get_or small.rows i d) ≡ 0
-one_row zero d low = refl
-one_row (suc i) d low = absurd (omega (arith, low))
-
-can_run : CanRun None × CanRun (Some (Encode small))
-can_run = (
-  tt,
-  record {
-    range = record {
-      data_least = omega arith;
-      data_most = omega arith;
-      parities_least = omega arith;
-      parities_most = omega arith;
-    };
-    count = refl;
-    lengths = one_row;
-  },
-)
-
-can_not_encode : CanRun kept → ⊥
-can_not_encode x = let few : 0 ≡ 2 = x.count in omega (arith, few)
-
-abbrev no_rows : DecodeOrder
-no_rows = record { set = 3; position = 0; k = 2; r = 1; present = []; rows = [] }
-
-can_not_decode : CanRun (Some (Decode no_rows)) → ⊥
-can_not_decode x = let few : 0 ≡ 2 = x.count in omega (arith, few)
 
 -- a refusal leaves the one before, and so does want of memory
 refused : keeps_of (ends.Gather (Ok (gathered.Answer (answer.Leaving third)))) kept ≡ kept
