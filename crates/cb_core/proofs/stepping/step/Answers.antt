@@ -8,7 +8,7 @@ use Rattle.cb_core.specs.Unavailable.{TellsUnavailable}
 use Rattle.cb_core.proofs.Composing.{err_map, if_map}
 use Rattle.cb_core.proofs.StepFixed.{only_step}
 use Rattle.cb_core.proofs.Stopping.{stop_leaves}
-use Rattle.cb_core.proofs.Unavailables.{seat_tells}
+use Rattle.cb_core.proofs.EventTells.{seat_tells}
 use Rattle.cb_core.proofs.stepping.step.Goals as goal
 
 pub returns-in-Step-clause-fixes : goal.returns-in-Step-clause-fixes
