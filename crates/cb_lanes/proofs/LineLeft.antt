@@ -148,17 +148,17 @@ module _ (seat h : ℕ) (w new : WorldState) (r : Reply) (sound : IsSoundWorld w
   below_then m q step = subst (λ (c : Config). h < c.handles) (sym (step_settings w m swap q step)) below
 
   sound_then : (m : WorldState) (q : Reply) → Step w swap q m → IsSoundWorld m
-  sound_then m q step = swap_sound w m h q sound (turn_alone seat (job.Swap (record { n = h })) w m q lone step)
+  sound_then m q step = swap_sound w m h q sound (turn_alone seat (job.Swap (record { n = h })) w m q tt lone step)
 
   pin_pinned : PinLine seat h w r new → KeepsPinned w new
   pin_pinned (at_once x never) = step_pinned pin w new r sound after (lt, below) x
-  pin_pinned (stays_far away x off) = step_pinned swap w new r sound after (lt, below, tt) x
+  pin_pinned (stays_far away x off) = step_pinned swap w new r sound after (lt, below) x
   pin_pinned (swapped_in m q away x is y) = λ k some still.
       let mid = sound_then m q x in
       let pinned = pins_stay w m k sound mid
-      (event_seats seat (job.Swap (record { n = h })) w m q x) (step_settings w m swap q x) some in
+      (event_seats seat (job.Swap (record { n = h })) w m q tt x) (step_settings w m swap q x) some in
       unmoved_then k w.desk m.desk new.desk
-      (step_pinned swap w m q sound mid (lt, below, tt) x k some pinned)
+      (step_pinned swap w m q sound mid (lt, below) x k some pinned)
       (step_pinned pin m new r mid after (lt, below_then m q x) y k pinned still)
 
   none_some : {A : Type 0} (k : A) → None ≡ Some k → ⊥
@@ -172,7 +172,7 @@ module _ (seat h : ℕ) (w new : WorldState) (r : Reply) (sound : IsSoundWorld w
 
   swap_tells : (m : WorldState) (q : Reply) → IsSoundWorld m → Step w swap q m
       → TellsUnavailable w swap q
-  swap_tells m q mid step = step_tells swap w m q sound mid (lt, below, tt) step
+  swap_tells m q mid step = step_tells swap w m q sound mid (lt, below) step
 
   pin_tells : (name : List ℕ) → PinLine seat h w r new → LineTells seat (Some h) (Pin name) w r
   pin_tells name (at_once x never) =
