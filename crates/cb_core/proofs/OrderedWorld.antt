@@ -183,10 +183,10 @@ order_taken seats seat keeps within =
     ∙ set-set seats seat bare (record (seat_at seats seat) { order = keeps })
 
 -- the order that a seat keeps is so for all that the desk shows
-pub kept_shown : (w : WorldState) (seat : ℕ) (order : Option Kept) (sound : IsSoundWorld w)
-    → order ≡ order_of w.seats seat → (s : Shown) → SaysAll w.desk s → Sound s w.far
-    → KeepsOrder s w.far order
-kept_shown w seat order sound is s shows here = subst (KeepsOrder s w.far) (sym is)
+pub kept_shown : (w : WorldState) (seat : ℕ) (o : Option Kept) (sound : IsSoundWorld w)
+    → o ≡ order_of w.seats seat → (s : Shown) → SaysAll w.desk s → Sound s w.far
+    → KeepsOrder s w.far o
+kept_shown w seat o sound is s shows here = subst (KeepsOrder s w.far) (sym is)
     (order_then sound.shown s w.far w.far (order_of w.seats seat)
     (same_orders sound.shown s w.far (shows.1.memory ∙ sym sound.known.shows.memory))
     (sound.orders seat))

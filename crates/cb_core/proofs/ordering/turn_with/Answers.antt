@@ -2,7 +2,7 @@ use Rattle.std.proofs.Common.{sym, subst}
 use Rattle.cb_types.specs.declared.job.Job.{Job}
 use Rattle.cb_core.specs.Ordered.{EndsWith}
 use Rattle.cb_core.proofs.Composing.{holding}
-use Rattle.cb_core.proofs.OrderEnds.{install_ends, install_left}
+use Rattle.cb_core.proofs.OrderEnds.{install_ends, install_left, no_order}
 use Rattle.cb_core.proofs.ordering.turn_with.Goals as goal
 
 pub install_with-requires-clause-kept : goal.install_with-requires-clause-kept
@@ -60,3 +60,7 @@ returns-in-Install-clause-leaves g c = install_left (λ d es e. g.D.Desk.run d e
     (g.met.D.Desk.none c.args.desk.now) c.install_with.ensures.ends
     (c.install_with.ensures.leaves (g.D.Desk.settings c.args.desk.now) c.requires.configured)
     c.requires.kept
+
+pub unreachable-requires : goal.unreachable-requires
+unreachable-requires g c = c.requires.needs (no_order c.args.job.now c.in_default.not-Gather
+    c.in_default.not-Install c.in_default.not-Fetch c.in_default.not-Land)
