@@ -18,8 +18,11 @@ use Rattle.cb_core.proofs.stepping.order_turn.Goals as goal
 
 pub take_order-order-requires : goal.take_order-order-requires
 take_order-order-requires c =
-    let sound : IsSoundWorld (record { desk = c.world.inside.desk; far = c.world.inside.far;
-    seats = c.world.inside.seats }) = subst IsSoundWorld (sym c.world.view_is) c.requires.sound in
+    let sound : IsSoundWorld (record {
+      desk = c.world.inside.desk;
+      far = c.world.inside.far;
+      seats = c.world.inside.seats;
+    }) = subst IsSoundWorld (sym c.world.view_is) c.requires.sound in
     let n = sound.pinned.count in let l = c.requires.seat in omega (arith, n, l)
 
 pub turn_with-ended-requires-clause-config : goal.turn_with-ended-requires-clause-config
@@ -105,11 +108,17 @@ returns-clause-step c =
     ∙ order_taken w.seats c.args.seat c.turn_with-ended.result.0
     (let n = sound.pinned.count in let l = c.requires.seat in omega (arith, n, l))) in
     subst (λ (q : Result Reply NoMemory). IfOk q (λ r. SeatTurn c.args.seat c.args.job.now
-    c.args.world.now r (record { desk = c.turn_with-ended.new.desk; far = c.turn_with-ended.new.far;
-    seats = c.put_back.new.seats }))) (sym c.put_back.ensures.answer)
+    c.args.world.now r (record {
+      desk = c.turn_with-ended.new.desk;
+      far = c.turn_with-ended.new.far;
+      seats = c.put_back.new.seats;
+    }))) (sym c.put_back.ensures.answer)
     (subst (λ (v : WorldState). IfOk c.turn_with-ended.result.1 (λ r. SeatTurn c.args.seat
-    c.args.job.now v r (record { desk = c.turn_with-ended.new.desk; far = c.turn_with-ended.new.far;
-    seats = c.put_back.new.seats }))) c.world.view_is z.step)
+    c.args.job.now v r (record {
+      desk = c.turn_with-ended.new.desk;
+      far = c.turn_with-ended.new.far;
+      seats = c.put_back.new.seats;
+    }))) c.world.view_is z.step)
 
 pub returns-clause-error : goal.returns-clause-error
 returns-clause-error c =
@@ -132,8 +141,14 @@ returns-clause-error c =
     ∙ order_taken w.seats c.args.seat c.turn_with-ended.result.0
     (let n = sound.pinned.count in let l = c.requires.seat in omega (arith, n, l))) in
     subst (λ (q : Result Reply NoMemory). OnErr q (EventStops c.args.world.now
-    (event.Turn c.args.seat c.args.job.now) (record { desk = c.turn_with-ended.new.desk;
-    far = c.turn_with-ended.new.far; seats = c.put_back.new.seats }))) (sym c.put_back.ensures.answer)
+    (event.Turn c.args.seat c.args.job.now) (record {
+      desk = c.turn_with-ended.new.desk;
+      far = c.turn_with-ended.new.far;
+      seats = c.put_back.new.seats;
+    }))) (sym c.put_back.ensures.answer)
     (subst (λ (v : WorldState). OnErr c.turn_with-ended.result.1 (EventStops v
-    (event.Turn c.args.seat c.args.job.now) (record { desk = c.turn_with-ended.new.desk;
-    far = c.turn_with-ended.new.far; seats = c.put_back.new.seats }))) c.world.view_is z.stops)
+    (event.Turn c.args.seat c.args.job.now) (record {
+      desk = c.turn_with-ended.new.desk;
+      far = c.turn_with-ended.new.far;
+      seats = c.put_back.new.seats;
+    }))) c.world.view_is z.stops)
