@@ -132,9 +132,13 @@ module _ (w new : WorldState) (seat : ℕ) (handle : Handle) (r : Reply) (order 
 
   away_tells : Tells (counted w.far j) h r → TellsUnavailable w (event.Turn seat j) r
   away_tells t = record {
-    only = λ id l e. inl (h, refl, lost_is w sound.shown h id l sound.known
-        (in_far w.far h id l
-        (uncounted w.far j h id l (tells_only (counted w.far j) h r id l t e))));
+    only = λ id l e. inl (
+      h,
+      refl,
+      lost_is w sound.shown h id l sound.known
+          (in_far w.far h id l
+          (uncounted w.far j h id l (tells_only (counted w.far j) h r id l t e))),
+    );
     each = λ k id l asked turn z. tells_each (counted w.far j) h r id l t
         (when_counted w.far j h id l
         (subst (λ (i : ℕ). IsInLost w.far i id l) (same_asked h k asked) z.home));

@@ -174,7 +174,7 @@ module _ (w : WorldState) (seat : ℕ) (job : Job) (sound : IsSoundWorld w) (wit
       }
 
 -- ---- the seat's order is taken out before the turn, and what the seat keeps is put back behind it
-pub order_taken : (seats : List SeatState) (seat : ℕ) (keeps : Option Kept) → seat < length seats
+order_taken : (seats : List SeatState) (seat : ℕ) (keeps : Option Kept) → seat < length seats
     → with_order (with_order seats seat None) seat keeps ≡ with_order seats seat keeps
 order_taken seats seat keeps within =
     let bare : SeatState = record (seat_at seats seat) { order = None } in
@@ -198,7 +198,7 @@ pub record IsOrderTurned (w : WorldState) (seat : ℕ) (job : Job) (q : Result R
   pub step : IfOk q (λ r. SeatTurn seat job w r new)
   pub stops : OnErr q (EventStops w (event.Turn seat job) new)
 
-pub order_ends : (w : WorldState) (seat : ℕ) (job : Job) (keeps : Option Kept)
+order_ends : (w : WorldState) (seat : ℕ) (job : Job) (keeps : Option Kept)
     (q : Result Reply NoMemory) (y : Words) (new : FarState) (seats : List SeatState)
     → IsSoundWorld w → seat < 64 → (NeedsNoOrder job → ⊥) → NoOtherHolds w.seats seat
     → EndsWith Ran SaysAll w.desk.settings job (order_of w.seats seat) (held w) keeps q
@@ -218,3 +218,31 @@ order_ends w seat job keeps (Err e) y new seats sound within needs none (same, s
     (sym (put ∙ ap (with_order w.seats seat) same ∙ order_same w.seats seat))
     (let z = ordered_stops w seat job sound within needs none y new stops in
     record { sound = z.sound; step = tt; stops = z.stops })
+
+-- the same from the seats without the order that was taken out, for the world as it is named elsewhere
+pub order_turned : (w v : WorldState) (seat : ℕ) (job : Job) (order keeps : Option Kept)
+    (p q : Result Reply NoMemory) (y : Words) (new : FarState) (taken seats : List SeatState)
+    → w ≡ v → IsSoundWorld v → seat < 64 → (NeedsNoOrder job → ⊥) → NoOtherHolds v.seats seat
+    → order ≡ order_of w.seats seat → taken ≡ with_order w.seats seat None
+    → seats ≡ with_order taken seat keeps → p ≡ q
+    → EndsWith Ran SaysAll w.desk.settings job order (held w) keeps q
+    (record { desk = y; far = new })
+    → LeavesWith Ran SaysAll w.desk.settings (held w) (record { desk = y; far = new }) order keeps
+    → IsOrderTurned v seat job p (record { desk = y; far = new; seats = seats })
+order_turned w v seat job order keeps p q y new taken seats same sound within needs none is out put
+    answer ends left =
+    subst (λ (x : WorldState). IsSoundWorld x → NoOtherHolds x.seats seat
+    → IsOrderTurned x seat job p (record { desk = y; far = new; seats = seats })) same there sound none
+  where
+    there : IsSoundWorld w → NoOtherHolds w.seats seat
+        → IsOrderTurned w seat job p (record { desk = y; far = new; seats = seats })
+    there here alone = subst (λ (r : Result Reply NoMemory). IsOrderTurned w seat job r
+        (record { desk = y; far = new; seats = seats })) (sym answer)
+        (order_ends w seat job keeps q y new seats here within needs alone
+        (subst (λ (o : Option Kept). EndsWith Ran SaysAll w.desk.settings job o (held w) keeps q
+        (record { desk = y; far = new })) is ends)
+        (subst (λ (o : Option Kept). LeavesWith Ran SaysAll w.desk.settings (held w)
+        (record { desk = y; far = new }) o keeps) is left)
+        (put ∙ ap (λ (l : List SeatState). with_order l seat keeps) out
+        ∙ order_taken w.seats seat keeps
+        (let n = here.pinned.count in omega (arith, n, within))))

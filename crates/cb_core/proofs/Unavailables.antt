@@ -1,5 +1,5 @@
 -- Each turn is answered Unavailable exactly where it is to be.
-use Rattle.std.proofs.Common.{arith, ◌≡◌, ℕ, true, ◌-◌, ◌^◌, ◌<◌, List, [], Some, None, length, refl, sym, ap, ◌∙◌, subst, inl}
+use Rattle.std.proofs.Common.{arith, ◌≡◌, ℕ, true, ◌^◌, ◌<◌, List, [], Some, None, length, refl, sym, ap, ◌∙◌, subst, inl}
 use Rattle.std.proofs.lemmas.Bool.{lt-ltb, ltb-true}
 use Rattle.cb_member.specs.declared.names.Loss.{Loss}
 use Rattle.cb_set.specs.Lost.{lost}

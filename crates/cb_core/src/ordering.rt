@@ -221,10 +221,7 @@ fn install_made(far: &mut Far, done: EncodeDone) -> (Option<Kept>, Result<Reply,
 }
 
 /// What a seat keeps behind an install, and its answer.
-fn behind_install(
-    order: Option<Kept>,
-    reply: Reply,
-) -> (Option<Kept>, Result<Reply, NoMemory>)
+fn behind_install(order: Option<Kept>, reply: Reply) -> (Option<Kept>, Result<Reply, NoMemory>)
     ensures keeps { result.0 ≡ kept_behind reply order }
     ensures answer { result.1 ≡ Ok reply }
 {

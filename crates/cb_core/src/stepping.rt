@@ -110,7 +110,10 @@ fn needs_order(job: &Job) -> bool
     ensures yes { result ≡ true → NeedsNoOrder job.now → ⊥ }
     ensures other { result ≡ false → NeedsNoOrder job.now }
 {
-    matches!(job, Job::Gather | Job::Install | Job::Fetch { .. } | Job::Land)
+    matches!(
+        job,
+        Job::Gather | Job::Install | Job::Fetch { .. } | Job::Land
+    )
 }
 
 /// A turn that hands an order out or takes one, at the still desk: the seat keeps what the turn

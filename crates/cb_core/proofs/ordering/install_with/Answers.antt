@@ -46,4 +46,3 @@ pub returns-in-None-clause-leaves : goal.returns-in-None-clause-leaves
 returns-in-None-clause-leaves c = subst (λ (o : Option Kept). (s : Config) → IsConfigured s c.args.far.now
     → InstallLeaves s c.args.far.now c.install-reply-in-None.new.far (encode_in o)) (sym c.in-None.is)
     c.install-reply-in-None.ensures.leaves
-

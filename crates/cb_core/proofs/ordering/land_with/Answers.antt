@@ -73,4 +73,3 @@ returns-in-None-clause-leaves g c = subst (λ (o : Option Kept). LeavesWith (λ 
     (land_left (λ d es e. g.D.Desk.run d es e) (λ d s. g.D.Desk.shows d s)
     (g.D.Desk.settings c.args.desk.now) (holding c.args.desk.now c.args.far.now)
     (holding c.land-ended-in-None.new.desk c.land-ended-in-None.new.far) _ c.land-ended-in-None.result c.land-ended-in-None.ensures.leaves))
-
