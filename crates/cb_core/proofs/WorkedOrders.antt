@@ -1,7 +1,9 @@
 -- Worked examples of turns that hand an order out, or take one: what meets each definition, and what
 -- breaks one part.
-use Rattle.std.proofs.Common.{◌≡◌, ℕ, zero, suc, ◌^◌, ◌<◌, get_or, List, [], ◌∷◌, Option, None, Some, length, refl, sym, ap, ◌∙◌, arith, inl, lit<}
+use Rattle.std.proofs.Common.{◌≡◌, ℕ, zero, suc, ◌^◌, ◌<◌, get_or, List, [], ◌∷◌, Option, None, Some, length, refl, sym, ap, ◌∙◌, arith, inl, inr, lit<}
+use Rattle.std.specs.Prelude.{Ok, Err}
 use Rattle.cb_member.specs.declared.names.Loss.{Loss}
+use Rattle.cb_member.specs.declared.no_memory.NoMemory.{NoMemory}
 use Rattle.cb_set.specs.Lost.{lost}
 use Rattle.cb_set.specs.SetState.{SetState, parities}
 use Rattle.cb_types.specs.declared.config.Config.{Config}
@@ -23,11 +25,14 @@ use Rattle.cb_world.specs.Leaving.{LeavingState}
 use Rattle.cb_world.specs.Orders.{IsEncodeKept}
 use Rattle.cb_world.specs.Sound.{Sound}
 use Rattle.cb_world.proofs.Laws.{codes_stay, counted_holds, empty_world_sound, recounted}
+use Rattle.cb_evict.specs.declared.gathering.Gathered.TheVariants as gathered
+use Rattle.cb_swapin.specs.declared.fetching.Fetching.TheVariants as fetching
 use Rattle.cb_core.specs.Jobs.{NeedsNoOrder}
-use Rattle.cb_core.specs.Ordered.{InstallTurn, StoppedWith, TurnedWith}
+use Rattle.cb_core.specs.Ordered.{EndsWith, InstallEnds, InstallTurn, StoppedWith, StopsAt, TurnedWith, fetch_answer, fetch_keeps, gather_answer, gather_keeps, land_keeps}
 use Rattle.cb_core.specs.Ordered.InstallTurn.{done as install_done, worn as install_worn}
+use Rattle.cb_core.specs.Ordered.StopsAt.{in_part, in_run}
 use Rattle.cb_core.specs.Ordered.TurnedWith.{done, worn}
-use Rattle.cb_core.specs.OrderLeaves.{HandsOrder, InstallLeaves}
+use Rattle.cb_core.specs.OrderLeaves.{HandsOrder, InstallLeaves, LeavesWith}
 use Rattle.cb_core.specs.OrderParts.{decode_in, encode_in, landed_order}
 use Rattle.cb_core.specs.Parts.{Holding}
 use Rattle.cb_core.specs.Parts.RoomStops.{at_once as lacks_now}
@@ -82,6 +87,52 @@ not_to_land = refl
 
 to_land : decode_in (Some (Decode decode)) ≡ Some (Decode decode)
 to_land = refl
+
+-- a new order takes the place of the one before, and else that stays, also where there was no memory
+gathers_anew : gather_keeps (Some (Decode decode)) (Ok (gathered.Order encode)) ≡ Some (Encode encode)
+gathers_anew = refl
+
+gathers_none : gather_keeps (Some (Decode decode)) (Ok (gathered.Answer answer.Worn))
+    ≡ Some (Decode decode)
+gathers_none = refl
+
+gathers_unkept : (e : NoMemory) → gather_keeps (Some (Decode decode)) (Err e) ≡ None → ⊥
+gathers_unkept e same = cc
+
+gather_told : gather_answer (Ok (gathered.Order encode)) ≡ Ok (answer.Batch (record { n = 5 }))
+gather_told = refl
+
+gather_untold : (e : NoMemory) → gather_answer (Err e) ≡ Err e
+gather_untold e = refl
+
+fetches_anew : fetch_keeps (Some (Encode encode)) (Ok (fetching.Order decode)) ≡ Some (Decode decode)
+fetches_anew = refl
+
+fetches_none : fetch_keeps (Some (Encode encode)) (Ok (fetching.Answer answer.Direct))
+    ≡ Some (Encode encode)
+fetches_none = refl
+
+fetches_unkept : (e : NoMemory) → fetch_keeps (Some (Encode encode)) (Err e) ≡ None → ⊥
+fetches_unkept e same = cc
+
+fetch_told : fetch_answer (Ok (fetching.Order decode)) ≡ Ok (answer.Fetched (record { n = 5 }) 0)
+fetch_told = refl
+
+fetch_untold : (e : NoMemory) → fetch_answer (Err e) ≡ Err e
+fetch_untold e = refl
+
+lands_it : land_keeps (Some (Decode decode)) (Ok (answer.Swapped 3)) ≡ None
+lands_it = refl
+
+lands_not : land_keeps (Some (Decode decode)) (Ok (answer.Changed (record { n = 5 })))
+    ≡ Some (Decode decode)
+lands_not = refl
+
+lands_unkept : (e : NoMemory) → land_keeps (Some (Decode decode)) (Err e) ≡ None → ⊥
+lands_unkept e same = cc
+
+some_or_none : (o : Kept) → None ≡ Some o → ⊥
+some_or_none o same = cc
 
 -- ---- turns, from the empty world of a configuration
 module _ (c : Config) (accepted : IsAccepted c) where
@@ -188,6 +239,77 @@ module _ (c : Config) (accepted : IsAccepted c) where
   install_stops : StoppedWith run shows c Install None (at start) (at then_) → ⊥
   install_stops x = x.stops
 
+  -- ---- where one stops, and what one comes to
+  -- an order that can't be run: the turn is counted, and nothing is done
+  land_in_run : StopsAt run shows c Land (Some (Decode decode)) (at start) (at (counted start Land))
+  land_in_run = in_run (lit< tt) (inr (decode, refl, refl)) (refl, refl)
+
+  land_in_part : StopsAt run shows c Land (Some (Decode decode)) (at start) (at (counted start Land))
+  land_in_part = in_part land_stops
+
+  stops_late : StopsAt run shows c Land (Some (Decode decode)) (at late) (at late) → ⊥
+  stops_late (in_run few runs nothing) = absurd (let n : 2 ^ 40 < 2 ^ 40 = few in omega (arith, n))
+  stops_late (in_part x) = absurd (let n : 2 ^ 40 < 2 ^ 40 = x.few in omega (arith, n))
+
+  runs_no_order : StopsAt run shows c Install None (at start) (at then_) → ⊥
+  runs_no_order (in_run few (inl x) nothing) = some_or_none (Encode x.0) x.2
+  runs_no_order (in_run few (inr x) nothing) = some_or_none (Decode x.0) x.2
+  runs_no_order (in_part x) = x.stops
+
+  stops_uncounted : StopsAt run shows c Install (Some (Encode encode)) (at start) (at start) → ⊥
+  stops_uncounted (in_run few runs nothing) = absurd (let n : 0 ≡ 1 =
+      ap (λ (f : FarState). f.counts.turns) nothing.1 in omega (arith, n))
+  stops_uncounted (in_part x) = x.stops
+
+  ends_late : EndsWith run shows c Land (Some (Decode decode)) (at late) (Some (Decode decode))
+      (Ok answer.Worn) (at late)
+  ends_late = lands_late
+
+  ends_early : EndsWith run shows c Evict None (at start) None (Ok answer.NoOrder) (at start) → ⊥
+  ends_early = evicts_so
+
+  ends_in_run : (e : NoMemory) → EndsWith run shows c Land (Some (Decode decode)) (at start)
+      (Some (Decode decode)) (Err e) (at (counted start Land))
+  ends_in_run e = (refl, land_in_run)
+
+  ends_and_forgets : (e : NoMemory) → EndsWith run shows c Land (Some (Decode decode)) (at start) None
+      (Err e) (at (counted start Land)) → ⊥
+  ends_and_forgets e x = some_or_none (Decode decode) x.0
+
+  ends_too_late : (e : NoMemory) → EndsWith run shows c Land (Some (Decode decode)) (at late)
+      (Some (Decode decode)) (Err e) (at late) → ⊥
+  ends_too_late e x = stops_late x.1
+
+  -- an install, at the far state alone
+  install_ends : InstallEnds start None None (Ok answer.NoOrder) then_
+  install_ends = no_order
+
+  install_ends_so : InstallEnds start None None (Ok answer.Done) then_ → ⊥
+  install_ends_so = installs_nothing
+
+  install_in_run : (e : NoMemory)
+      → InstallEnds start (Some (Encode encode)) (Some (Encode encode)) (Err e) then_
+  install_in_run e = (refl, lit< tt, inl (encode, refl, refl), refl)
+
+  install_forgets : (e : NoMemory) → InstallEnds start (Some (Encode encode)) None (Err e) then_ → ⊥
+  install_forgets e x = some_or_none (Encode encode) x.0
+
+  install_late : (e : NoMemory)
+      → InstallEnds late (Some (Encode encode)) (Some (Encode encode)) (Err e) (counted late Install)
+      → ⊥
+  install_late e x = absurd (let n : 2 ^ 40 < 2 ^ 40 = x.1 in omega (arith, n))
+
+  install_runs_none : (e : NoMemory) → InstallEnds start None None (Err e) then_ → ⊥
+  install_runs_none e x = elim x.2 [
+    | inl y ↦ some_or_none (Encode y.0) y.2
+    | inr y ↦ some_or_none (Decode y.0) y.2
+  ]
+
+  install_uncounted : (e : NoMemory)
+      → InstallEnds start (Some (Encode encode)) (Some (Encode encode)) (Err e) start → ⊥
+  install_uncounted e x = absurd (let n : 0 ≡ 1 =
+      ap (λ (f : FarState). f.counts.turns) x.3 in omega (arith, n))
+
   -- ---- what they leave
   abbrev Hands : Option Kept → Type 0
   Hands handed = HandsOrder run shows c (at start) (at then_) handed
@@ -286,14 +408,36 @@ module _ (c : Config) (accepted : IsAccepted c) where
   hands_undrawn sound x =
       let n : 5 < 0 = (x.kept (empty_shown 1 c) refl sound).drawn in omega (arith, n)
 
+  -- what a seat keeps behind them
+  abbrev Leaves : Option Kept → Option Kept → Type 0
+  Leaves order keeps = LeavesWith run shows c (at start) (at then_) order keeps
+
+  keeps_nothing : Leaves None None
+  keeps_nothing = record { leaves = leaves; kept = λ s shown sound was. tt }
+
+  keeps_undrawn : Sound (empty_shown 1 c) start → Leaves None (Some (Encode encode)) → ⊥
+  keeps_undrawn sound x =
+      let n : 5 < 0 = (x.kept (empty_shown 1 c) refl sound tt).drawn in omega (arith, n)
+
+  -- of an order that was not kept before nothing is said
+  was_undrawn : Leaves (Some (Encode encode)) (Some (Encode encode))
+  was_undrawn = record {
+    leaves = leaves;
+    kept = λ s shown sound was. absurd (let n : 5 < 0 = was.drawn in omega (arith, n));
+  }
+
+  keeps_and_forgets : Sound (empty_shown 1 c) drawn
+      → LeavesWith run shows c (at drawn) (at then_) None None → ⊥
+  keeps_and_forgets sound x = turn_forgot sound x.leaves
+
 -- ---- an order's set that has lost too many shards
-lost_set : IsSetLost (far both_down) five both_lost
+pub lost_set : IsSetLost (far both_down) five both_lost
 lost_set = record { set = set; there = there both_down; all = refl; many = lit< tt }
 
 set_found : (losses : List Loss) → (z : IsSetLost (far both_down) five losses) → set ≡ z.set
 set_found losses z = set_is z.set (sym (there both_down) ∙ z.there)
 
-tells_one_of_two : IsSetLost (far both_down) five (loss 0 1 ∷ []) → ⊥
+pub tells_one_of_two : IsSetLost (far both_down) five (loss 0 1 ∷ []) → ⊥
 tells_one_of_two z = let e : 1 ≡ 2 = ap (λ (l : List Loss). length l) z.all
     ∙ ap (λ (s : SetState). length (lost both_down s.shards)) (sym (set_found (loss 0 1 ∷ []) z))
     in absurd (omega (arith, e))

@@ -131,7 +131,7 @@ uncounted x = by x.there x.beside
         absurd (let e : NoPair ≡ Held holder = reply in cc)
     by (free lone (worn end reply equal)) beside = absurd (let e : NoPair ≡ Worn = reply in cc)
     by (free lone (done few works seats)) beside = none (same beside) (found x.mid.far works.1)
-    by (ordered keeps off alone turn seats) beside = off tt
+    by (ordered keeps off lone turn seats) beside = off tt
 
 -- ---- no memory
 -- the turn is counted, and at the most the rows of the widest pair were given out
