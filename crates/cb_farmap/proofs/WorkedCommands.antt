@@ -68,6 +68,20 @@ on_five = has_five
 not_on_six : IsOnObject wrote (jobs.Read (record { n = 6 })) → ⊥
 not_on_six on = has_not_six on
 
+-- rows are fetched for it, and landed where the record has one
+fetched_five : IsOnObject wrote (jobs.Fetch (record { n = 5 }))
+fetched_five = has_five
+
+not_fetched_six : IsOnObject wrote (jobs.Fetch (record { n = 6 })) → ⊥
+not_fetched_six on = has_not_six on
+
+landed : IsOnObject wrote jobs.Land
+landed = (5, has_five)
+
+-- not by a pass that wrote nothing
+none_to_land : IsOnObject v jobs.Land → ⊥
+none_to_land (h, (e, there, is)) = there
+
 not_a_make : IsOnObject wrote (jobs.Make []) → ⊥
 not_a_make on = on
 
@@ -93,6 +107,12 @@ not_refused = refl
 
 freed_misplaced : IsOutOfPlace (jobs.Swap (record { n = 5 })) answer.Freed
 freed_misplaced = tt
+
+pins_misplaced : IsOutOfPlace jobs.Land (answer.Pinned 1)
+pins_misplaced = tt
+
+lost_in_place : IsOutOfPlace (jobs.Fetch (record { n = 5 })) (answer.Unavailable 1 (2 ∷ [])) → ⊥
+lost_in_place is = is
 
 full_in_place : IsOutOfPlace (jobs.Make []) (answer.Full 2) → ⊥
 full_in_place is = is
