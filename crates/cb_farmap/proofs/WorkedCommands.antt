@@ -111,8 +111,8 @@ freed_misplaced = tt
 pins_misplaced : IsOutOfPlace jobs.Land (answer.Pinned 1)
 pins_misplaced = tt
 
-lost_in_place : IsOutOfPlace (jobs.Fetch (record { n = 5 })) (answer.Unavailable 1 (2 ∷ [])) → ⊥
-lost_in_place is = is
+worn_in_place : IsOutOfPlace (jobs.Fetch (record { n = 5 })) answer.Worn → ⊥
+worn_in_place is = is
 
 full_in_place : IsOutOfPlace (jobs.Make []) (answer.Full 2) → ⊥
 full_in_place is = is
@@ -173,6 +173,34 @@ no_answer t x = by (tries_again x.turn) (subst (λ (j : Job). IsAnswerTo (tries_
     by : (again : Bool) → IsAnswerTo again (jobs.Make blank) answer.Moving → ⊥
     by again (inl z) = z
     by again (inr z) = z
+
+-- a turn that was made for the object that the record wrote, and told so
+abbrev behind : Turn → Job → Reply → Turn
+behind t j r = record t { job = j; reply = Some r }
+
+-- a landing that is told that the count of turns is at its end
+told_worn : (t : Turn) → IsToldByTurn fresh (command.Get 0) answer.Worn wrote
+    (behind t jobs.Land answer.Worn ∷ [])
+told_worn t = record {
+  turn = behind t jobs.Land answer.Worn;
+  before = [];
+  newest = refl;
+  reply_is = refl;
+  job_is = inr landed;
+  answers = tt;
+  lacks = λ x. x;
+}
+
+-- a fetch that found the row at hand does not answer the call
+told_direct : (t : Turn) → IsToldByTurn fresh (command.Get 0) answer.Direct wrote
+    (behind t (jobs.Fetch (record { n = 5 })) answer.Direct ∷ []) → ⊥
+told_direct t x = subst (λ (j : Job). IsAnswerTo (tries_again x.turn) j answer.Direct) (sym same)
+    x.answers
+  where
+    same : jobs.Fetch (record { n = 5 }) ≡ x.turn.job
+    same = let e = x.newest in
+        let h : behind t (jobs.Fetch (record { n = 5 })) answer.Direct ≡ x.turn = cc in
+        ap (λ (t : Turn). t.job) h
 
 -- or that the object was made
 told_made : (t : Turn) → IsToldByTurn fresh (command.Push 7) one v (making t one ∷ []) → ⊥
