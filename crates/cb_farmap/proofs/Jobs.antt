@@ -1,5 +1,5 @@
--- The jobs by which a read and a write bring a far object in, and by which of them a call is answered.
-use Rattle.std.proofs.Common.{◌⊎◌, ℕ, Bool, List, Ok, inl, inr, sym, subst}
+-- The jobs by which a read and a write bring a far object in, and by which of them each is answered.
+use Rattle.std.proofs.Common.{ℕ, Bool, List, inl, inr, sym, subst}
 use Rattle.cb_types.specs.declared.config.Config.{Config}
 use Rattle.cb_types.specs.declared.job.Job.{Job}
 use Rattle.cb_types.specs.declared.job.Job.TheVariants as jobs

@@ -34,8 +34,8 @@ IsMake other = ⊥
 abbrev pub HasWritten : View → ℕ → Type 0
 HasWritten v h = (e : Entry) × Has e v.written × (e.handle ≡ h)
 
--- A job that brings in an object of the record, and reads or writes it. A row that is landed was made
--- of those that were fetched for such an object: the job itself names none.
+-- A job that brings in an object of the record, and reads or writes it. A row that is landed was
+-- made of those that were fetched for such an object: the job itself names none.
 abbrev pub IsOnObject : View → Job → Type 0
 IsOnObject v (jobs.Swap handle) = HasWritten v handle.n
 IsOnObject v (jobs.Fetch handle) = HasWritten v handle.n
