@@ -100,6 +100,7 @@ takes = record {
   unavailable = record {
     only = λ id losses e. let f : 27 ≡ 22 = ap kind_of e in absurd (omega (arith, f));
     each = λ h id losses e. let f : None ≡ Some h = e in cc;
+    landed = λ id losses made z. absurd z;
   };
 }
 
