@@ -171,7 +171,25 @@ fn deal_on(
     Some(parts)
 }
 
-/// What each thread is given on one object, whose batch is leaving where they wait for it.
+/// Lets the batch begin to leave for whose object threads wait.
+fn prepare<R: Wait>(
+    rt: &R,
+    alloc: Global,
+    shared: &Shared,
+    first: &mut Pass,
+    h: Handle,
+    deed: Deed,
+) -> bool
+    requires caller { IsCaller shared.now h first.old }
+    ensures caller { IsCaller shared.now h first.new }
+{
+    match deed {
+        Deed::Await => turn(rt, alloc, shared, first, h, &Job::Begin),
+        _ => true,
+    }
+}
+
+/// What each thread is given where they work on one object.
 fn deal_together<R: Wait>(
     rt: &R,
     alloc: Global,
@@ -185,10 +203,13 @@ fn deal_together<R: Wait>(
         All (λ x. IsCaller shared.now x.handle x.pass) v.items) }
 {
     match object(rt, alloc, shared, first, deed) {
-        Some(h) => match deed {
-            Deed::Await if !turn(rt, alloc, shared, first, h, &Job::Begin) => None,
-            _ => deal_on(alloc, shared, first, h, deed, threads),
-        },
+        Some(h) => {
+            if prepare(rt, alloc, shared, first, h, deed) {
+                deal_on(alloc, shared, first, h, deed, threads)
+            } else {
+                None
+            }
+        }
         None => None,
     }
 }

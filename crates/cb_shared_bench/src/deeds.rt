@@ -5,7 +5,8 @@
 pub(crate) enum Round {
     /// A batch begins to leave with its parities, and is given up.
     Begin,
-    /// It begins to leave without them, gets them of an order that is run under no lock, and is given up.
+    /// It begins to leave without them, gets them of an order that is run under no lock, and is
+    /// given up.
     Gather,
     /// Spans leave, lose their shards and come in by swaps.
     Swap,
@@ -98,8 +99,8 @@ pub(crate) fn deed_of(word: &str) -> Option<Deed> {
 }
 
 /// How many calls a slice has: some milliseconds of them, in which the start of a thread is little.
-/// Those of a peek are in rounds over the words of an object. Of rounds, and of turns beside them, a
-/// slice has as many as there is time for; its time is told as that of so many.
+/// Those of a peek are in rounds over the words of an object. Of rounds, and of turns beside them,
+/// a slice has as many as there is time for; its time is told as that of so many.
 pub(crate) fn calls_of(deed: Deed) -> u32 {
     match deed {
         Deed::Pin | Deed::Look | Deed::WriteShort | Deed::Write => 200_000,

@@ -179,7 +179,9 @@ fn time_job<R: Clock + Wait>(
 
 /// The node of this number.
 fn node(n: u32) -> NodeId {
-    NodeId { n: n as u8 }
+    NodeId {
+        n: u8::try_from(n).unwrap_or(u8::MAX),
+    }
 }
 
 /// The first object of a span.
@@ -189,8 +191,8 @@ fn first_in(span: u32) -> Handle {
     }
 }
 
-/// The job at a place of a round in which all spans leave, the first r of them lose their shards and
-/// come in, by swaps or by orders, and then the others come in.
+/// The job at a place of a round in which all spans leave, the first r of them lose their shards
+/// and come in, by swaps or by orders, and then the others come in.
 fn reading_at(round: Round, r: u32, place: u32) -> Job {
     let n = place.saturating_sub(1);
     if place == 0 {

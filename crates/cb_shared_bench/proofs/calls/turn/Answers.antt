@@ -9,11 +9,11 @@ turn-reply-requires-clause-job g c = (plain_may c.args.shared.now.config
 
 pub turn-reply-requires-clause-alone : goal.turn-reply-requires-clause-alone
 turn-reply-requires-clause-alone g c = (plain_may c.args.shared.now.config
-    (record_of c.args.pass.now) c.args.job.now c.requires.plain).1.0
+    (record_of c.args.pass.now) c.args.job.now c.requires.plain).1
 
 pub turn-reply-requires-clause-knows : goal.turn-reply-requires-clause-knows
 turn-reply-requires-clause-knows g c = (plain_may c.args.shared.now.config
-    (record_of c.args.pass.now) c.args.job.now c.requires.plain).1.1
+    (record_of c.args.pass.now) c.args.job.now c.requires.plain).2
 
 pub returns : goal.returns
 returns g c = record {
