@@ -4,7 +4,8 @@ use Rattle.cb_member.specs.declared.no_memory.NoMemory.{NoMemory}
 use Rattle.cb_types.specs.declared.config.Config.{Config}
 use Rattle.cb_types.specs.declared.handle.Handle.{Handle}
 use Rattle.cb_types.specs.declared.job.Job.{Job}
-use Rattle.cb_types.specs.declared.job.Job.TheVariants.{Abort, Begin, Crash, Evict, Join, Part, Rebuild, Swap}
+use Rattle.cb_types.specs.declared.job.Job.TheVariants.{Abort, Begin, Crash, Evict, Join, Part}
+use Rattle.cb_types.specs.declared.job.Job.TheVariants.{Rebuild, Swap}
 use Rattle.cb_types.specs.declared.reply.Reply.{Reply}
 use Rattle.cb_types.specs.declared.reply.Reply.TheVariants.{Made}
 use Rattle.cb_world.specs.World.{WorldState, IsSoundWorld}

@@ -2,15 +2,16 @@
 //! `peek`, `write8`, `write1024`, `read`, `far`, `turn`, `stepread` and `stepfar` for the same
 //! reads in a still world, for `bench/waiting` `waiting`, reads of an object whose batch is
 //! leaving, and is given up only after 100 milliseconds, and for `bench/farmap` `write`, `get`,
-//! `set`, `push`, `pop`, `maplook` and `mapput`), how many threads make these calls (of an array and
-//! of a map one), and how many slices are timed. It prints the least time of a call in picoseconds,
-//! over that many slices, or 0 where no slice is asked for.
+//! `set`, `push`, `pop`, `maplook` and `mapput`), how many threads make these calls (of an array
+//! and of a map one), and how many slices are timed. It prints the least time of a call in
+//! picoseconds, over that many slices, or 0 where no slice is asked for.
 //!
-//! `begin`, `gather`, `swap` and `fetch` are rounds of turns on one thread, of which those turns are
-//! timed that have coding work in them, or leave it to be done under no lock: a batch that begins to
-//! leave, and as many far reads as a set has parities, each of an object whose shard is lost. With
-//! `beside` before them they are turns that find nothing to do, beside a thread that makes these
-//! rounds. A fourth word is how many data positions a set has; it has as many parities, at most four.
+//! `begin`, `gather`, `swap` and `fetch` are rounds of turns on one thread. Those of its turns are
+//! timed that have coding work in them, or leave it to be done under no lock: a batch that begins
+//! to leave, and as many far reads as a set has parities, each of an object whose shard is lost.
+//! With `beside` before them they are turns that find nothing to do, beside a thread that makes
+//! these rounds. A fourth word is how many data positions a set has; it has as many parities, at
+//! most four.
 #![tactic(auto)]
 
 mod calls;
@@ -34,6 +35,7 @@ use std::{env, io};
 
 /// The most threads, and the most data positions.
 const MOST_THREADS: u32 = 16;
+
 const MOST_POSITIONS: u32 = 16;
 
 /// The time of one slice in nanoseconds; None where a call was refused.

@@ -21,6 +21,7 @@ use std::time::Clock;
 /// How long a slice takes, in nanoseconds. A thread that makes rounds beside the one that is timed
 /// goes on a little longer.
 const WINDOW: u64 = 50_000_000;
+
 const LONGER: u64 = 55_000_000;
 
 /// More turns than a slice has.
