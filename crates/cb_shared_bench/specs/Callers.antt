@@ -1,10 +1,11 @@
 -- What the benchmark works with.
-use Rattle.std.specs.Prelude.{◌≡◌, ℕ, Result, Ok}
+use Rattle.std.specs.Prelude.{◌≡◌, ℕ, ◌<◌, Result, Ok}
 use Rattle.cb_member.specs.declared.no_memory.NoMemory.{NoMemory}
 use Rattle.cb_types.specs.declared.config.Config.{Config}
 use Rattle.cb_types.specs.declared.handle.Handle.{Handle}
 use Rattle.cb_types.specs.declared.job.Job.{Job}
-use Rattle.cb_types.specs.declared.job.Job.TheVariants.{Abort, Begin, Evict, Rebuild}
+use Rattle.cb_types.specs.declared.job.Job.TheVariants.{Abort, Begin, Crash, Evict, Join, Part}
+use Rattle.cb_types.specs.declared.job.Job.TheVariants.{Rebuild, Swap}
 use Rattle.cb_types.specs.declared.reply.Reply.{Reply}
 use Rattle.cb_types.specs.declared.reply.Reply.TheVariants.{Made}
 use Rattle.cb_world.specs.World.{WorldState, IsSoundWorld}
@@ -30,13 +31,18 @@ IfPinned other P = Unit {0}
 abbrev pub IsToldMade : Result Reply NoMemory → Handle → Type 0
 IsToldMade r h = (version : ℕ) × (r ≡ Ok (Made h version))
 
--- the job is about no object
-abbrev pub IsPlain : Job → Type 0
-IsPlain Abort = Unit {0}
-IsPlain Begin = Unit {0}
-IsPlain Evict = Unit {0}
-IsPlain Rebuild = Unit {0}
-IsPlain other = ⊥
+-- the job needs no object that the pass knows: it is about none, about the span of one, or about a
+-- node
+abbrev pub IsPlain : Config → Job → Type 0
+IsPlain c Abort = Unit {0}
+IsPlain c Begin = Unit {0}
+IsPlain c Evict = Unit {0}
+IsPlain c Part = Unit {0}
+IsPlain c Rebuild = Unit {0}
+IsPlain c (Swap handle) = handle.n < c.handles
+IsPlain c (Crash node) = node.n < c.nodes
+IsPlain c (Join node) = node.n < c.nodes
+IsPlain c other = ⊥
 
 -- the settings of a still world
 abbrev pub the_config : Config

@@ -8,6 +8,7 @@ ghost use Rattle.cb_shared_bench.specs.Callers.{IfPinned, IsCaller, IsPlain};
 use crate::deeds::{Deed, calls_of};
 use crate::objects::{BYTES, WORDS};
 use crate::replies::is_right;
+use crate::rounds::time_window;
 use crate::timing::{hold, now, since};
 use cb_shared::{Pass, Pin, PinAnswer, Shared, WriteAnswer};
 use cb_types::{Handle, Job};
@@ -114,7 +115,7 @@ fn write_again<R: Wait>(
     is_right(&reply)
 }
 
-/// A turn that is about no object.
+/// A turn of a job that the pass needs to know no object for.
 pub(crate) fn turn<R: Wait>(
     rt: &R,
     alloc: Global,
@@ -124,7 +125,7 @@ pub(crate) fn turn<R: Wait>(
     job: &Job,
 ) -> bool
     requires caller { IsCaller shared.now h pass.old }
-    requires plain { IsPlain job.now }
+    requires plain { IsPlain shared.now.config job.now }
     ensures caller { IsCaller shared.now h pass.new }
 {
     let _h = h;
@@ -280,6 +281,9 @@ pub(crate) fn time<R: Clock + Wait>(
         Deed::Peek => time_peeks(rt, shared, pass, h),
         Deed::ReadFar => time_far_reads(rt, alloc, shared, pass, h),
         Deed::Hold => time_hold(rt, alloc, shared, pass, h),
+        Deed::Alone(_) | Deed::Rounds(_) | Deed::Idle => {
+            time_window(rt, alloc, shared, pass, h, deed)
+        }
         _ => time_calls(rt, alloc, shared, pass, h, deed, &[seed; BYTES]),
     }
 }

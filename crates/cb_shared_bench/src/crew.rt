@@ -1,11 +1,11 @@
-//! Threads that make the calls of a slice at once, each on an object of its own, or that wait for
-//! one object of a batch that is leaving.
+//! Threads that make the calls of a slice at once, each on an object of its own, or on one object:
+//! they wait for it while its batch is leaving, or make turns while it leaves and comes back.
 ghost use Rattle.std.specs.Prelude.{◌<◌, All, IfSome};
 ghost use Rattle.cb_shared.specs.Passes.{IsPassOf};
 ghost use Rattle.cb_shared_bench.specs.Callers.{IsCaller};
 
 use crate::calls::{time, turn};
-use crate::deeds::Deed;
+use crate::deeds::{Deed, deed_at, threads_of};
 use crate::objects::{begun, object};
 use cb_shared::{Pass, Shared};
 use cb_types::{Handle, Job};
@@ -149,12 +149,13 @@ fn deal_same(
     }
 }
 
-/// What so many threads are given on one object: the first holds its batch, and the others wait.
+/// What the threads are given that work on one object.
 fn deal_on(
     alloc: Global,
     shared: &Shared,
     first: &mut Pass,
     h: Handle,
+    deed: Deed,
     threads: u32,
 ) -> Option<Vec<Part>>
     requires caller { IsCaller shared.now h first.old }
@@ -162,35 +163,49 @@ fn deal_on(
         All (λ x. IsCaller shared.now x.handle x.pass) v.items) }
 {
     let mut parts = Vec::new(alloc);
-    for thread in 0..threads {
-        let deed = match thread {
-            0 => Deed::Hold,
-            _ => Deed::Await,
-        };
-        if !deal_same(shared, first, h, deed, &mut parts) {
+    for thread in 0..threads_of(deed, threads) {
+        if !deal_same(shared, first, h, deed_at(deed, thread), &mut parts) {
             return None;
         }
     }
     Some(parts)
 }
 
-/// What each thread is given where a batch is leaving: one holds it, and so many wait for its
-/// object.
-fn deal_waiting<R: Wait>(
+/// Lets the batch begin to leave for whose object threads wait.
+fn prepare<R: Wait>(
     rt: &R,
     alloc: Global,
     shared: &Shared,
     first: &mut Pass,
+    h: Handle,
+    deed: Deed,
+) -> bool
+    requires caller { IsCaller shared.now h first.old }
+    ensures caller { IsCaller shared.now h first.new }
+{
+    match deed {
+        Deed::Await => turn(rt, alloc, shared, first, h, &Job::Begin),
+        _ => true,
+    }
+}
+
+/// What each thread is given where they work on one object.
+fn deal_together<R: Wait>(
+    rt: &R,
+    alloc: Global,
+    shared: &Shared,
+    first: &mut Pass,
+    deed: Deed,
     threads: u32,
 ) -> Option<Vec<Part>>
     requires of { IsPassOf shared.now first.old }
     ensures callers { IfSome result (λ v.
         All (λ x. IsCaller shared.now x.handle x.pass) v.items) }
 {
-    match object(rt, alloc, shared, first, Deed::Await) {
+    match object(rt, alloc, shared, first, deed) {
         Some(h) => {
-            if turn(rt, alloc, shared, first, h, &Job::Begin) {
-                deal_on(alloc, shared, first, h, threads.saturating_add(1))
+            if prepare(rt, alloc, shared, first, h, deed) {
+                deal_on(alloc, shared, first, h, deed, threads)
             } else {
                 None
             }
@@ -213,7 +228,9 @@ fn deal_for<R: Wait>(
         All (λ x. IsCaller shared.now x.handle x.pass) v.items) }
 {
     match deed {
-        Deed::Await => deal_waiting(rt, alloc, shared, first, threads),
+        Deed::Await | Deed::Alone(_) | Deed::Beside(_) => {
+            deal_together(rt, alloc, shared, first, deed, threads)
+        }
         _ => deal(rt, alloc, shared, first, deed, threads),
     }
 }
@@ -275,14 +292,16 @@ fn run<R: Clock + Threads + Wait + Sync>(
     longest(times.as_slice())
 }
 
-/// The time of the slowest thread of a slice in nanoseconds, in a runtime of its own.
+/// The time of the slowest thread of a slice in nanoseconds, in a runtime of its own with so many
+/// data positions.
 pub(crate) fn slice<R: Clock + Threads + Wait + Sync>(
     rt: &R,
     alloc: Global,
     deed: Deed,
     threads: u32,
+    k: u32,
 ) -> Option<u64> {
-    match begun(alloc) {
+    match begun(alloc, k) {
         Ok((shared, mut first)) => run(rt, alloc, &shared, &mut first, deed, threads),
         Err(_) => None,
     }

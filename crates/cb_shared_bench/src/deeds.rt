@@ -1,5 +1,19 @@
 //! What is timed.
 
+/// Turns that are made one after another, again and again, with coding work in them.
+#[derive(Clone, Copy)]
+pub(crate) enum Round {
+    /// A batch begins to leave with its parities, and is given up.
+    Begin,
+    /// It begins to leave without them, gets them of an order that is run under no lock, and is
+    /// given up.
+    Gather,
+    /// Spans leave, lose their shards and come in by swaps.
+    Swap,
+    /// They come in by orders that are run under no lock.
+    Fetch,
+}
+
 /// What is timed.
 #[derive(Clone, Copy)]
 pub(crate) enum Deed {
@@ -37,6 +51,14 @@ pub(crate) enum Deed {
     MapLook,
     /// A number in the place of the one that a key has there.
     MapPut,
+    /// The turns of a round whose coding work is timed, on a thread alone.
+    Alone(Round),
+    /// Turns that find nothing to do, beside a thread that makes rounds.
+    Beside(Round),
+    /// The rounds of the one thread there.
+    Rounds(Round),
+    /// The turns of the other.
+    Idle,
     /// A read in a still world of an object that is here.
     StepRead,
     /// A read in a still world of an object that is far.
@@ -62,6 +84,14 @@ pub(crate) fn deed_of(word: &str) -> Option<Deed> {
         "pop" => Some(Deed::Pop),
         "maplook" => Some(Deed::MapLook),
         "mapput" => Some(Deed::MapPut),
+        "begin" => Some(Deed::Alone(Round::Begin)),
+        "gather" => Some(Deed::Alone(Round::Gather)),
+        "swap" => Some(Deed::Alone(Round::Swap)),
+        "fetch" => Some(Deed::Alone(Round::Fetch)),
+        "besidebegin" => Some(Deed::Beside(Round::Begin)),
+        "besidegather" => Some(Deed::Beside(Round::Gather)),
+        "besideswap" => Some(Deed::Beside(Round::Swap)),
+        "besidefetch" => Some(Deed::Beside(Round::Fetch)),
         "stepread" => Some(Deed::StepRead),
         "stepfar" => Some(Deed::StepFar),
         _ => None,
@@ -69,7 +99,8 @@ pub(crate) fn deed_of(word: &str) -> Option<Deed> {
 }
 
 /// How many calls a slice has: some milliseconds of them, in which the start of a thread is little.
-/// Those of a peek are in rounds over the words of an object.
+/// Those of a peek are in rounds over the words of an object. Of rounds, and of turns beside them,
+/// a slice has as many as there is time for; its time is told as that of so many.
 pub(crate) fn calls_of(deed: Deed) -> u32 {
     match deed {
         Deed::Pin | Deed::Look | Deed::WriteShort | Deed::Write => 200_000,
@@ -78,6 +109,27 @@ pub(crate) fn calls_of(deed: Deed) -> u32 {
         Deed::WriteLong => 10_000,
         Deed::Read | Deed::StepRead | Deed::Turn => 40_000,
         Deed::ReadFar | Deed::StepFar => 500,
+        Deed::Alone(_) | Deed::Beside(_) | Deed::Rounds(_) | Deed::Idle => 1_000,
         Deed::Await | Deed::Hold => 1,
+    }
+}
+
+/// What the threads do that work on one object, the first one and the others: one holds a batch for
+/// which the others wait, or makes rounds beside which they make turns.
+pub(crate) fn deed_at(deed: Deed, thread: u32) -> Deed {
+    match deed {
+        Deed::Await if thread == 0 => Deed::Hold,
+        Deed::Beside(round) if thread == 0 => Deed::Rounds(round),
+        Deed::Beside(_) => Deed::Idle,
+        _ => deed,
+    }
+}
+
+/// How many threads work on one object.
+pub(crate) fn threads_of(deed: Deed, threads: u32) -> u32 {
+    match deed {
+        Deed::Await => threads.saturating_add(1),
+        Deed::Beside(_) => 2,
+        _ => 1,
     }
 }

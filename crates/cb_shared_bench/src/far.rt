@@ -225,7 +225,7 @@ fn slice_of_map<R: Clock + Wait>(
 
 /// The time of a slice in nanoseconds, in a runtime of its own.
 pub(crate) fn slice<R: Clock + Wait>(rt: &R, alloc: Global, deed: Deed) -> Option<u64> {
-    match begun(alloc) {
+    match begun(alloc, 1) {
         Ok((shared, mut first)) => match deed {
             Deed::MapLook | Deed::MapPut => slice_of_map(rt, alloc, &shared, &mut first, deed),
             _ => slice_of_array(rt, alloc, &shared, &mut first, deed),

@@ -2,9 +2,16 @@
 //! `peek`, `write8`, `write1024`, `read`, `far`, `turn`, `stepread` and `stepfar` for the same
 //! reads in a still world, for `bench/waiting` `waiting`, reads of an object whose batch is
 //! leaving, and is given up only after 100 milliseconds, and for `bench/farmap` `write`, `get`,
-//! `set`, `push`, `pop`, `maplook` and `mapput`), how many threads make these calls (of an array and
-//! of a map one), and how many slices are timed. It prints the least time of a call in picoseconds, over that many
-//! slices, or 0 where no slice is asked for.
+//! `set`, `push`, `pop`, `maplook` and `mapput`), how many threads make these calls (of an array
+//! and of a map one), and how many slices are timed. It prints the least time of a call in
+//! picoseconds, over that many slices, or 0 where no slice is asked for.
+//!
+//! `begin`, `gather`, `swap` and `fetch` are rounds of turns on one thread. Those of its turns are
+//! timed that have coding work in them, or leave it to be done under no lock: a batch that begins
+//! to leave, and as many far reads as a set has parities, each of an object whose shard is lost.
+//! With `beside` before them they are turns that find nothing to do, beside a thread that makes
+//! these rounds. A fourth word is how many data positions a set has; it has as many parities, at
+//! most four.
 #![tactic(auto)]
 
 mod calls;
@@ -13,6 +20,7 @@ mod deeds;
 mod far;
 mod objects;
 mod replies;
+mod rounds;
 mod still;
 mod timing;
 
@@ -25,8 +33,10 @@ use std::thread::Threads;
 use std::time::Clock;
 use std::{env, io};
 
-/// The most threads.
+/// The most threads, and the most data positions.
 const MOST_THREADS: u32 = 16;
+
+const MOST_POSITIONS: u32 = 16;
 
 /// The time of one slice in nanoseconds; None where a call was refused.
 fn slice<R: Clock + Threads + Wait + Sync>(
@@ -34,6 +44,7 @@ fn slice<R: Clock + Threads + Wait + Sync>(
     alloc: Global,
     deed: Deed,
     threads: u32,
+    k: u32,
 ) -> Option<u64> {
     match deed {
         Deed::StepRead => still::slice(rt, alloc, calls_of(deed), false),
@@ -41,7 +52,7 @@ fn slice<R: Clock + Threads + Wait + Sync>(
         Deed::Get | Deed::Set | Deed::Push | Deed::Pop | Deed::MapLook | Deed::MapPut => {
             far::slice(rt, alloc, deed)
         }
-        _ => crew::slice(rt, alloc, deed, threads),
+        _ => crew::slice(rt, alloc, deed, threads, k),
     }
 }
 
@@ -52,13 +63,14 @@ fn least<R: Clock + Threads + Wait + Sync>(
     deed: Deed,
     threads: u32,
     slices: u32,
+    k: u32,
 ) -> Option<u64> {
     if slices == 0 {
         return Some(0);
     }
     let mut least = u64::MAX;
     for _ in 0..slices {
-        least = least.min(slice(rt, alloc, deed, threads)?);
+        least = least.min(slice(rt, alloc, deed, threads, k)?);
     }
     Some(least.saturating_mul(1000) / u64::from(calls_of(deed).max(1)))
 }
@@ -78,10 +90,11 @@ fn main(rt: HostRuntime) -> io::Result<ExitCode> {
     };
     let threads = number_at(&rt, 2)?.clamp(1, MOST_THREADS);
     let slices = number_at(&rt, 3)?;
+    let k = number_at(&rt, 4)?.clamp(1, MOST_POSITIONS);
     let Some(deed) = deed else {
         return Ok(ExitCode::FAILURE);
     };
-    match least(&rt, rt.alloc(), deed, threads, slices) {
+    match least(&rt, rt.alloc(), deed, threads, slices, k) {
         Some(least) => {
             println!(rt; "{least}")?;
             Ok(ExitCode::SUCCESS)

@@ -9,7 +9,7 @@ use cb_types::{Config, Handle, NoMemory, Reply};
 use std::alloc::Global;
 use std::sync::Wait;
 
-/// One data position, so that one span leaves alone.
+/// One data position, so that one span leaves alone. Rounds are made with more.
 pub(crate) const CONFIG: Config = Config {
     k: 1,
     r: 1,
@@ -26,18 +26,37 @@ pub(crate) const BYTES: usize = 1024;
 /// The words of each object.
 pub(crate) const WORDS: u32 = 128;
 
+/// How many objects a span has.
+pub(crate) const SLOTS: u32 = 4;
+
 /// How many objects are made before the one that is used, so that the words of those of different
 /// threads stand on different cache lines.
 const APART: u32 = 31;
 
-/// A runtime in which nothing was made, and its first pass.
-pub(crate) fn begun(alloc: Global) -> Result<(Shared, Pass), NoMemory>
+/// The settings with so many data positions: with as many parities, at most four, and as many nodes
+/// as a set has positions, so that each node that crashes has a shard of it.
+fn config_of(k: u32) -> Config {
+    let r = k.min(4);
+    Config {
+        k,
+        r,
+        nodes: k.saturating_add(r).max(CONFIG.nodes),
+        frames: CONFIG.frames,
+        room: CONFIG.room,
+        handles: CONFIG.handles,
+        turns: CONFIG.turns,
+    }
+}
+
+/// A runtime with so many data positions in which nothing was made, and its first pass.
+pub(crate) fn begun(alloc: Global, k: u32) -> Result<(Shared, Pass), NoMemory>
     ensures of { IfOk result (λ r. IsPassOf r.0 r.1) }
 {
-    let Ok(()) = CONFIG.check() else {
+    let config = config_of(k);
+    let Ok(()) = config.check() else {
         return Err(NoMemory);
     };
-    Shared::new(alloc, CONFIG)
+    Shared::new(alloc, config)
 }
 
 /// The handle that a reply tells of as made.
@@ -67,7 +86,17 @@ fn make<R: Wait>(
     made_in(&reply)
 }
 
-/// Makes an object for a thread. One that is to leave is the only one.
+/// How many objects are made before the one that is used. One that is to leave is the only one; for
+/// rounds there are as many as k spans have.
+fn apart_of(deed: Deed, k: u32) -> u32 {
+    match deed {
+        Deed::ReadFar | Deed::Await => 0,
+        Deed::Alone(_) | Deed::Beside(_) => k.saturating_mul(SLOTS).saturating_sub(1),
+        _ => APART,
+    }
+}
+
+/// Makes an object for a thread, behind others.
 pub(crate) fn object<R: Wait>(
     rt: &R,
     alloc: Global,
@@ -80,11 +109,7 @@ pub(crate) fn object<R: Wait>(
     ensures caller { IfSome result (λ h. IsCaller shared.now h pass.new) }
 {
     let bytes = [1u8; BYTES];
-    let apart = match deed {
-        Deed::ReadFar | Deed::Await => 0,
-        _ => APART,
-    };
-    for _ in 0..apart {
+    for _ in 0..apart_of(deed, shared.config().k) {
         make(rt, alloc, shared, pass, &bytes)?;
     }
     make(rt, alloc, shared, pass, &bytes)

@@ -21,3 +21,8 @@ pub(crate) fn since<R: Clock>(rt: &R, start: Instant) -> Option<u64> {
         Err(_) => None,
     }
 }
+
+/// The nanoseconds since then, and those before.
+pub(crate) fn more<R: Clock>(rt: &R, before: Option<u64>, start: Option<Instant>) -> Option<u64> {
+    Some(before?.saturating_add(since(rt, start?)?))
+}
