@@ -36,7 +36,7 @@ use Rattle.cb_rule.specs.Promised.{EntriesStand, EntryGoesOn, Wrote}
 use Rattle.cb_rule.proofs.Laws.{by_case, claimed_written, far_written, times_has}
 use Rattle.cb_record.specs.Backs.{Backs, EntersAt, Tells, WroteLines}
 use Rattle.cb_record.specs.Lists.{HasOne}
-use Rattle.cb_record.specs.Needs.{IsJobFor, IsLastOf, IsOwnTurn, IsTurnFor, MayBringIn, Meets}
+use Rattle.cb_record.specs.Needs.{IsJobFor, IsLastOf, IsTurnFor, MayBringIn, Meets}
 use Rattle.cb_record.specs.Needs.{need_of, own_job, the_object}
 use Rattle.cb_record.specs.Needs.Need.{AWorn}
 use Rattle.cb_record.specs.Told.{Told, tolds}
@@ -302,26 +302,32 @@ module _ (c : Config) (v : View) (w : WorldState) (closed : IsClosed Did 1 c v w
     freed_worn h asked told = ends h (free_last c t.start t.acts t.took t.gave
         (one.sound t made).sound claims h (did _ asked told tt))
 
-  -- a write found it in place, or by a turn of its own
+  -- a write or a free told so by a turn for it
+  told_by : (h : ℕ) (own : Job)
+      → ((t : Turn) → Has t v.turns → t.job ≡ own → t.reply ≡ Some answer.Worn → 2 ^ 40 ≤ count)
+      → HasOne (IsTurnFor (Some own) (Some h) answer.Worn) v.turns → 2 ^ 40 ≤ count
+  told_by h own its x = by z.2.1
+    where
+      z : (t : Turn) × Has t v.turns × IsTurnFor (Some own) (Some h) answer.Worn t
+      z = find_for (Some own) (Some h) answer.Worn v.turns x
+
+      by : IsJobFor (Some own) (Some h) z.0.job → 2 ^ 40 ≤ count
+      by (inl same) = its z.0 z.1 (sym (same_Some _ _ same)) z.2.0
+      by (inr brings) = unwriting z.0 z.1 (brought_none h z.0.job brings) z.2.0
+
+  -- a write may have found it in place
   write_line : (h at : ℕ) (bytes : List ℕ)
       → Meets (as_part v) (AWorn (Some (job.Write (the_object h) at bytes)) h) → 2 ^ 40 ≤ count
   write_line h at bytes (inl x) = let z = one_there (IsLastOf h) v.seen x in
       absurd (unread h z.0 z.1 z.2)
-  write_line h at bytes (inr x) =
-      let z = one_there (IsOwnTurn (Some (job.Write (the_object h) at bytes)) answer.Worn) v.turns x in
-      wrote_worn z.0 z.1 h at bytes (sym (same_Some _ _ z.2.1)) z.2.0
+  write_line h at bytes (inr x) = told_by h (job.Write (the_object h) at bytes)
+      (λ t there. wrote_worn t there h at bytes) x
 
   free_line : (h : ℕ)
       → HasOne (IsTurnFor (Some (job.Free (the_object h))) (Some h) answer.Worn) v.turns
       → 2 ^ 40 ≤ count
-  free_line h x = by z.2.1
-    where
-      z : (t : Turn) × Has t v.turns × IsTurnFor (Some (job.Free (the_object h))) (Some h) answer.Worn t
-      z = find_for (Some (job.Free (the_object h))) (Some h) answer.Worn v.turns x
-
-      by : IsJobFor (Some (job.Free (the_object h))) (Some h) z.0.job → 2 ^ 40 ≤ count
-      by (inl own) = freed_worn z.0 z.1 h (sym (same_Some _ _ own)) z.2.0
-      by (inr brings) = unwriting z.0 z.1 (brought_none h z.0.job brings) z.2.0
+  free_line h x =
+      told_by h (job.Free (the_object h)) (λ t there. freed_worn t there h) x
 
   worn_line : (h : Option ℕ) (q : Request) → RunsIn q → IsReplyOf q answer.Worn
       → Meets (as_part v) (need_of h q answer.Worn) → 2 ^ 40 ≤ count

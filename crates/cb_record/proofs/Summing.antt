@@ -55,7 +55,7 @@ meets_earlier d e (AnEnd own h at count len) (inr m) =
     inr (has_one_right (IsOwnTurn own (answer.Range len)) e.turns d.turns m)
 meets_earlier d e (AWorn own h) (inl m) = inl (has_one_right (IsLastOf h) e.seen d.seen m)
 meets_earlier d e (AWorn own h) (inr m) =
-    inr (has_one_right (IsOwnTurn own answer.Worn) e.turns d.turns m)
+    inr (has_one_right (IsTurnFor own (Some h) answer.Worn) e.turns d.turns m)
 meets_earlier d e (ATurn own h reply) m = has_one_right (IsTurnFor own h reply) e.turns d.turns m
 
 -- and what the later one has
@@ -82,7 +82,7 @@ meets_later d e (AnEnd own h at count len) (inr m) =
     inr (has_one_left (IsOwnTurn own (answer.Range len)) e.turns d.turns m)
 meets_later d e (AWorn own h) (inl m) = inl (has_one_left (IsLastOf h) e.seen d.seen m)
 meets_later d e (AWorn own h) (inr m) =
-    inr (has_one_left (IsOwnTurn own answer.Worn) e.turns d.turns m)
+    inr (has_one_left (IsTurnFor own (Some h) answer.Worn) e.turns d.turns m)
 meets_later d e (ATurn own h reply) m = has_one_left (IsTurnFor own h reply) e.turns d.turns m
 
 abbrev pub happenings : List Turn → List Deed

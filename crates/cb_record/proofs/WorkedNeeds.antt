@@ -12,7 +12,7 @@ use Rattle.cb_world.specs.Memory.{bytes_in}
 use Rattle.cb_rule.specs.declared.turn.Turn.{Turn}
 use Rattle.cb_rule.specs.declared.view.Look.{Look}
 use Rattle.cb_rule.specs.declared.view.Seen.{Seen}
-use Rattle.cb_record.specs.Needs.{ArePeeked, FindsEmpty, FindsPast, FindsPins, IsFreedAs, IsLastOf, IsOwnTurn, IsPinnedAs, IsReadAs, IsTurnFor, Meets, need_of, peek_at, the_object}
+use Rattle.cb_record.specs.Needs.{ArePeeked, FindsEmpty, FindsPast, FindsPins, IsFreedAs, IsJobFor, IsLastOf, IsOwnTurn, IsPinnedAs, IsReadAs, IsTurnFor, Meets, need_of, peek_at, the_object}
 use Rattle.cb_record.specs.Needs.Need.{Nothing, ARead, APin, APeek, AFreed, APinned, AnEnd, AWorn, ATurn}
 use Rattle.cb_record.specs.Parts.{nothing_more}
 use Rattle.cb_record.proofs.Replied.{same_bytes}
@@ -279,15 +279,29 @@ module _ (t : Turn) where
   }) (AnEnd (Some (job.Write (the_object 3) 2 (1 ∷ []))) 3 2 1 2)
   end_told = inr (inl (refl, refl))
 
-  -- and so is wear
+  -- and wear by one that brings its object in as well
   worn_told : Meets (record nothing_more {
     turns = record t { job = job.Write (the_object 3) 2 (1 ∷ []); reply = Some answer.Worn } ∷ [];
   }) (AWorn (Some (job.Write (the_object 3) 2 (1 ∷ []))) 3)
-  worn_told = inr (inl (refl, refl))
+  worn_told = inr (inl (refl, inl refl, refl))
 
-  worn_by_a_swap : IsOwnTurn (Some (job.Write (the_object 3) 2 (1 ∷ []))) answer.Worn
-      (record t { job = job.Swap (the_object 3); reply = Some answer.Worn }) → ⊥
-  worn_by_a_swap i = let e = i.1 in cc
+  worn_by_a_fetch : Meets (record nothing_more {
+    turns = record t { job = job.Fetch (the_object 3); reply = Some answer.Worn } ∷ [];
+  }) (AWorn (Some (job.Write (the_object 3) 2 (1 ∷ []))) 3)
+  worn_by_a_fetch = inr (inl (refl, inr (inr (inl refl)), refl))
+
+  worn_by_an_eviction : Meets (record nothing_more {
+    turns = record t { job = job.Evict; reply = Some answer.Worn } ∷ [];
+  }) (AWorn (Some (job.Write (the_object 3) 2 (1 ∷ []))) 3) → ⊥
+  worn_by_an_eviction (inl m) = m
+  worn_by_an_eviction (inr (inl i)) = by i.1
+    where
+      by : IsJobFor (Some (job.Write (the_object 3) 2 (1 ∷ []))) (Some 3) job.Evict → ⊥
+      by (inl e) = cc
+      by (inr (inl e)) = cc
+      by (inr (inr (inl e))) = cc
+      by (inr (inr (inr e))) = cc
+  worn_by_an_eviction (inr (inr m)) = m
 
   end_by_a_swap : IsOwnTurn (Some (job.Write (the_object 3) 2 (1 ∷ []))) (answer.Range 2)
       (record t { job = job.Swap (the_object 3); reply = Some (answer.Range 2) }) → ⊥

@@ -59,7 +59,7 @@ own_job h (Join node) = Some (job.Join node)
 own_job h request = None
 
 -- what the line needs, by what it was answered; a write may find in place that its object is worn,
--- as one of its own by turns
+-- and else a turn for it told so
 abbrev pub need_of : Option ℕ → Request → Reply → Need
 need_of (Some h) (Read name) (answer.Bytes version bytes) = ARead h version bytes
 need_of (Some h) (Pin name) (answer.Version version) = APin h version
@@ -141,8 +141,8 @@ abbrev pub IsTurnFor : Option Job → Option ℕ → Reply → Turn → Type 0
 IsTurnFor own h reply t =
     (t.reply ≡ Some reply) × IsJobFor own h t.job × (tries_again t ≡ false)
 
--- A part of a record has what is needed. Pins and an end are found by a look, and the last version
--- by a claim, or by a turn of the line's own.
+-- A part of a record has what is needed. Pins are found by a look, and the last version by a claim,
+-- or by a turn for the line; an end by a look, or by a turn of the line's own.
 abbrev pub Meets : parts.Part → Need → Type 0
 Meets d Nothing = Unit {0}
 Meets d (ARead h version bytes) = HasOne (IsReadAs h version bytes) d.seen
@@ -153,5 +153,6 @@ Meets d (APinned own h count) = HasOne (FindsPins h count) d.looks
     ⊎ HasOne (IsTurnFor own (Some h) (answer.Pinned count)) d.turns
 Meets d (AnEnd own h at count len) = HasOne (FindsPast h at count len) d.looks
     ⊎ HasOne (IsOwnTurn own (answer.Range len)) d.turns
-Meets d (AWorn own h) = HasOne (IsLastOf h) d.seen ⊎ HasOne (IsOwnTurn own answer.Worn) d.turns
+Meets d (AWorn own h) = HasOne (IsLastOf h) d.seen
+    ⊎ HasOne (IsTurnFor own (Some h) answer.Worn) d.turns
 Meets d (ATurn own h reply) = HasOne (IsTurnFor own h reply) d.turns
