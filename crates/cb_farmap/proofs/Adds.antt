@@ -20,9 +20,10 @@ use Rattle.cb_ptr.specs.Word.{len_of}
 use Rattle.cb_record.specs.Parts.{Part, grown}
 use Rattle.cb_shared.specs.declared.answers.WriteAnswer.{WriteAnswer}
 use Rattle.cb_shared.specs.declared.answers.WriteAnswer.TheVariants as place
-use Rattle.cb_shared.specs.Calls.{AsksFor, AtThis, EndsAtLast, IsInVain, ReadCallEnds, ReadGives, ReadsInPlace, SaysAs, WriteAnswers, WriteCallEnds, WriteFinds, the_handle}
-use Rattle.cb_shared.specs.Reading.{IsReadHere, looked}
+use Rattle.cb_shared.specs.Calls.{AsksFor, AtThis, EndsAtLast, IsInVain, IsReadJob, IsWriteJob, ReadCallEnds, ReadGives, ReadsInPlace, SaysAs, TurnEnds, WriteAnswers, WriteCallEnds, WriteFinds, the_handle}
+use Rattle.cb_shared.specs.Reading.{IsReadHere}
 use Rattle.cb_shared.specs.Turning.{JobReads}
+use Rattle.cb_farmap.proofs.Jobs.{by_read, by_write, of_read, of_write}
 use Rattle.cb_farmap.proofs.Lists.{has_back, has_front}
 
 -- ---- tries in vain, and what a call ends with
@@ -38,14 +39,14 @@ last_written on vain ends v d x = ap (λ (p : Part). p.written) x.part
     ∙ append-nil x.last.written
 
 -- the turn that was asked for wrote what its reply says
-pub asked_written : (c : Config) (j : Job) (r : Reply) (h : ℕ) (v : View) (d : Part)
-    → (x : AsksFor c j r h v d) → (more : List Entry) × (d.written ≡ more) × TurnWrites j r more
-asked_written c j r h v d x = let t = x.turned.1 in (
-  t.more,
-  ap (λ (p : Part). p.written) x.part ∙ append-nil x.later.written
-      ∙ ap (λ (p : Part). p.written) t.part,
-  t.wrote,
-)
+pub turn_written : (c : Config) (j : Job) (r : Reply) (v : View) (d : Part) → TurnEnds c j r v d
+    → TurnWrites j r d.written
+turn_written c j r v d (answers, t) = subst (TurnWrites j r)
+    (sym (ap (λ (p : Part). p.written) t.part)) t.wrote
+
+pub asked_written : (c : Config) (may : Job → Type 0) (r : Reply) (h : ℕ) (v : View) (d : Part)
+    → (x : AsksFor c may r h v d) → TurnWrites x.turned.job r d.written
+asked_written c may r h v d x = turn_written c x.turned.job r v d x.turned.ends
 
 -- ---- a read writes nothing
 place_none : (h : ℕ) (r : Reply) (v : View) (d : Part) → ReadsInPlace h r v d → d.written ≡ []
@@ -56,12 +57,9 @@ place_none h r v d x = absurd x
 read_last : (c : Config) (h : ℕ) (r : Reply) (v : View) (d : Part) → ReadCallEnds c h r v d
     → d.written ≡ []
 read_last c h r v d (inl x) = place_none h r v d x
-read_last c h r v d (inr (j, inl is, x)) =
-    let z = asked_written c (jobs.Swap (the_handle h)) r h v d
-    (subst (λ (k : Job). AsksFor c k r h v d) is x) in z.1 ∙ z.2
-read_last c h r v d (inr (j, inr is, x)) =
-    let z = asked_written c (jobs.Read (the_handle h)) r h v d
-    (subst (λ (k : Job). AsksFor c k r h v d) is x) in z.1 ∙ z.2
+read_last c h r v d (inr x) = of_read h (λ (j : Job). TurnWrites j r d.written → d.written ≡ [])
+    (λ none. none) (λ none. none) (λ none. none) (λ none. none) x.turned.job x.turned.of
+    (asked_written c (IsReadJob h) r h v d x)
 
 pub read_written : (c : Config) (h : ℕ) (r : Reply) (v w : View) → ReadGives c h r v w
     → w.written ≡ v.written
@@ -92,37 +90,26 @@ here_seen h version bytes v d x = (
 
 -- by a turn of the read's own job, which read under a pin
 turn_seen : (c : Config) (h version : ℕ) (bytes : List ℕ) (v : View) (d : Part)
-    → AsksFor c (jobs.Read (the_handle h)) (answer.Bytes version bytes) h v d
+    → TurnEnds c (jobs.Read (the_handle h)) (answer.Bytes version bytes) v d
     → IsReadIn h version bytes d.seen
-turn_seen c h version bytes v d x = by x.turned.1.reads
+turn_seen c h version bytes v d (answers, t) = by t.reads
   where
-    u : View
-    u = grown (looked h x.word) v
+    out : IsReadIn h version bytes t.within.seen → IsReadIn h version bytes d.seen
+    out y = subst (λ (p : Part). IsReadIn h version bytes p.seen) (sym t.part)
+        (y.0, has_back y.0 t.later.seen t.within.seen y.1, y.2, y.3, y.4)
 
-    out : IsReadIn h version bytes x.turned.1.within.seen → IsReadIn h version bytes d.seen
-    out z = subst (λ (p : Part). IsReadIn h version bytes p.seen) (sym x.part)
-        (read_front h version bytes x.later.seen [] (subst
-        (λ (p : Part). IsReadIn h version bytes p.seen) (sym x.turned.1.part) (back z)))
-      where
-        back : IsReadIn h version bytes x.turned.1.within.seen
-            → IsReadIn h version bytes (x.turned.1.later.seen ++ x.turned.1.within.seen)
-        back y =
-            (y.0, has_back y.0 x.turned.1.later.seen x.turned.1.within.seen y.1, y.2, y.3, y.4)
-
-    by : JobReads (jobs.Read (the_handle h)) x.turned.1.turn.acts
-        (Ok (answer.Bytes version bytes)) u x.turned.1.within → IsReadIn h version bytes d.seen
+    by : JobReads (jobs.Read (the_handle h)) t.turn.acts (Ok (answer.Bytes version bytes)) v t.within
+        → IsReadIn h version bytes d.seen
     by (inl z) = absurd z.1
     by (inr z) = out (subst (λ (p : Part). IsReadIn h version bytes p.seen) (sym z.part)
         (read_front h version bytes z.last.seen z.before.seen
-        (here_seen h version bytes (grown z.before u) z.last z.finds)))
+        (here_seen h version bytes (grown z.before v) z.last z.finds)))
 
 read_ends : (c : Config) (h version : ℕ) (bytes : List ℕ) (v : View) (d : Part)
     → ReadCallEnds c h (answer.Bytes version bytes) v d → IsReadIn h version bytes d.seen
 read_ends c h version bytes v d (inl x) = here_seen h version bytes v d x
-read_ends c h version bytes v d (inr (j, inl is, x)) = absurd
-    (subst (λ (k : Job). AsksFor c k (answer.Bytes version bytes) h v d) is x).turned.0
-read_ends c h version bytes v d (inr (j, inr is, x)) = turn_seen c h version bytes v d
-    (subst (λ (k : Job). AsksFor c k (answer.Bytes version bytes) h v d) is x)
+read_ends c h version bytes v d (inr x) = turn_seen c h version bytes v d
+    (by_read c h (answer.Bytes version bytes) v d (λ again lack. lack) x)
 
 pub read_seen : (c : Config) (h version : ℕ) (bytes : List ℕ) (v w : View)
     → ReadGives c h (answer.Bytes version bytes) v w → IsReadIn h version bytes w.seen
@@ -174,12 +161,12 @@ write_last : (c : Config) (h at : ℕ) (bytes : List ℕ) (n : ℕ) (v : View) (
     → WriteCallEnds c h at bytes (answer.Version n) v d → Added h at bytes n [] d.written
 write_last c h at bytes n v d (inl (a, says, finds)) = write_place h at bytes n v d a says finds
 write_last c h at bytes n v d (inr x) =
-    let z = asked_written c (jobs.Write (the_handle h) at bytes) (answer.Version n) h v d x in
-    let y = z.2 in record {
+    let y = turn_written c (jobs.Write (the_handle h) at bytes) (answer.Version n) v d
+    (by_write c h (answer.Version n) v d (λ again lack. lack) at bytes x) in record {
       len = y.0;
       words = y.1;
       later = y.2;
-      is = z.1 ∙ y.5;
+      is = y.5;
       write = y.3;
     }
 
@@ -218,9 +205,10 @@ same_last : (c : Config) (h at : ℕ) (bytes : List ℕ) (r : Reply) (v : View) 
     → ((n : ℕ) → r ≡ answer.Version n → ⊥) → WriteCallEnds c h at bytes r v d → d.written ≡ []
 same_last c h at bytes r v d off (inl (a, says, finds)) =
     place_same h at bytes r v d a off says finds
-same_last c h at bytes r v d off (inr x) =
-    let z = asked_written c (jobs.Write (the_handle h) at bytes) r h v d x in
-    z.1 ∙ no_more h at bytes r z.0 off z.2
+same_last c h at bytes r v d off (inr x) = of_write h at bytes
+    (λ (j : Job). TurnWrites j r d.written → d.written ≡ [])
+    (λ wrote. no_more h at bytes r d.written off wrote) (λ none. none) (λ none. none) x.turned.job
+    x.turned.of (asked_written c (IsWriteJob h at bytes) r h v d x)
 
 pub write_same : (c : Config) (h at : ℕ) (bytes : List ℕ) (r : Reply) (v w : View)
     → ((n : ℕ) → r ≡ answer.Version n → ⊥) → WriteAnswers c h at bytes r v w

@@ -3,7 +3,6 @@
 use Rattle.std.proofs.Common.{◌≡◌, ℕ, ◌+◌, ◌<◌, ◌≤◌, Bool, true≢false, List, [], ◌∷◌, ◌++◌, length, Option, None, Some, Result, Ok, Err, IfOk, refl, sym, ap, ◌∙◌, subst, inl, inr, ⊎_elim, arith}
 use Rattle.cb_member.specs.declared.no_memory.NoMemory.{NoMemory as Want}
 use Rattle.cb_types.specs.declared.config.Config.{Config}
-use Rattle.cb_types.specs.declared.job.Job.{Job}
 use Rattle.cb_types.specs.declared.job.Job.TheVariants as jobs
 use Rattle.cb_types.specs.declared.reply.Reply.{Reply}
 use Rattle.cb_types.specs.declared.reply.Reply.TheVariants as answer
@@ -21,9 +20,8 @@ use Rattle.cb_rule.specs.Steps.{AreNew, HasLast, IsNewest, freed_seen}
 use Rattle.cb_record.specs.Parts.{Part, grown}
 use Rattle.cb_shared.specs.declared.answers.WriteAnswer.{WriteAnswer}
 use Rattle.cb_shared.specs.declared.answers.WriteAnswer.TheVariants as place
-use Rattle.cb_shared.specs.Calls.{AsksFor, AtThis, IsLack, ReadCallEnds, ReadGives, ReadsInPlace, SaysAs, TellsWhatIs, TurnGives, WriteAnswers, WriteCallEnds, WriteFinds, again_in}
+use Rattle.cb_shared.specs.Calls.{AtThis, IsLack, ReadCallEnds, ReadGives, ReadsInPlace, SaysAs, TellsWhatIs, TurnGives, WriteAnswers, WriteCallEnds, WriteFinds, again_in}
 use Rattle.cb_shared.specs.Glances.{IsLastAlone}
-use Rattle.cb_shared.specs.Reading.{looked}
 use Rattle.cb_farmap.specs.declared.kept.Cannot.TheVariants as cannot
 use Rattle.cb_farmap.specs.declared.kept.Cannot.{Cannot}
 use Rattle.cb_farmap.specs.declared.kept.KeptObject.{KeptObject}
@@ -33,6 +31,7 @@ use Rattle.cb_farmap.specs.Objects.{IsObject}
 use Rattle.cb_farmap.proofs.Adds.{odd, read_written, vain_written, write_same}
 use Rattle.cb_farmap.proofs.Finds.{SawFreed, SawNewest, freed_read, freed_write, saw_read}
 use Rattle.cb_rule.proofs.Laws.{times-append}
+use Rattle.cb_farmap.proofs.Jobs.{by_read, by_write}
 use Rattle.cb_farmap.proofs.Lists.{counted_there, each_there}
 use Rattle.cb_farmap.proofs.Objects.{found_there, wrote_itself}
 use Rattle.cb_farmap.proofs.Turns.{IsOfMake, make_told, range_told}
@@ -105,12 +104,8 @@ module _ (v : View) (k : KeptObject) (sole : IsSole v k) (idle : v.fresh ≡ [])
 read_off : (c : Config) (h : ℕ) (r : Reply) (v : View) (d : Part) → (ReadsInPlace h r v d → ⊥)
     → (TellsWhatIs r → ⊥) → ((again : Bool) → IsLack again r → ⊥) → ReadCallEnds c h r v d → ⊥
 read_off c h r v d there off lack (inl x) = there x
-read_off c h r v d there off lack (inr (j, inl is, x)) =
-    let y = subst (λ (z : Job). AsksFor c z r h v d) is x in
-    lack (again_in y.later.turns) y.turned.0
-read_off c h r v d there off lack (inr (j, inr is, x)) =
-    let y = subst (λ (z : Job). AsksFor c z r h v d) is x in
-    ⊎_elim off (lack (again_in y.later.turns)) y.turned.0
+read_off c h r v d there off lack (inr x) =
+    ⊎_elim off (lack (again_in d.turns)) (by_read c h r v d lack x).0
 
 module _ (c : Config) (k : KeptObject) (v w u : View) (sole : IsSole v k) (idle : v.fresh ≡ [])
     (o : IsObject v.written k) (same : u ≡ w) (stands : RecordStands u) where
@@ -185,9 +180,9 @@ module _ (c : Config) (k : KeptObject) (at : ℕ) (bytes : List ℕ) (v : View) 
   write_next n u d fresh is share (inl (a, says, finds)) =
       place_next n u d a fresh is share says finds
   write_next n u d fresh is share (inr x) =
-      let t = x.turned.1 in let w = t.wrote in
-      new_next n w.0 w.1 w.2 (grown (looked k.handle.n x.word) u) fresh is share
-      (subst (λ (l : List Entry). AreNew l (grown (looked k.handle.n x.word) u)) w.5 t.new)
+      let t = (by_write c k.handle.n (answer.Version n) u d (λ again lack. lack) at bytes x).1 in
+      let w = t.wrote in new_next n w.0 w.1 w.2 u fresh is share
+      (subst (λ (l : List Entry). AreNew l u) w.5 t.new)
 
   -- ---- no refusal by the object's length or its pins
   module _ (w u : View) (same : u ≡ w) (stands : RecordStands u) (within : at + length bytes ≤ 1024)
@@ -236,15 +231,16 @@ module _ (c : Config) (k : KeptObject) (at : ℕ) (bytes : List ℕ) (v : View) 
         → WriteCallEnds c k.handle.n at bytes (answer.Range len) z d → ⊥
     end_range len z d fresh is share wrote (inl (a, says, x)) =
         place_range len z d a fresh is share wrote says x
-    end_range len z d fresh is share wrote (inr x) = let t = x.turned.1 in
-        short len (grown (looked k.handle.n x.word) z) fresh is share wrote t.pins
-        (range_told at bytes c k.handle.n len (grown (looked k.handle.n x.word) z) x.later t)
+    end_range len z d fresh is share wrote (inr x) =
+        let t = (by_write c k.handle.n (answer.Range len) z d (λ again lack. lack) at bytes x).1 in
+        short len z fresh is share wrote t.pins (range_told at bytes c k.handle.n len z d t)
 
     end_pinned : (count : ℕ) (z : View) (d : Part) → z.share ≡ v.share → z.pins ≡ v.pins
         → WriteCallEnds c k.handle.n at bytes (answer.Pinned count) z d → ⊥
     end_pinned count z d share pins (inl (a, says, x)) = place_pinned count z d a share pins says x
-    end_pinned count z d share pins (inr x) = let t = x.turned.1.pins in
-        no_pins count (grown (looked k.handle.n x.word) z) pins t.0 (t.2 (inl (share ∙ sole.whole)))
+    end_pinned count z d share pins (inr x) =
+        let y = by_write c k.handle.n (answer.Pinned count) z d (λ again lack. lack) at bytes x in
+        let t = y.1.pins in no_pins count z pins t.0 (t.2 (inl (share ∙ sole.whole)))
 
     before_is : (x : Part) → x.written ≡ [] → (grown x v).written ≡ v.written
     before_is x none = ap (λ (l : List Entry). l ++ v.written) none

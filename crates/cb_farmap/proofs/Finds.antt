@@ -13,10 +13,11 @@ use Rattle.cb_record.specs.Parts.{Part, grown, nothing_more, sum}
 use Rattle.cb_shared.specs.declared.answers.WriteAnswer.{WriteAnswer}
 use Rattle.cb_shared.specs.declared.answers.WriteAnswer.TheVariants as place
 use Rattle.cb_shared.specs.declared.reading.ReadAnswer.TheVariants as found
-use Rattle.cb_shared.specs.Calls.{AsksFor, AtThis, ReadCallEnds, ReadGives, SaysAs, WriteAnswers, WriteCallEnds, WriteFinds, the_handle}
-use Rattle.cb_shared.specs.Reading.{FindsGone, IsReadHere, looked}
-use Rattle.cb_shared.specs.Turning.{FindsAtLast, FindsFreedAfter, JobReads, made_by_turn, object_of, turn_part, with_own}
+use Rattle.cb_shared.specs.Calls.{AtThis, ReadCallEnds, ReadGives, SaysAs, TurnEnds, WriteAnswers, WriteCallEnds, WriteFinds, the_handle}
+use Rattle.cb_shared.specs.Reading.{FindsGone, IsReadHere}
+use Rattle.cb_shared.specs.Turning.{FindsAtLast, FindsFreedAfter, JobReads, TurnAdds, made_by_turn, object_of, turn_part, with_own}
 use Rattle.cb_farmap.proofs.Adds.{vain_written}
+use Rattle.cb_farmap.proofs.Jobs.{by_read, by_write}
 use Rattle.cb_farmap.proofs.Lists.{has_front}
 
 -- a state of the record with these entries and this share, by which the version was the newest
@@ -95,22 +96,20 @@ call_freed h v w d before last part seen z = record {
       (has_front (freed_seen h z.0) last.seen before.seen z.2)));
 }
 
--- a turn of a look behind, whose freed entry was read
+-- a turn behind a part that wrote nothing, whose freed entry was read
 asks_gone : (c : Config) (j : Job) (h : ℕ) (v : View) (before last : Part) → before.written ≡ []
-    → object_of j ≡ Some h → (x : AsksFor c j answer.Freed h (grown before v) last)
-    → x.turned.1.more ≡ [] → SawGone h v last
-asks_gone c j h v before last none on x wrote =
-    let t = x.turned.1 in
-    let u = grown (looked h x.word) (grown before v) in
+    → object_of j ≡ Some h → (x : TurnEnds c j answer.Freed (grown before v) last)
+    → x.1.more ≡ [] → SawGone h v last
+asks_gone c j h v before last none on (answers, t) wrote =
+    let u = grown before v in
     let finds = subst (λ (o : Option ℕ). FindsFreedAfter o
     (with_own (made_by_turn j (Some answer.Freed))
     (grown (turn_part t.turn t.more t.within nothing_more) u)) t.later) on t.finds in
-    let z = turn_gone h u x.later t.turn (made_by_turn j (Some answer.Freed)) t.more t.within t.later
+    let z = turn_gone h u last t.turn (made_by_turn j (Some answer.Freed)) t.more t.within t.later
     wrote finds t.part in (
       z.0,
       saw_before h z.0 u v (ap (λ (l : List Entry). l ++ v.written) none) refl refl z.1,
-      subst (λ (y : Part). Has (freed_seen h z.0) y.seen) (sym x.part)
-          (has_front (freed_seen h z.0) x.later.seen [] z.2),
+      z.2,
     )
 
 -- ---- a read
@@ -131,22 +130,23 @@ read_saw : (c : Config) (h version : ℕ) (bytes : List ℕ) (v : View) (before 
 read_saw c h version bytes v before last none (inl here) =
     here_saw h version bytes v (grown before v) last
     (ap (λ (l : List Entry). l ++ v.written) none) refl refl here
-read_saw c h version bytes v before last none (inr (j, inl is, x)) = absurd (subst
-    (λ (k : Job). AsksFor c k (answer.Bytes version bytes) h (grown before v) last) is x).turned.0
-read_saw c h version bytes v before last none (inr (j, inr is, x)) = by y.turned.1.reads
+read_saw c h version bytes v before last none (inr x) =
+    by (by_read c h (answer.Bytes version bytes) u last (λ again lack. lack) x)
   where
-    y : AsksFor c (job.Read (the_handle h)) (answer.Bytes version bytes) h (grown before v) last
-    y = subst (λ (k : Job). AsksFor c k (answer.Bytes version bytes) h (grown before v) last) is x
-
     u : View
-    u = grown (looked h y.word) (grown before v)
+    u = grown before v
 
-    by : JobReads (job.Read (the_handle h)) y.turned.1.turn.acts
-        (Ok (answer.Bytes version bytes)) u y.turned.1.within → SawNewest h version v
-    by (inl z) = absurd z.1
-    by (inr z) = here_saw h version bytes v (grown z.before u) z.last
+    under : (t : TurnAdds c (job.Read (the_handle h)) (Ok (answer.Bytes version bytes)) u last)
+        → JobReads (job.Read (the_handle h)) t.turn.acts (Ok (answer.Bytes version bytes)) u t.within
+        → SawNewest h version v
+    under t (inl z) = absurd z.1
+    under t (inr z) = here_saw h version bytes v (grown z.before u) z.last
         (ap (λ (q : Part). q.written ++ u.written) z.lost.part
         ∙ ap (λ (l : List Entry). l ++ v.written) none) refl refl z.finds
+
+    by : TurnEnds c (job.Read (the_handle h)) (answer.Bytes version bytes) u last
+        → SawNewest h version v
+    by (answers, t) = under t t.reads
 
 pub saw_read : (c : Config) (h version : ℕ) (bytes : List ℕ) (v w : View)
     → ReadGives c h (answer.Bytes version bytes) v w → SawNewest h version v
@@ -156,11 +156,9 @@ saw_read c h version bytes v w (d, x, is) = read_saw c h version bytes v x.befor
 read_gone : (c : Config) (h : ℕ) (v : View) (before last : Part) → before.written ≡ []
     → ReadCallEnds c h answer.Freed (grown before v) last → SawGone h v last
 read_gone c h v before last none (inl x) = gone_saw h v before last none x
-read_gone c h v before last none (inr (j, inl is, x)) =
-    absurd (subst (λ (k : Job). AsksFor c k answer.Freed h (grown before v) last) is x).turned.0
-read_gone c h v before last none (inr (j, inr is, x)) =
-    let y = subst (λ (k : Job). AsksFor c k answer.Freed h (grown before v) last) is x in
-    asks_gone c (job.Read (the_handle h)) h v before last none refl y y.turned.1.wrote
+read_gone c h v before last none (inr x) =
+    let y = by_read c h answer.Freed (grown before v) last (λ again lack. lack) x in
+    asks_gone c (job.Read (the_handle h)) h v before last none refl y y.1.wrote
 
 pub freed_read : (c : Config) (h : ℕ) (v w : View) → ReadGives c h answer.Freed v w
     → SawFreed h v w
@@ -183,8 +181,9 @@ write_ends : (c : Config) (h at : ℕ) (bytes : List ℕ) (v : View) (before las
     → SawGone h v last
 write_ends c h at bytes v before last none (inl x) =
     gone_saw h v before last none (place_gone h at bytes (grown before v) last x.0 x.1 x.2)
-write_ends c h at bytes v before last none (inr x) = asks_gone c
-    (job.Write (the_handle h) at bytes) h v before last none refl x x.turned.1.wrote
+write_ends c h at bytes v before last none (inr x) =
+    let y = by_write c h answer.Freed (grown before v) last (λ again lack. lack) at bytes x in
+    asks_gone c (job.Write (the_handle h) at bytes) h v before last none refl y y.1.wrote
 
 pub freed_write : (c : Config) (h at : ℕ) (bytes : List ℕ) (v w : View)
     → WriteAnswers c h at bytes answer.Freed v w → SawFreed h v w

@@ -2,6 +2,7 @@ mod Lists
 mod Pieces
 mod Numbers
 mod Objects
+mod Jobs
 mod Adds
 mod Finds
 mod Turns

@@ -1,5 +1,5 @@
 -- What a plan of calls adds to a record, and what a command that made it comes to.
-use Rattle.std.proofs.Common.{◌≡◌, ◌⊎◌, ℕ, ◌+◌, ◌-◌, ◌^◌, ◌<◌, ◌≤◌, Bool, true, false, if◌then◌else◌, cond, eqb, ◌&&◌, ne_eqb, List, [], ◌∷◌, ◌++◌, length, Option, None, Some, refl, sym, ap, ◌∙◌, subst, inl, inr, arith}
+use Rattle.std.proofs.Common.{◌≡◌, ◌⊎◌, ℕ, ◌+◌, ◌-◌, ◌^◌, ◌<◌, ◌≤◌, Bool, true, false, if◌then◌else◌, cond, eqb, ◌&&◌, ne_eqb, List, [], ◌∷◌, ◌++◌, length, Option, None, Some, refl, sym, ap, ◌∙◌, subst, inl, inr, ⊎_elim, arith}
 use Rattle.std.proofs.lemmas.List.{append-nil, append_assoc, length-append}
 use Rattle.cb_types.specs.declared.config.Config.{Config}
 use Rattle.cb_types.specs.declared.handle.Handle.{Handle}
@@ -13,7 +13,7 @@ use Rattle.cb_rule.specs.declared.view.View.{View}
 use Rattle.cb_rule.specs.History.{is_version}
 use Rattle.cb_rule.specs.Lists.{Each, Has, times}
 use Rattle.cb_rule.specs.TriesAgain.{tries_again}
-use Rattle.cb_shared.specs.Calls.{IsAnswer, IsAnswerTo, IsFetch, the_handle}
+use Rattle.cb_shared.specs.Calls.{IsAnswer, IsAnswerTo, IsReadJob, IsWriteJob, the_handle}
 use Rattle.cb_shared.specs.Making.{MakesNew}
 use Rattle.cb_map_text.specs.Plain.{Plain, after_said, calls_something, needs_object, objects, plain_after, plain_said}
 use Rattle.cb_map_text.specs.Tallied.{IsTallied}
@@ -28,6 +28,7 @@ use Rattle.cb_farmap.specs.declared.kept.Cannot.{Cannot}
 use Rattle.cb_farmap.specs.declared.kept.Cannot.TheVariants as cannot
 use Rattle.cb_farmap.specs.declared.kept.KeptObject.{KeptObject}
 use Rattle.cb_farmap.proofs.Finds.{SawNewest, saw_before}
+use Rattle.cb_farmap.proofs.Jobs.{of_read, of_write}
 use Rattle.cb_farmap.proofs.Lists.{each_there, has_back}
 use Rattle.cb_farmap.proofs.PlanTurns.{CallAdds, IsAskedBy, IsEntryOf, IsInPlace, IsSaidInPlace, IsToldBy, call_adds, each_both, each_weaker, entries_of, handle_of, made_both, made_of, version_told}
 
@@ -365,14 +366,18 @@ pub record IsPlanFor (v : View) (most : ℕ) (s : Plain) (a : FarCommand) (plan 
     pub calls : calls_something s a ≡ false → plan ≡ []
 
 -- the jobs of a plan make objects, or are on those of the record
-fetch_job : (w : View) (h : ℕ) (j : Job) → HasWritten w h → IsFetch h j → IsOnObject w j
-fetch_job w h j has (inl is) = subst (IsOnObject w) (sym is) has
-fetch_job w h j has (inr is) = subst (IsOnObject w) (sym is) has
+read_on : (w : View) (h : ℕ) (j : Job) → HasWritten w h → IsReadJob h j → IsOnObject w j
+read_on w h j has asked = of_read h (IsOnObject w) has has (h, has) has j asked
+
+write_on : (w : View) (h at : ℕ) (bytes : List ℕ) (j : Job) → HasWritten w h
+    → IsWriteJob h at bytes j → IsOnObject w j
+write_on w h at bytes j has asked = of_write h at bytes (IsOnObject w) has has (h, has) j asked
 
 asked_job : (w : View) (most : ℕ) (ask : Ask) (j : Job) → IsOfRecord w most ask → IsAskedBy ask j
     → IsMake j ⊎ IsOnObject w j
-asked_job w most (AskRead k) j of asked = inr (fetch_job w k.handle.n j of asked)
-asked_job w most (AskWrite k at bytes) j of asked = inr (subst (IsOnObject w) (sym asked) of.0)
+asked_job w most (AskRead k) j of asked = inr (read_on w k.handle.n j of asked)
+asked_job w most (AskWrite k at bytes) j of asked =
+    inr (write_on w k.handle.n at bytes j of.0 asked)
 asked_job w most (AskMake bytes) j of asked = inl (subst IsMake (sym asked) of)
 
 pub some_make : (plan : List Ask) (bytes : List ℕ) → Has (AskMake bytes) plan → 1 ≤ makes_in plan
@@ -425,14 +430,10 @@ place_off (AskWrite k at bytes) r refusal calm x = x
 place_off (AskMake bytes) r refusal calm x = x
 
 no_version : (again : Bool) (j : Job) (n : ℕ) → IsAnswerTo again j (answer.Version n)
-    → (h : ℕ) → IsFetch h j → ⊥
-no_version again j n answers h (inl is) =
-    subst (λ (k : Job). IsAnswerTo again k (answer.Version n)) is answers
-no_version again j n answers h (inr is) =
-    elim (subst (λ (k : Job). IsAnswerTo again k (answer.Version n)) is answers) [
-      | inl x ↦ x
-      | inr x ↦ x
-    ]
+    → (h : ℕ) → IsReadJob h j → ⊥
+no_version again j n answers h asked =
+    of_read h (λ (k : Job). IsAnswerTo again k (answer.Version n) → ⊥) (λ x. x) (λ x. x) (λ x. x)
+    (λ x. ⊎_elim (λ (y : ⊥). y) (λ (y : ⊥). y) x) j asked answers
 
 -- the replies that are out of place for an object
 abbrev IsOfOwn : Reply → Type 0
@@ -446,6 +447,12 @@ IsOfOwn r = ⊥
 swap_own : (h : Handle) (r : Reply) → IsOutOfPlace (jobs.Swap h) r → IsOfOwn r
 swap_own h r x = x
 
+fetch_own : (h : Handle) (r : Reply) → IsOutOfPlace (jobs.Fetch h) r → IsOfOwn r
+fetch_own h r x = x
+
+land_own : (r : Reply) → IsOutOfPlace jobs.Land r → IsOfOwn r
+land_own r x = x
+
 read_own : (h : Handle) (r : Reply) → IsOutOfPlace (jobs.Read h) r → IsOfOwn r
 read_own h r x = x
 
@@ -453,14 +460,25 @@ write_own : (h : Handle) (at : ℕ) (bytes : List ℕ) (r : Reply)
     → IsOutOfPlace (jobs.Write h at bytes) r → IsOfOwn r
 write_own h at bytes r x = x
 
-fetch_own : (h : ℕ) (j : Job) (r : Reply) → IsFetch h j → IsOutOfPlace j r → IsOfOwn r
-fetch_own h j r (inl is) x =
-    swap_own (the_handle h) r (subst (λ (k : Job). IsOutOfPlace k r) is x)
-fetch_own h j r (inr is) x =
-    read_own (the_handle h) r (subst (λ (k : Job). IsOutOfPlace k r) is x)
+read_out : (h : ℕ) (j : Job) (r : Reply) → IsReadJob h j → IsOutOfPlace j r → IsOfOwn r
+read_out h j r asked = of_read h (λ (k : Job). IsOutOfPlace k r → IsOfOwn r)
+    (swap_own (the_handle h) r) (fetch_own (the_handle h) r) (land_own r) (read_own (the_handle h) r)
+    j asked
+
+write_out : (h at : ℕ) (bytes : List ℕ) (j : Job) (r : Reply) → IsWriteJob h at bytes j
+    → IsOutOfPlace j r → IsOfOwn r
+write_out h at bytes j r asked = of_write h at bytes (λ (k : Job). IsOutOfPlace k r → IsOfOwn r)
+    (write_own (the_handle h) at bytes r) (fetch_own (the_handle h) r) (land_own r) j asked
+
+write_told : (again : Bool) (h at : ℕ) (bytes : List ℕ) (j : Job) (r : Reply)
+    → IsWriteJob h at bytes j → IsAnswerTo again j r → IsAnswer again r
+write_told again h at bytes j r asked =
+    of_write h at bytes (λ (k : Job). IsAnswerTo again k r → IsAnswer again r) (λ x. x) (λ x. inr x)
+    (λ x. inr x) j asked
 
 read_off : (again : Bool) (k : KeptObject) (j : Job) (r : Reply) → IsRefusal (AskRead k) r
-    → IsCalm (Some (cannot.Refused r)) → IsFetch k.handle.n j → IsAnswerTo again j r → IsOfOwn r → ⊥
+    → IsCalm (Some (cannot.Refused r)) → IsReadJob k.handle.n j → IsAnswerTo again j r → IsOfOwn r
+    → ⊥
 read_off again k j (answer.Bytes version bytes) refusal calm fetch answers x = refusal version bytes refl
 read_off again k j (answer.Version n) refusal calm fetch answers x =
     no_version again j n answers k.handle.n fetch
@@ -492,11 +510,11 @@ make_off bytes r refusal x = x
 place_of : (again : Bool) (ask : Ask) (j : Job) (r : Reply) → IsRefusal ask r
     → IsCalm (Some (cannot.Refused r)) → IsAskedBy ask j → IsAnswerTo again j r → IsOutOfPlace j r → ⊥
 place_of again (AskRead k) j r refusal calm asked answers x =
-    read_off again k j r refusal calm asked answers (fetch_own k.handle.n j r asked x)
+    read_off again k j r refusal calm asked answers (read_out k.handle.n j r asked x)
 place_of again (AskWrite k at bytes) j r refusal calm asked answers x =
     write_off again k at bytes r refusal calm
-    (subst (λ (i : Job). IsAnswerTo again i r) asked answers)
-    (write_own (the_handle k.handle.n) at bytes r (subst (λ (i : Job). IsOutOfPlace i r) asked x))
+    (write_told again k.handle.n at bytes j r asked answers)
+    (write_out k.handle.n at bytes j r asked x)
 place_of again (AskMake bytes) j r refusal calm asked answers x =
     make_off bytes r refusal (subst (λ (i : Job). IsOutOfPlace i r) asked x)
 
@@ -608,10 +626,10 @@ module _ (c : Config) (first most : ℕ) (low : first ≤ most) (s : Plain) (tal
           one_needs (needs_object s a)
               (let some = some_make plan bytes there in let k = suits.makes in omega (arith, some, k)),
         )
-        by (AskRead k) there asked = inr (fetch_job w k.handle.n t.turn.job
+        by (AskRead k) there asked = inr (read_on w k.handle.n t.turn.job
             (each_there (IsOfRecord w most) (AskRead k) plan (of_now 0 z) there) asked)
-        by (AskWrite k at bytes) there asked = inr (subst (IsOnObject w) (sym asked)
-            (each_there (IsOfRecord w most) (AskWrite k at bytes) plan (of_now 0 z) there).0)
+        by (AskWrite k at bytes) there asked = inr (write_on w k.handle.n at bytes t.turn.job
+            (each_there (IsOfRecord w most) (AskWrite k at bytes) plan (of_now 0 z) there).0 asked)
 
     told : IsInPlace y.refused.ask r v ⊎ IsToldBy c y.refused.ask r z.more
         → IsToldByTurn s a r w z.more

@@ -15,15 +15,15 @@ use Rattle.cb_record.specs.Parts.{Part, Grows, grown, sum}
 use Rattle.cb_shared.specs.declared.answers.WriteAnswer.{WriteAnswer}
 use Rattle.cb_shared.specs.declared.answers.WriteAnswer.TheVariants as place
 use Rattle.cb_rule.specs.TriesAgain.{tries_again}
-use Rattle.cb_shared.specs.Calls.{AsksFor, IsAnswerTo, IsFetch, IsInVain, IsUnanswered, IsUnfetched, ReadCallEnds, ReadGives, ReadsInPlace, SaysAs, TurnGives, WriteAnswers, WriteCallEnds, WriteFinds, AtThis, LooksOf, the_handle, again_in}
+use Rattle.cb_shared.specs.Calls.{AsksFor, IsAnswerTo, IsInVain, IsReadJob, IsUnanswered, IsWriteJob, OfThis, ReadCallEnds, ReadGives, ReadsInPlace, SaysAs, TurnGives, WriteAnswers, WriteCallEnds, WriteFinds, AtThis, LooksOf, again_in}
 use Rattle.cb_shared.specs.Making.{MakesNew}
-use Rattle.cb_shared.specs.Reading.{looked}
 use Rattle.cb_shared.specs.Turning.{TurnAdds, made_by_turn}
 use Rattle.cb_farmap.specs.Calls.{Ask, AskMake, AskRead, AskWrite, CallGives}
 use Rattle.cb_farmap.specs.Commands.{HasWritten, made_by_all, made_in}
 use Rattle.cb_farmap.specs.declared.kept.KeptObject.{KeptObject}
 use Rattle.cb_farmap.proofs.Adds.{read_written, vain_written, write_adds, write_same}
 use Rattle.cb_farmap.proofs.Finds.{SawNewest, saw_grown}
+use Rattle.cb_farmap.proofs.Jobs.{of_read, of_write}
 
 -- ---- lists
 pub each_both : {A : Type 0} (P : A → Type 0) (xs ys : List A) → Each P xs → Each P ys → Each P (xs ++ ys)
@@ -41,8 +41,8 @@ made_both (x ∷ xs) ys = let rest = made_both xs ys in omega (arith, rest)
 
 -- ---- the jobs of a call
 abbrev pub IsAskedBy : Ask → Job → Type 0
-IsAskedBy (AskRead k) j = IsFetch k.handle.n j
-IsAskedBy (AskWrite k at bytes) j = j ≡ jobs.Write (the_handle k.handle.n) at bytes
+IsAskedBy (AskRead k) j = IsReadJob k.handle.n j
+IsAskedBy (AskWrite k at bytes) j = IsWriteJob k.handle.n at bytes j
 IsAskedBy (AskMake bytes) j = j ≡ jobs.Make bytes
 
 -- how many objects a call makes, by its reply
@@ -119,24 +119,22 @@ make_none : (again : Bool) (bytes : List ℕ) (r : Reply)
 make_none again bytes (answer.Made handle version) off = absurd (off (inl tt))
 make_none again bytes r off = refl
 
-vain_make : (bytes : List ℕ) (t : Turn) → IsUnanswered (jobs.Make bytes) t
+vain_make : (bytes : List ℕ) (t : Turn) → IsUnanswered (OfThis (jobs.Make bytes)) t
     → made_in t ≡ 0
 vain_make bytes t (job, (r, reply, off)) = ap (λ (j : Job). length (made_by_turn j t.reply)) job
     ∙ ap (λ (o : Option Reply). length (made_by_turn (jobs.Make bytes) o)) reply
-    ∙ make_none (tries_again t) bytes r off
+    ∙ make_none (tries_again t) bytes r
+    (subst (λ (j : Job). IsAnswerTo (tries_again t) j r → ⊥) job off)
 
-fetch_none : (h : ℕ) (j : Job) (o : Option Reply) → IsFetch h j → length (made_by_turn j o) ≡ 0
-fetch_none h j o (inl is) = ap (λ (k : Job). length (made_by_turn k o)) is
-fetch_none h j o (inr is) = ap (λ (k : Job). length (made_by_turn k o)) is
+-- the jobs of a read and of a write make nothing
+read_none : (h : ℕ) (j : Job) (o : Option Reply) → IsReadJob h j → length (made_by_turn j o) ≡ 0
+read_none h j o of =
+    of_read h (λ (i : Job). length (made_by_turn i o) ≡ 0) refl refl refl refl j of
 
-vain_fetch : (h : ℕ) (t : Turn) → IsUnfetched h t → made_in t ≡ 0
-vain_fetch h t (job, fetch, (is, unanswered)) =
-    fetch_none h t.job t.reply (subst (IsFetch h) (sym is) fetch)
-
-vain_write : (h at : ℕ) (bytes : List ℕ) (t : Turn)
-    → IsUnanswered (jobs.Write (the_handle h) at bytes) t → made_in t ≡ 0
-vain_write h at bytes t (is, unanswered) =
-    ap (λ (k : Job). length (made_by_turn k t.reply)) is
+write_none : (h at : ℕ) (bytes : List ℕ) (j : Job) (o : Option Reply) → IsWriteJob h at bytes j
+    → length (made_by_turn j o) ≡ 0
+write_none h at bytes j o of =
+    of_write h at bytes (λ (i : Job). length (made_by_turn i o) ≡ 0) refl refl refl j of
 
 none_made : (P : Turn → Type 0) → ((t : Turn) → P t → made_in t ≡ 0) → (ts : List Turn) → Each P ts
     → made_by_all ts ≡ 0
@@ -176,18 +174,11 @@ one_turn c ask r v u d j asked answers made x = record {
         let f = ap (λ (o : Option Reply). length (made_by_turn j o)) x.reply_is in
         omega (arith, e, f, made)
 
-asked_turn : (c : Config) (ask : Ask) (r : Reply) (h : ℕ) (v u : View) (d : Part) (j : Job)
-    → IsAskedBy ask j → length (made_by_turn j (Some r)) ≡ made_of ask r → AsksFor c j r h u d
-    → LastAdds c ask r v d
-asked_turn c ask r h v u d j asked made x =
-    let one = one_turn c ask r v (grown (looked h x.word) u) x.later j asked x.turned.0 made x.turned.1 in
-    let turns : d.turns ≡ x.later.turns =
-    ap (λ (p : Part). p.turns) x.part ∙ append-nil x.later.turns in record {
-      jobs_are = subst (λ (ts : List Turn). Each (λ (t : Turn). IsAskedBy ask t.job) ts) (sym turns)
-          one.jobs_are;
-      made = ap made_by_all turns ∙ one.made;
-      told = subst (λ (ts : List Turn). IsInPlace ask r v ⊎ IsToldBy c ask r ts) (sym turns) one.told;
-    }
+asked_turn : (c : Config) (ask : Ask) (r : Reply) (h : ℕ) (v u : View) (d : Part)
+    → ((j : Job) → IsAskedBy ask j → length (made_by_turn j (Some r)) ≡ made_of ask r)
+    → AsksFor c (IsAskedBy ask) r h u d → LastAdds c ask r v d
+asked_turn c ask r h v u d made x = let t = x.turned in
+    one_turn c ask r v u d t.job t.of t.ends.0 (made t.job t.of) t.ends.1
 
 in_place : (c : Config) (ask : Ask) (r : Reply) (v : View) (d : Part) → d.turns ≡ []
     → made_of ask r ≡ 0 → IsInPlace ask r v → LastAdds c ask r v d
@@ -208,8 +199,8 @@ read_place c k r v u d x = absurd x
 read_ends : (c : Config) (k : KeptObject) (r : Reply) (v u : View) (d : Part)
     → ReadCallEnds c k.handle.n r u d → LastAdds c (AskRead k) r v d
 read_ends c k r v u d (inl x) = read_place c k r v u d x
-read_ends c k r v u d (inr (j, fetch, x)) =
-    asked_turn c (AskRead k) r k.handle.n v u d j fetch (fetch_none k.handle.n j (Some r) fetch) x
+read_ends c k r v u d (inr x) = asked_turn c (AskRead k) r k.handle.n v u d
+    (λ j of. read_none k.handle.n j (Some r) of) x
 
 write_place : (c : Config) (k : KeptObject) (at : ℕ) (bytes : List ℕ) (r : Reply) (v : View)
     (before d : Part) → before.written ≡ [] → (a : WriteAnswer) → SaysAs a r
@@ -249,7 +240,7 @@ write_ends c k at bytes r v before d none (inl (a, says, x)) =
     write_place c k at bytes r v before d none a says x
 write_ends c k at bytes r v before d none (inr x) =
     asked_turn c (AskWrite k at bytes) r k.handle.n v (grown before v) d
-    (jobs.Write (the_handle k.handle.n) at bytes) refl refl x
+    (λ j of. write_none k.handle.n at bytes j (Some r) of) x
 
 -- ---- a call: tries that came to nothing, and the last one
 module _ (c : Config) (ask : Ask) (r : Reply) (v w : View) (before last : Part)
@@ -316,10 +307,10 @@ read_adds : (c : Config) (k : KeptObject) (r : Reply) (v w : View) → ReadGives
 read_adds c k r v w (d, x, is) = adds_in_all c (AskRead k) r v w x.before x.last
     (turns_of v w d x.before x.last x.part (ap (λ (z : View). z.turns) is)) []
     (read_written c k.handle.n r v w (d, x, is)) (omega arith) tt tt (omega arith) (same_of v w d is)
-    (vain_jobs (AtThis k.handle.n) (IsUnfetched k.handle.n) (λ t. IsFetch k.handle.n t.job)
-    (λ t (j, fetch, (same, un)). subst (IsFetch k.handle.n) (sym same) fetch) x.before x.in_vain)
-    (vain_made (AtThis k.handle.n) (IsUnfetched k.handle.n) (vain_fetch k.handle.n) x.before
-    x.in_vain)
+    (vain_jobs (AtThis k.handle.n) (IsUnanswered (IsReadJob k.handle.n))
+    (λ t. IsReadJob k.handle.n t.job) (λ t un. un.0) x.before x.in_vain)
+    (vain_made (AtThis k.handle.n) (IsUnanswered (IsReadJob k.handle.n))
+    (λ t un. read_none k.handle.n t.job t.reply un.0) x.before x.in_vain)
     (read_ends c k r v (grown x.before v) x.last x.ends_so)
 
 module _ (c : Config) (k : KeptObject) (at : ℕ) (bytes : List ℕ) (r : Reply) (v w : View)
@@ -327,8 +318,8 @@ module _ (c : Config) (k : KeptObject) (at : ℕ) (bytes : List ℕ) (r : Reply)
   abbrev h : ℕ
   h = k.handle.n
 
-  abbrev own : Job
-  own = jobs.Write (the_handle h) at bytes
+  abbrev own : Job → Type 0
+  own = IsWriteJob h at bytes
 
   write_all : (entries : List Entry) → w.written ≡ entries ++ v.written
       → length entries ≤ entries_of (AskWrite k at bytes) r
@@ -338,8 +329,9 @@ module _ (c : Config) (k : KeptObject) (at : ℕ) (bytes : List ℕ) (r : Reply)
       adds_in_all c (AskWrite k at bytes) r v w x.before x.last
       (turns_of v w gives.0 x.before x.last x.part (ap (λ (z : View). z.turns) gives.2))
       entries wrote few low are (omega arith) (same_of v w gives.0 gives.2)
-      (vain_jobs (AtThis h) (IsUnanswered own) (λ t. t.job ≡ own) (λ t un. un.0) x.before x.in_vain)
-      (vain_made (AtThis h) (IsUnanswered own) (vain_write h at bytes) x.before x.in_vain)
+      (vain_jobs (AtThis h) (IsUnanswered own) (λ t. own t.job) (λ t un. un.0) x.before x.in_vain)
+      (vain_made (AtThis h) (IsUnanswered own)
+      (λ t un. write_none h at bytes t.job t.reply un.0) x.before x.in_vain)
       (write_ends c k at bytes r v x.before x.last
       (vain_written (AtThis h) (IsUnanswered own) x.before x.in_vain) x.ends_so)
 
@@ -405,17 +397,17 @@ make_adds c first bytes r v w (d, x, is) new = adds_in_all c (AskMake bytes) r v
     (sym (ap (λ (p : Part). p.written) x.ends_so.1.part))
     (make_some bytes r x.ends_so.1.more x.ends_so.1.wrote))
     (ap (λ (z : View). z.share) is, ap (λ (z : View). z.fresh) is)
-    (vain_jobs (LooksOf (jobs.Make bytes)) (IsUnanswered (jobs.Make bytes))
+    (vain_jobs (LooksOf (jobs.Make bytes)) (IsUnanswered (OfThis (jobs.Make bytes)))
     (λ t. t.job ≡ jobs.Make bytes) (λ t un. un.0) x.before x.in_vain)
-    (vain_made (LooksOf (jobs.Make bytes)) (IsUnanswered (jobs.Make bytes)) (vain_make bytes)
-    x.before x.in_vain)
+    (vain_made (LooksOf (jobs.Make bytes)) (IsUnanswered (OfThis (jobs.Make bytes)))
+    (vain_make bytes) x.before x.in_vain)
     (one_turn c (AskMake bytes) r v (grown x.before v) x.last (jobs.Make bytes) refl x.ends_so.0
     (make_alike bytes r) x.ends_so.1)
   where
     wrote : d.written ≡ x.last.written
     wrote = ap (λ (p : Part). p.written) x.part
         ∙ ap (λ (l : List Entry). x.last.written ++ l) (vain_written
-        (LooksOf (jobs.Make bytes)) (IsUnanswered (jobs.Make bytes)) x.before x.in_vain)
+        (LooksOf (jobs.Make bytes)) (IsUnanswered (OfThis (jobs.Make bytes))) x.before x.in_vain)
         ∙ append-nil x.last.written
 
 pub call_adds : (c : Config) (first : ℕ) (ask : Ask) (r : Reply) (v w : View)

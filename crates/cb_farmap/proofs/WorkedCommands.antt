@@ -68,6 +68,20 @@ on_five = has_five
 not_on_six : IsOnObject wrote (jobs.Read (record { n = 6 })) → ⊥
 not_on_six on = has_not_six on
 
+-- rows are fetched for it, and landed where the record has one
+fetched_five : IsOnObject wrote (jobs.Fetch (record { n = 5 }))
+fetched_five = has_five
+
+not_fetched_six : IsOnObject wrote (jobs.Fetch (record { n = 6 })) → ⊥
+not_fetched_six on = has_not_six on
+
+landed : IsOnObject wrote jobs.Land
+landed = (5, has_five)
+
+-- not by a pass that wrote nothing
+none_to_land : IsOnObject v jobs.Land → ⊥
+none_to_land (h, (e, there, is)) = there
+
 not_a_make : IsOnObject wrote (jobs.Make []) → ⊥
 not_a_make on = on
 
@@ -93,6 +107,12 @@ not_refused = refl
 
 freed_misplaced : IsOutOfPlace (jobs.Swap (record { n = 5 })) answer.Freed
 freed_misplaced = tt
+
+pins_misplaced : IsOutOfPlace jobs.Land (answer.Pinned 1)
+pins_misplaced = tt
+
+worn_in_place : IsOutOfPlace (jobs.Fetch (record { n = 5 })) answer.Worn → ⊥
+worn_in_place is = is
 
 full_in_place : IsOutOfPlace (jobs.Make []) (answer.Full 2) → ⊥
 full_in_place is = is
@@ -153,6 +173,34 @@ no_answer t x = by (tries_again x.turn) (subst (λ (j : Job). IsAnswerTo (tries_
     by : (again : Bool) → IsAnswerTo again (jobs.Make blank) answer.Moving → ⊥
     by again (inl z) = z
     by again (inr z) = z
+
+-- a turn that was made for the object that the record wrote, and told so
+abbrev behind : Turn → Job → Reply → Turn
+behind t j r = record t { job = j; reply = Some r }
+
+-- a landing that is told that the count of turns is at its end
+told_worn : (t : Turn) → IsToldByTurn fresh (command.Get 0) answer.Worn wrote
+    (behind t jobs.Land answer.Worn ∷ [])
+told_worn t = record {
+  turn = behind t jobs.Land answer.Worn;
+  before = [];
+  newest = refl;
+  reply_is = refl;
+  job_is = inr landed;
+  answers = tt;
+  lacks = λ x. x;
+}
+
+-- a fetch that found the row at hand does not answer the call
+told_direct : (t : Turn) → IsToldByTurn fresh (command.Get 0) answer.Direct wrote
+    (behind t (jobs.Fetch (record { n = 5 })) answer.Direct ∷ []) → ⊥
+told_direct t x = subst (λ (j : Job). IsAnswerTo (tries_again x.turn) j answer.Direct) (sym same)
+    x.answers
+  where
+    same : jobs.Fetch (record { n = 5 }) ≡ x.turn.job
+    same = let e = x.newest in
+        let h : behind t (jobs.Fetch (record { n = 5 })) answer.Direct ≡ x.turn = cc in
+        ap (λ (t : Turn). t.job) h
 
 -- or that the object was made
 told_made : (t : Turn) → IsToldByTurn fresh (command.Push 7) one v (making t one ∷ []) → ⊥

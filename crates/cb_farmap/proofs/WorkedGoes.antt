@@ -11,7 +11,7 @@ use Rattle.cb_world.specs.Memory.{bytes_in}
 use Rattle.cb_world.specs.Written.{entry}
 use Rattle.cb_rule.specs.declared.view.View.{View}
 use Rattle.cb_rule.specs.Own.{IsAlone}
-use Rattle.cb_rule.specs.Steps.{IsNewest, look_at, with_look}
+use Rattle.cb_rule.specs.Steps.{IsNewest, with_look}
 use Rattle.cb_record.specs.Parts.{Part, grown, nothing_more, sum}
 use Rattle.cb_shared.specs.Calls.{ReadCallEnds, ReadGives}
 use Rattle.cb_shared.specs.Reading.{looked_freed, read_once}
@@ -151,9 +151,15 @@ module _ (c : Config) (r : View) where
               let f = length-append x.last.looks x.before.looks in
               omega (arith, a, b, e, f)
 
+          no_turn : length x.last.turns ≡ 0
+          no_turn = let a = ap (λ (z : View). length z.turns) grows in
+              let b = length-append d.turns v.turns in
+              let e = ap (λ (p : Part). length p.turns) x.part in
+              let f = length-append x.last.turns x.before.turns in
+              omega (arith, a, b, e, f)
+
           by : ReadCallEnds c 5 (answer.Bytes 1 bytes) (grown x.before v) x.last → ⊥
           by (inl once) = let e : length x.last.looks ≡ 2 = ap (λ (p : Part). length p.looks) once.part in
               let n = none in omega (arith, e, n)
-          by (inr (job, fetch, a)) = let e = ap (λ (p : Part). length p.looks) a.part in
-              let f = length-append a.later.looks (look_at 5 a.word ∷ []) in
-              let n = none in omega (arith, e, f, n)
+          by (inr a) = let e = ap (λ (p : Part). length p.turns) a.turned.ends.1.part in
+              let n = no_turn in omega (arith, e, n)

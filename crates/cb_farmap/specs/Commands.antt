@@ -34,9 +34,12 @@ IsMake other = ⊥
 abbrev pub HasWritten : View → ℕ → Type 0
 HasWritten v h = (e : Entry) × Has e v.written × (e.handle ≡ h)
 
--- a job that brings in an object of the record, and reads or writes it
+-- A job that brings in an object of the record, and reads or writes it. A row that is landed was made
+-- of those that were fetched for such an object: the job itself names none.
 abbrev pub IsOnObject : View → Job → Type 0
 IsOnObject v (jobs.Swap handle) = HasWritten v handle.n
+IsOnObject v (jobs.Fetch handle) = HasWritten v handle.n
+IsOnObject v jobs.Land = (h : ℕ) × HasWritten v h
 IsOnObject v (jobs.Read handle) = HasWritten v handle.n
 IsOnObject v (jobs.Write handle at bytes) = HasWritten v handle.n
 IsOnObject v other = ⊥
