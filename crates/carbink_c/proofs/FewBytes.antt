@@ -66,7 +66,7 @@ empty_few : (version : ℕ) → HasFew (empty_reply version)
 empty_few zero = tt
 empty_few (suc version) = tt
 
-by_few : (b : Bool) (x y : Reply) → HasFew x → HasFew y → HasFew (if b then x else y)
+pub by_few : (b : Bool) (x y : Reply) → HasFew x → HasFew y → HasFew (if b then x else y)
 by_few true x y a b = a
 by_few false x y a b = b
 

@@ -1,6 +1,6 @@
 -- No step of a sound world has a reply of more than 4,096 bytes.
-use Rattle.std.proofs.Common.{◌≡◌, ℕ, zero, suc, ◌≤◌, ◌==◌, List, length, refl, sym, ap, subst, ◌∙◌, arith, inl, inr}
-use Rattle.std.specs.Prelude.{None, Some, if◌then◌else◌}
+use Rattle.std.proofs.Common.{◌≡◌, ℕ, zero, suc, ◌≤◌, ◌==◌, Bool, List, length, refl, sym, ap, subst, ◌∙◌, arith, inl, inr}
+use Rattle.std.specs.Prelude.{◌⊎◌, Option, None, Some, if◌then◌else◌}
 use Rattle.std.proofs.lemmas.Bool.{cases_lt}
 use Rattle.std.proofs.lemmas.List.{get_or_past}
 use Rattle.cb_frame.specs.Runs.{least_run}
@@ -11,16 +11,21 @@ use Rattle.cb_ptr.specs.declared.word.State.TheVariants as state
 use Rattle.cb_ptr.specs.Word.{len_of, pins_of, place_of, state_of}
 use Rattle.cb_ptr.proofs.Laws.{here_bits}
 use Rattle.cb_set.specs.Lost.{loss_of, lost}
+use Rattle.cb_set.specs.SetState.{SetState}
 use Rattle.cb_types.specs.Config.{most_bytes}
 use Rattle.cb_types.specs.declared.handle.SetId.{SetId}
 use Rattle.cb_types.specs.declared.job.Job.{Job}
 use Rattle.cb_types.specs.declared.job.Job.TheVariants as job
+use Rattle.cb_types.specs.declared.order.Kept.{Kept}
+use Rattle.cb_types.specs.declared.order.Kept.TheVariants.{Decode, Encode}
 use Rattle.cb_types.specs.declared.reply.Reply.{Reply}
 use Rattle.cb_types.specs.declared.reply.Reply.TheVariants as answer
 use Rattle.cb_world.specs.FarState.{FarState}
 use Rattle.cb_world.specs.Joining.{JoiningState}
 use Rattle.cb_world.specs.Leaving.{LeavingState}
 use Rattle.cb_world.specs.Plain.{Words}
+use Rattle.cb_world.specs.Seats.{order_of}
+use Rattle.cb_world.specs.Sets.{set_in}
 use Rattle.cb_world.specs.SetWord.{is_broken}
 use Rattle.cb_world.specs.Shown.{object_at}
 use Rattle.cb_world.specs.StillWords.{contents_at, stamp_at, with_hot}
@@ -32,15 +37,22 @@ use Rattle.cb_compact.specs.PairStep.{PairStep}
 use Rattle.cb_compact.specs.PartStep.{PartStep}
 use Rattle.cb_compact.specs.PatchStep.{PatchStep, is_undone}
 use Rattle.cb_evict.specs.AbortStep.{IsAbortStep}
-use Rattle.cb_evict.specs.BeginStep.{BeginsTo, IsBeginStep}
+use Rattle.cb_evict.specs.BeginStep.{BeginsTo}
 use Rattle.cb_evict.specs.CommitStep.{IsCommitStep}
 use Rattle.cb_evict.specs.declared.eviction.Eviction.{Eviction}
 use Rattle.cb_evict.specs.EvictStep.{IsEvictStep}
+use Rattle.cb_evict.specs.Gathering.{gathered_reply}
+use Rattle.cb_evict.specs.InstallRule.{InstallStep}
 use Rattle.cb_evict.specs.ShipStep.{IsShipStep}
 use Rattle.cb_evict.specs.Waiting.{waits_at}
 use Rattle.cb_filter.specs.FilterRule.{EmptyToFilter}
 use Rattle.cb_filter.specs.FilterStep.{IsFilterStep, RefusesAs}
 use Rattle.cb_rebuild.specs.RebuildStep.{RebuildStep}
+use Rattle.cb_swapin.specs.declared.fetching.Fetching.{Fetching}
+use Rattle.cb_swapin.specs.declared.fetching.Fetching.TheVariants as fetching
+use Rattle.cb_swapin.specs.FetchStep.{FetchStep, fetching_reply, unfetched_answer}
+use Rattle.cb_swapin.specs.LandStep.{IsLandStep}
+use Rattle.cb_swapin.specs.SwapStep.{IsBringStep}
 use Rattle.cb_core.specs.declared.event.Atomic.{Atomic}
 use Rattle.cb_core.specs.declared.event.Atomic.TheVariants.{Load, Pin, Unpin, Claim, Store, Settle, Take, Give}
 use Rattle.cb_core.specs.declared.event.Event.{Event}
@@ -48,14 +60,15 @@ use Rattle.cb_core.specs.declared.event.Event.TheVariants as event
 use Rattle.cb_core.specs.Claiming.{ClaimStep, SettleStep, StoreStep}
 use Rattle.cb_core.specs.Holding.{GiveStep, TakeStep}
 use Rattle.cb_core.specs.Membership.{CrashTurn, JoinTurn}
+use Rattle.cb_core.specs.OrderParts.{FetchesBy}
 use Rattle.cb_core.specs.Parts.{BringsIn, Holding, NeverDeclined, WhereItIs, WithRoom, most_evictions}
 use Rattle.cb_core.specs.Pinning.{PinStep, UnpinStep}
-use Rattle.cb_core.specs.Step.{AtomicStep, SeatTurn, Step, StillBring, StillDecline, StillFind, StillMake, StillRead, StillRoom, StillSwap, StillWorks, StillWrite, TurnStep}
-use Rattle.cb_core.specs.Turned.{counted}
-use Rattle.cb_core.specs.Unavailable.{IsInLost, TellsUnavailable}
+use Rattle.cb_core.specs.Step.{AtomicStep, OrderTurn, SeatTurn, Step, StillBring, StillDecline, StillFind, StillLand, StillMake, StillRead, StillRoom, StillSwap, StillWith, StillWorks, StillWrite, TurnStep, holding_of, still_orders}
+use Rattle.cb_core.specs.Turned.{counted, once_counted}
+use Rattle.cb_core.specs.Unavailable.{IsLandLost, IsLost, TellsUnavailable, asked_by}
 use Rattle.cb_core.proofs.Laws.{read_leaves, room_reply}
 use Rattle.carbink_c.specs.Told.{bytes_of}
-use Rattle.carbink_c.proofs.FewBytes.{HasFew, HasFewIn, IsLike, claim_few, few_bytes, filter_map_few, frame_few, free_few, passing_few, pin_few, put_like, read_few, refusal_few, seen_like, state_few, write_few}
+use Rattle.carbink_c.proofs.FewBytes.{HasFew, HasFewIn, IsLike, by_few, claim_few, few_bytes, filter_map_few, frame_few, free_few, passing_few, pin_few, put_like, read_few, refusal_few, seen_like, state_few, write_few}
 
 -- the words after a job tell of no object here of more than 4,096 bytes; before it a batch that is
 -- leaving has a place for each row of a code word, and so has a pair that is joining
@@ -75,9 +88,13 @@ room_few : {D : Type 0} (frames : ℕ) (operation : Holding D → Reply → Hold
 room_few frames operation eviction a r b each x = room_reply frames operation eviction HasFew
     (λ m n q y off. each m n q y) (λ loose nodes. tt) most_evictions a b r x
 
+brought_few : (rows : SetState → ℕ) (x y : Words) (far new : FarState) (id p : ℕ) (r : Reply) → IsBringStep rows x y far new id p r → HasFew r
+brought_few rows x y far new id p r step =
+    same step.reply (frame_few (is_broken far.members step.set) (record { n = id }) (lost far.members step.set.shards) (least_run far.frames step.set.pages))
+
 swap_few : (h : ℕ) (m n : Holding Words) (q : Reply) → StillSwap h m q n → HasFew q
 swap_few h m n q (home, there, step, held) =
-    same step.reply (frame_few (is_broken m.far.members step.set) (record { n = home.set }) (lost m.far.members step.set.shards) (least_run m.far.frames step.set.pages))
+    brought_few _ m.desk n.desk m.far n.far home.set home.position q step
 
 bring_few : (h : ℕ) (a b : Holding Words) (r : Reply) → StillBring h a r b → HasFew r
 bring_few h a b r x = room_few a.desk.settings.frames (StillSwap h) StillRoom a r b (swap_few h) x
@@ -146,11 +163,11 @@ evict_few x y far new r (IsEvictStep.few_spans few is) = same few.reply tt
 evict_few x y far new r (IsEvictStep.few_nodes few is) = same few.reply tt
 evict_few x y far new r (IsEvictStep.made made) = same made.reply tt
 
-begin_few : (x y : Words) (far new : FarState) (r : Reply) → IsBeginStep x y far new r → HasFew r
-begin_few x y far new r (BeginsTo.is_leaving batch there e same_far same_words) = same e tt
-begin_few x y far new r (BeginsTo.few_spans none few is) = same few.reply tt
-begin_few x y far new r (BeginsTo.few_nodes none few is) = same few.reply tt
-begin_few x y far new r (BeginsTo.begins made) = same made.reply tt
+begin_few : (x y : Words) (far new : FarState) (made : Bool) (so : List (List ℕ) → Type 0) (r : Reply) → BeginsTo x y far new made so r → HasFew r
+begin_few x y far new made so r (BeginsTo.is_leaving batch there e same_far same_words) = same e tt
+begin_few x y far new made so r (BeginsTo.few_spans none few is) = same few.reply tt
+begin_few x y far new made so r (BeginsTo.few_nodes none few is) = same few.reply tt
+begin_few x y far new made so r (BeginsTo.begins begun) = same begun.reply tt
 
 ship_few : (x y : Words) (far new : FarState) (r : Reply) → IsShipStep x y far new r → HasFew r
 ship_few x y far new r step = elim step.ships [
@@ -229,7 +246,7 @@ works_few (job.Swap handle) a b r bounded x = brings_few handle.n a b r x
 works_few (job.Free handle) a b r bounded x = same x.reply (free_few (word_at a.desk handle.n) (stamp_at a.desk handle.n))
 works_few (job.Filter handle) a b r bounded x = filter_few a.desk b.desk a.far b.far handle.n r x.0
 works_few job.Evict a b r bounded x = evict_few a.desk b.desk a.far b.far r x.0
-works_few job.Begin a b r bounded x = begin_few a.desk b.desk a.far b.far r x.0
+works_few job.Begin a b r bounded x = begin_few a.desk b.desk a.far b.far true _ r x.0
 works_few job.Ship a b r bounded x = ship_few a.desk b.desk a.far b.far r x.0
 works_few job.Commit a b r bounded x = commit_few a.desk b.desk a.far b.far r bounded.batch x.0
 works_few job.Abort a b r bounded x = abort_few a.desk b.desk a.far b.far r x.0
@@ -245,6 +262,48 @@ works_few job.Gather a b r bounded x = absurd x.1
 works_few job.Install a b r bounded x = absurd x.1
 works_few (job.Fetch handle) a b r bounded x = absurd x.1
 works_few job.Land a b r bounded x = absurd x.1
+
+-- ---- a turn that hands an order out or takes one
+
+install_few : (far new : FarState) (r : Reply) (order keeps : Option Kept) → InstallStep far new r order keeps → HasFew r
+install_few far new r None keeps x = same x.0.reply tt
+install_few far new r (Some (Decode o)) keeps x = same x.0.reply tt
+install_few far new r (Some (Encode o)) keeps (inl x) = same x.0.reply tt
+install_few far new r (Some (Encode o)) keeps (inr (inl x)) = same x.0.reply tt
+install_few far new r (Some (Encode o)) keeps (inr (inr x)) = same x.0.reply tt
+
+unfetched_few : (far : FarState) (id : ℕ) (set : SetState) → HasFew (unfetched_answer far id set)
+unfetched_few far id set = by_few (is_broken far.members set)
+    (answer.Unavailable (record { n = id }) (lost far.members set.shards)) answer.Direct tt tt
+
+fetch_few : (id p : ℕ) (far new : FarState) (g : Fetching) → FetchStep id p far new g → HasFew (fetching_reply g)
+fetch_few id p far new (fetching.Order o) x = tt
+fetch_few id p far new (fetching.Answer r) x = same x.state.0 (unfetched_few far id x.set)
+
+fetches_few : (h : ℕ) (order keeps : Option Kept) (a b : Holding Words) (r : Reply) → FetchesBy still_orders h order a r keeps b → HasFew r
+fetches_few h order keeps a b r (FetchesBy.not_far x other kept) =
+    same x.0 (state_few (state_of (word_at a.desk h)) (stamp_at a.desk h) answer.Stays tt)
+fetches_few h order keeps a b r (FetchesBy.was_far m g x y is kept) =
+    same is (fetch_few y.0.set y.0.position m.far b.far g y.3)
+
+land_few : (x y : Words) (far new : FarState) (order : Option Kept) (r : Reply) → IsLandStep x y far new order r → HasFew r
+land_few x y far new None r z = same z.reply tt
+land_few x y far new (Some (Encode o)) r z = same z.reply tt
+land_few x y far new (Some (Decode o)) r (inl z) = same z.refused.reply tt
+land_few x y far new (Some (Decode o)) r (inr z) = brought_few _ x y far new o.set o.position r z.brings
+
+with_few : (j : Job) (order keeps : Option Kept) (a b : Holding Words) (r : Reply) → StillWith j order a r keeps b → HasFew r
+with_few job.Gather order keeps a b r (g, x, is, kept) =
+    same is (begin_few a.desk b.desk a.far b.far false _ (gathered_reply g) x.0)
+with_few job.Install order keeps a b r x = install_few a.far b.far r order keeps x.1
+with_few (job.Fetch handle) order keeps a b r x = fetches_few handle.n order keeps a b r x
+with_few job.Land order keeps a b r x = room_few a.desk.settings.frames (StillLand order) StillRoom a r b
+    (λ m n q z. land_few m.desk n.desk m.far n.far order q z.0) x.0
+with_few j order keeps a b r x = absurd x
+
+order_few : (j : Job) (order keeps : Option Kept) (a b : Holding Words) (r : Reply) → OrderTurn j order a r keeps b → HasFew r
+order_few j order keeps a b r (OrderTurn.late all e kept is) = same e tt
+order_few j order keeps a b r (OrderTurn.made fewer x) = with_few j order keeps (once_counted a j) b r x
 
 -- ---- what a sound world bounds
 
@@ -268,13 +327,13 @@ pair_short w sound p there =
     let pair = sound.configured.codes.pair p there in
     omega (arith, pair.2.steps, pair.1.range.data_most, pair.1.range.parities_most)
 
-lost_few : (w : WorldState) → IsSoundWorld w → (h : ℕ) (id : SetId) (losses : List Loss) → IsInLost w.far h id losses → length losses ≤ 20
-lost_few w sound h id losses l =
-    let range = (sound.configured.codes.sets l.home.set l.set l.there).range in
+lost_few : (w : WorldState) → IsSoundWorld w → (n : ℕ) (set : SetState) (losses : List Loss) → set_in w.far.sets n ≡ Some set → losses ≡ lost w.far.members set.shards → length losses ≤ 20
+lost_few w sound n set losses there all =
+    let range = (sound.configured.codes.sets n set there).range in
     omega (
       arith,
-      ap length l.all,
-      filter_map_few (loss_of w.far.members) l.set.shards,
+      ap length all,
+      filter_map_few (loss_of w.far.members) set.shards,
       range.data_most,
       range.parities_most,
     )
@@ -288,6 +347,8 @@ turn_few j w v r before after (TurnStep.done fewer works seats) =
 seat_few : (seat : ℕ) (j : Job) (w v : WorldState) (r : Reply) → IsSoundWorld w → IsSoundWorld v → SeatTurn seat j w r v → HasFew r
 seat_few seat j w v r before after (SeatTurn.held holder other holds e is) = same e tt
 seat_few seat j w v r before after (SeatTurn.free none turn) = turn_few j w v r before after turn
+seat_few seat j w v r before after (SeatTurn.ordered keeps needs none turn seats) =
+    order_few j (order_of w.seats seat) keeps (holding_of w) (holding_of v) r turn
 
 -- ---- atomic steps
 
@@ -342,5 +403,9 @@ step_few w v (event.Turn seat j) r before after x = seat_few seat j w v r before
 pub step_short : (w v : WorldState) (e : Event) (r : Reply) → IsSoundWorld w → IsSoundWorld v → Step w e r v → TellsUnavailable w e r → length (bytes_of r) ≤ most_bytes
 step_short w v e r before after step tells =
     few_bytes r (step_few w v e r before after step) (λ id losses is.
-    let away = tells.only id losses is in
-    lost_few w before away.0 id losses away.2.home)
+    by e id losses (tells.only id losses is))
+  where
+    by : (e : Event) (id : SetId) (losses : List Loss) → ((h : ℕ) × (asked_by e ≡ Some h) × IsLost w h id losses) ⊎ IsLandLost w e id losses → length losses ≤ 20
+    by e id losses (inl x) = let l = x.2.home in lost_few w before l.home.set l.set losses l.there l.all
+    by (event.Turn seat j) id losses (inr x) = let l = x.5 in lost_few w before id.n l.set losses l.there l.all
+    by (event.Step seat atomic) id losses (inr x) = absurd x

@@ -4,10 +4,11 @@ use Rattle.cb_types.specs.declared.job.Job.{Job}
 use Rattle.cb_types.specs.declared.job.Job.TheVariants.{Pair, Compact}
 use Rattle.cb_types.specs.declared.reply.Reply.{Reply}
 use Rattle.cb_world.specs.FarState.{FarState}
+use Rattle.cb_world.specs.Orders.{LeavesWords}
 use Rattle.cb_world.specs.Plain.{Words}
 use Rattle.cb_world.specs.Sound.{Sound}
 use Rattle.cb_world.specs.World.{WorldState, IsKnown, IsSoundWorld}
-use Rattle.cb_world.proofs.Laws.{KeepsHolding, KeepsNote, StaysIfBy, stays_noted, stays_same}
+use Rattle.cb_world.proofs.Laws.{KeepsHolding, KeepsNote, StaysIfBy, stays_noted, stays_same, words_stay}
 use Rattle.cb_compact.specs.CompactStep.{CompactStep}
 use Rattle.cb_compact.proofs.Laws.{now_laws}
 use Rattle.cb_core.specs.Holding.{NoOtherHolds}
@@ -18,6 +19,7 @@ use Rattle.cb_core.proofs.Carried.{turn_rise}
 use Rattle.cb_core.proofs.FarJobs.{far_job, note_of, stays_sound}
 use Rattle.cb_core.proofs.KeptParts.{IsGood}
 use Rattle.cb_core.proofs.StillFarJobs.{arrives_far, known_after, open_after}
+use Rattle.cb_core.proofs.WordsTold.{far_orders}
 use Rattle.cb_core.proofs.WorldKept.{arrived_sound, counted_good, held}
 
 -- ---- the far state of a counted turn is changed alone
@@ -25,14 +27,15 @@ module _ (w : WorldState) (job : Job) (sound : IsSoundWorld w) (few : w.far.coun
   where
     pub far_after : (n : ℕ) (new : FarState) → n ≤ turn_rise
         → StaysIfBy (note_of job) w.desk.settings n (counted w.far job) new
-        → Sound sound.shown new → IsSoundWorld (record w { far = new })
-    far_after n new most stays then =
+        → Sound sound.shown new → LeavesWords (counted w.far job) new
+        → IsSoundWorld (record w { far = new })
+    far_after n new most stays then leaves =
         let a = once_counted (held w) job in
         let good = counted_good w job sound in
         arrived_sound w job (record { desk = w.desk; far = new }) (Unit {0}) sound few
         (arrives_far w.desk.settings w.seats a (record { desk = w.desk; far = new }) (Unit {0}) good refl
         (stays_sound w.desk.settings n sound.shown (counted w.far job) new most good.configured stays
-        then) tt)
+        then) leaves tt)
 
 same_note : (job : Job) (far : FarState) → note_of job far far
 same_note Pair far = λ holds. holds
@@ -47,7 +50,7 @@ admitted_sound w job sound few =
     (λ is. stays_noted KeepsNote (note_of job) w.desk.settings 1 (counted w.far job)
     (counted w.far job) (same_note job (counted w.far job))
     (stays_same w.desk.settings 1 (counted w.far job) (counted w.far job) (omega arith) refl is))
-    (counted_good w job sound).known.sound
+    (counted_good w job sound).known.sound (words_stay (counted w.far job))
 
 -- ---- a compaction
 
@@ -55,8 +58,10 @@ admitted_sound w job sound few =
 pub compacted_sound : (w : WorldState) (n : ℕ) (new : FarState) → n ≤ turn_rise
     → (sound : IsSoundWorld w) → w.far.counts.turns < 2 ^ 40
     → StaysIfBy KeepsHolding w.desk.settings n (counted w.far Compact) new
-    → Sound sound.shown new → IsSoundWorld (record w { far = new })
-compacted_sound w n new most sound few stays then = far_after w Compact sound few n new most stays then
+    → Sound sound.shown new → LeavesWords (counted w.far Compact) new
+    → IsSoundWorld (record w { far = new })
+compacted_sound w n new most sound few stays then leaves =
+    far_after w Compact sound few n new most stays then leaves
 
 -- what the nodes do in such a turn is a turn of the core
 pub compact_made : (w : WorldState) (seat : ℕ) (mid : FarState) (r : Reply) → IsSoundWorld w
@@ -73,6 +78,9 @@ compact_made w seat mid r sound none few step = free none (done few (
         (far_job Compact).now tt w.desk.settings s (counted w.far Compact) mid r tt good.configured
             k.sound step,
         λ others ongoing. open_after a b s others refl k z.sound ongoing,
+        far_orders s (counted w.far Compact) mid k.sound z.sound
+            ((far_job Compact).words w.desk.settings s (counted w.far Compact) mid r tt good.configured
+            k.sound step),
       ),
 ) refl)
   where
@@ -93,7 +101,8 @@ compact_sound w new r sound (done few (words, step, hold) seats) =
     subst IsSoundWorld (sym (λ i. record { desk = words i; far = new.far; seats = seats i }))
     (compacted_sound w 20 new.far (omega arith) sound few
     (now_laws.stays w.desk.settings sound.shown (counted w.far Compact) new.far r known.sound step)
-    (now_laws.keeps sound.shown (counted w.far Compact) new.far r known.sound step).sound)
+    (now_laws.keeps sound.shown (counted w.far Compact) new.far r known.sound step).sound
+    (now_laws.keeps sound.shown (counted w.far Compact) new.far r known.sound step).words)
   where
     known : IsKnown w.desk (counted w.far Compact) sound.shown
     known = (counted_good w Compact sound).known

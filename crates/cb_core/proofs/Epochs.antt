@@ -8,16 +8,18 @@ use Rattle.cb_types.specs.declared.job.Job.TheVariants.{Crash, Join}
 use Rattle.cb_types.specs.declared.reply.Reply.{Reply}
 use Rattle.cb_world.specs.FarState.{FarState}
 use Rattle.cb_world.specs.Plain.{Words}
+use Rattle.cb_world.specs.Seats.{order_of}
 use Rattle.cb_world.specs.World.{WorldState}
 use Rattle.cb_core.specs.declared.event.Atomic.TheVariants.{Load, Pin, Unpin, Claim, Store, Settle, Take, Give}
 use Rattle.cb_core.specs.declared.event.Event.{Event}
 use Rattle.cb_core.specs.declared.event.Event.TheVariants as event
 use Rattle.cb_core.specs.Parts.{Holding}
 use Rattle.cb_core.specs.Pinning.{PinStep, scope_full, refused, taken, UnpinStep, not_pinned, given}
-use Rattle.cb_core.specs.Step.{Leads, StillWorks, TurnStep, worn, done, held, free, Step}
+use Rattle.cb_core.specs.Step.{Leads, StillWorks, TurnStep, worn, done, held, free, holding_of, ordered, Step}
 use Rattle.cb_core.specs.Turned.{counted}
 use Rattle.cb_core.proofs.HoldingFixed.{take_leaves, give_leaves}
 use Rattle.cb_core.proofs.OpenFrame.{claim_leaves, store_leaves, settle_leaves}
+use Rattle.cb_core.proofs.OrderedKeeps.{order_members}
 use Rattle.cb_core.proofs.FarJobs.{far_job}
 use Rattle.cb_core.proofs.NodesStay.{MembersAfter, MembersStand, stands_same}
 use Rattle.cb_core.proofs.PartsStay.{Steady, works_left}
@@ -95,6 +97,8 @@ pub step_rises : (w new : WorldState) (e : Event) (r : Reply) → Step w e r new
 step_rises w new (event.Turn seat job) r (held holder off holds reply same) =
     same_rises w new (ap (λ (v : WorldState). v.far) same)
 step_rises w new (event.Turn seat job) r (free none step) = turn_rises w new job r step
+step_rises w new (event.Turn seat job) r (ordered keeps off none turn seats) = rises_by w.far new.far
+    (order_members job (order_of w.seats seat) keeps (holding_of w) (holding_of new) r turn)
 step_rises w new (event.Step seat (Load handle)) r step =
     same_rises w new (ap (λ (v : WorldState). v.far) step.1)
 step_rises w new (event.Step seat (Pin handle)) r step =

@@ -12,7 +12,7 @@ use Rattle.cb_core.specs.Holding.{TakeStep, held, taken, GiveStep, not_held, giv
 use Rattle.cb_core.proofs.OpenSteps.{kept_pinned}
 
 -- seats with the same open writes
-open_seats : (desk : Words) (far : FarState) (seats next : List SeatState)
+pub open_seats : (desk : Words) (far : FarState) (seats next : List SeatState)
     → ((seat : ℕ) → claims_of_seat next seat ≡ claims_of_seat seats seat) → AreOpen desk far seats
     → AreOpen desk far next
 open_seats desk far seats next same ongoing = record {
@@ -58,7 +58,8 @@ module _ (w : WorldState) (seat : ℕ) (holds : Bool) (sound : IsSoundWorld w) (
     ongoing = open_seats w.desk w.far w.seats next
         (seat_beside (λ (x : SeatState). x.claims) w.seats seat new refl) sound.ongoing;
     one = one;
-    orders = orders_kept w.seats seat new refl sound.orders;
+    orders = orders_kept sound.shown w.far w.seats next
+        (seat_beside (λ (x : SeatState). x.order) w.seats seat new refl) sound.orders;
     counted = sound.counted;
   }
 

@@ -7,18 +7,21 @@ use Rattle.cb_world.specs.declared.event.Event.{Event}
 use Rattle.cb_world.specs.declared.shown.Shown.{Shown}
 use Rattle.cb_world.specs.Counts.{with_turn}
 use Rattle.cb_world.specs.FarState.{FarState}
+use Rattle.cb_world.specs.Orders.{AreOrdersKept, LeavesOrders}
 use Rattle.cb_world.specs.Plain.{Words}
 use Rattle.cb_world.specs.Seats.{SeatState}
 use Rattle.cb_world.specs.OpenWrites.{AreOpen}
 use Rattle.cb_world.specs.World.{IsKnown, ArePinned, AreCounted, IsConfigured}
 use Rattle.cb_world.specs.Pairs.{HoldsNoPair}
 pub use Rattle.cb_world.proofs.Laws.{KeepsNote, Rises, RisesBy, rises_more, rises_then, StaysIf}
-use Rattle.cb_world.proofs.Laws.{IsStepKnown, KeepsPins, PerformsStill, keeps_pinned, open_kept}
+use Rattle.cb_world.proofs.Laws.{IsStepKnown, KeepsPins, PerformsStill, keeps_pinned, open_kept, orders_then}
 use Rattle.cb_core.specs.Parts.{Holding}
 use Rattle.cb_core.specs.Step.{HoldOn}
 use Rattle.cb_core.proofs.Carried.{KeepsAlong}
+use Rattle.cb_core.proofs.StillOrders.{FindsKept}
 
--- all is known of a holding with this configuration, and its pins are those of these seats
+-- all is known of a holding with this configuration, its pins are those of these seats, and so are
+-- the orders that are kept
 pub record IsGood (c : Config) (seats : List SeatState) (a : Holding Words) : Type 0 where
   pub settings : a.desk.settings ≡ c
   pub configured : IsConfigured c a.far
@@ -26,6 +29,7 @@ pub record IsGood (c : Config) (seats : List SeatState) (a : Holding Words) : Ty
   pub known : IsKnown a.desk a.far shown
   pub pinned : ArePinned a.desk seats
   pub ongoing : AreOpen a.desk a.far seats
+  pub orders : AreOrdersKept shown a.far seats
 
 -- what a part comes to: this holds of it, all is known, the numbers rose by at most n, and so does
 -- this of what is noted of a search for a pair
@@ -96,13 +100,13 @@ arrives_same c seats n a b Z good same z = record {
   });
 }
 
--- a part after which all is known, that keeps the pins and the open writes, and leaves the far state
--- as it is configured
+-- a part after which all is known, that keeps the pins, the open writes and the orders, and leaves
+-- the far state as it is configured
 pub arrives_stays : (c : Config) (seats : List SeatState) (n : ℕ) (a b : Holding Words) (t : Shown)
-    (Z : Type 0) → IsGood c seats a → StaysIf c n a.far b.far → IsKnown b.desk b.far t
-    → b.desk.settings ≡ a.desk.settings → ArePinned b.desk seats → AreOpen b.desk b.far seats → Z
-    → Arrives c seats n a b Z
-arrives_stays c seats n a b t Z good stays known settings pinned ongoing z =
+    (Z : Type 0) → (good : IsGood c seats a) → StaysIf c n a.far b.far → IsKnown b.desk b.far t
+    → b.desk.settings ≡ a.desk.settings → ArePinned b.desk seats → AreOpen b.desk b.far seats
+    → LeavesOrders good.shown a.far t b.far → Z → Arrives c seats n a b Z
+arrives_stays c seats n a b t Z good stays known settings pinned ongoing orders z =
     let x = stays good.configured in record {
       is = z;
       good = record {
@@ -112,6 +116,7 @@ arrives_stays c seats n a b t Z good stays known settings pinned ongoing z =
         known = known;
         pinned = pinned;
         ongoing = ongoing;
+        orders = orders_then good.shown t a.far b.far seats orders good.orders;
       };
       rises = x.rises;
     }
@@ -123,29 +128,30 @@ pub arrives_held : (c : Config) (seats : List SeatState) (n : ℕ) (a b : Holdin
 arrives_held c seats n a b S good stays keeps (step, hold) =
     let then = hold good.shown good.known in let pins = keeps step in
     arrives_stays c seats n a b then.0 (S × HoldOn a b) good stays then.1 pins.settings
-    (keeps_pinned a.desk b.desk seats pins good.pinned) (then.3 seats good.ongoing) (step, hold)
+    (keeps_pinned a.desk b.desk seats pins good.pinned) (then.3 seats good.ongoing) then.4 (step, hold)
 
--- who knows all before knows all after, and open writes stay
+-- who knows all before knows all after, and open writes and orders stay
 pub holds_on : {rules : List Event → Type 0} {does : List Event → Shown → Shown → Type 0}
-    (a b : Holding Words) → PerformsStill a.desk b.desk a.far b.far rules does
+    (a b : Holding Words) → PerformsStill a.desk b.desk a.far b.far rules does → FindsKept a b
     → ((s : Shown) → IsKnown a.desk a.far s → IsStepKnown b.desk a.far b.far s) → HoldOn a b
-holds_on {rules} {does} a b p after s k = let z = after s k in (
+holds_on {rules} {does} a b p orders after s k = let z = after s k in (
   z.shown,
   z.known,
   z.same_now,
   λ others ongoing. open_kept a.desk b.desk a.far b.far rules does s others k p ongoing,
+  orders s z.shown k z.known,
 )
 
 -- so is an operation over the still desk, by its step
 pub arrives_step : {rules : List Event → Type 0} {does : List Event → Shown → Shown → Type 0}
     (c : Config) (seats : List SeatState) (n : ℕ) (a b : Holding Words) (S : Type 0)
     → IsGood c seats a → StaysIf c n a.far b.far
-    → PerformsStill a.desk b.desk a.far b.far rules does
+    → PerformsStill a.desk b.desk a.far b.far rules does → FindsKept a b
     → ((s : Shown) → IsKnown a.desk a.far s → S × IsStepKnown b.desk a.far b.far s)
     → (S → KeepsPins a.desk b.desk) → Arrives c seats n a b (S × HoldOn a b)
-arrives_step c seats n a b S good stays p step keeps =
+arrives_step c seats n a b S good stays p orders step keeps =
     arrives_held c seats n a b S good stays keeps
-    ((step good.shown good.known).0, holds_on a b p (λ s k. (step s k).1))
+    ((step good.shown good.known).0, holds_on a b p orders (λ s k. (step s k).1))
 
 -- what was counted, after a turn in which the numbers rose by little
 pub counted_rises : {N : FarState → FarState → Type 0} (far mid new : FarState) (kind : ℕ)

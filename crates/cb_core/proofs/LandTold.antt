@@ -8,6 +8,7 @@ use Rattle.cb_set.specs.SetState.{SetState, parities}
 use Rattle.cb_types.specs.declared.config.Config.{Config}
 use Rattle.cb_types.specs.declared.handle.SetId.{SetId}
 use Rattle.cb_types.specs.declared.order.DecodeOrder.{DecodeOrder}
+use Rattle.cb_types.specs.declared.order.EncodeOrder.{EncodeOrder}
 use Rattle.cb_types.specs.declared.order.Kept.{Kept}
 use Rattle.cb_types.specs.declared.order.Kept.TheVariants.{Decode, Encode}
 use Rattle.cb_types.specs.declared.job.Job.TheVariants.{Land}
@@ -22,7 +23,8 @@ use Rattle.cb_world.specs.SetWord.{is_broken}
 use Rattle.cb_world.specs.Sound.{Sound}
 use Rattle.cb_evict.specs.declared.eviction.Eviction.TheVariants.{Set}
 use Rattle.cb_evict.specs.EvictRule.{EvictRule}
-use Rattle.cb_swapin.specs.LandRule.{IsLanding, LandRule, live_in}
+use Rattle.cb_swapin.specs.LandRule.{LandRule, live_in}
+use Rattle.cb_swapin.specs.SwapRule.{swap_answer}
 use Rattle.cb_swapin.proofs.Laws.{by_answer}
 use Rattle.cb_core.specs.Ordered.{Lands}
 use Rattle.cb_core.specs.Parts.{Holding, WithRoom, at_once, no_room, won, most_evictions}
@@ -35,27 +37,27 @@ use Rattle.cb_core.proofs.SetsStay.{others_stay}
 use Rattle.cb_core.proofs.TurnUnavailable.{IsNever}
 
 -- the position of the order is live, and its set has lost this, more shards than it has parities
-abbrev IsLostOf : FarState → DecodeOrder → List Loss → Type 0
+abbrev pub IsLostOf : FarState → DecodeOrder → List Loss → Type 0
 IsLostOf far o l =
     (live_in far o.set o.position ≡ true) × IsSetLost far (record { n = o.set }) l
 
 -- the order that a seat keeps has no such set
-abbrev HasNoLost : Option Kept → FarState → Type 0
+abbrev pub HasNoLost : Option Kept → FarState → Type 0
 HasNoLost order far = (o : DecodeOrder) (l : List Loss) → order ≡ Some (Decode o)
     → IsLostOf far o l → ⊥
 
 -- What a landing comes to: it tells of the order's set, which is lost; or that is not, and it tells
 -- of none.
-data Says (order : Option Kept) (far : FarState) (r : Reply) : Type 0 where
+pub data Says (order : Option Kept) (far : FarState) (r : Reply) : Type 0 where
   broke : (o : DecodeOrder) (l : List Loss) → order ≡ Some (Decode o) → IsLostOf far o l
       → r ≡ answer.Unavailable (record { n = o.set }) l → Says order far r
   fine : HasNoLost order far → IsNever r → Says order far r
 
 -- ---- what is told apart
-like : (r q : Reply) → r ≡ q → IsNever q → IsNever r
+pub like : (r q : Reply) → r ≡ q → IsNever q → IsNever r
 like r q e never id l is = never id l (sym e ∙ is)
 
-no_frame_never : IsNever answer.NoFrame
+pub no_frame_never : IsNever answer.NoFrame
 no_frame_never id l e = cc
 
 none_decode : (o : DecodeOrder) → None ≡ Some (Decode o) → ⊥
@@ -83,13 +85,13 @@ unlost far id set l there whole z =
     omega (arith, few, many)
 
 -- ---- one landing
-landed_says : (p : DecodeOrder) (far new : FarState) (r : Reply) (es : List Event)
-    → IsLanding p far new r es → Says (Some (Decode p)) far r
-landed_says p far new r es x = let set = x.brings.set in let there = x.brings.there in
-    subst (Says (Some (Decode p)) far) (sym x.brings.reply)
+pub landed_says : (p : DecodeOrder) (far : FarState) (set : SetState) (r : Reply)
+    → live_in far p.set p.position ≡ true → set_in far.sets p.set ≡ Some set
+    → r ≡ swap_answer far p.set set → Says (Some (Decode p)) far r
+landed_says p far set r live there reply = subst (Says (Some (Decode p)) far) (sym reply)
     (by_answer (Says (Some (Decode p)) far) far p.set set
     (λ broken. broke p (lost far.members set.shards) refl (
-      x.live,
+      live,
       record {
         set = set;
         there = there;
@@ -100,25 +102,36 @@ landed_says p far new r es x = let set = x.brings.set in let there = x.brings.th
     (λ whole free. fine (no_lost whole) no_frame_never)
     (λ f whole free. fine (no_lost whole) (swapped_never f)))
   where
-    no_lost : is_broken far.members x.brings.set ≡ false → HasNoLost (Some (Decode p)) far
-    no_lost whole o l e z = unlost far p.set x.brings.set l x.brings.there whole
+    no_lost : is_broken far.members set ≡ false → HasNoLost (Some (Decode p)) far
+    no_lost whole o l e z = unlost far p.set set l there whole
         (subst (λ (q : DecodeOrder). IsSetLost far (record { n = q.set }) l)
         (sym (same_decode p o e)) z.1)
 
     swapped_never : (f : ℕ) → IsNever (answer.Swapped f)
     swapped_never f id l e = cc
 
+-- one that finds no order, and one whose order is outdated
+pub none_says : (far : FarState) (r : Reply) → r ≡ answer.NoOrder → Says None far r
+none_says far r is = fine (λ o l e z. none_decode o e) (like r _ is (λ id l e. cc))
+
+pub encode_says : (p : EncodeOrder) (far : FarState) (r : Reply) → r ≡ answer.NoOrder
+    → Says (Some (Encode p)) far r
+encode_says p far r is = fine (λ o l e z. encode_decode o e) (like r _ is (λ id l e. cc))
+
+pub outdated_says : (p : DecodeOrder) (far : FarState) (r : Reply)
+    → live_in far p.set p.position ≡ false → r ≡ answer.Changed (record { n = p.set })
+    → Says (Some (Decode p)) far r
+outdated_says p far r gone is = fine (λ o l e z. false≢true (sym gone ∙ subst (λ (q : DecodeOrder).
+    live_in far q.set q.position ≡ true) (sym (same_decode p o e)) z.0))
+    (like r _ is (λ id l e. cc))
+
 land_says : (order : Option Kept) (far new : FarState) (r : Reply) (es : List Event)
     → LandRule order far new r es → Says order far r
-land_says None far new r es x =
-    fine (λ o l e z. none_decode o e) (like r _ x.reply (λ id l e. cc))
-land_says (Some (Encode p)) far new r es x =
-    fine (λ o l e z. encode_decode o e) (like r _ x.reply (λ id l e. cc))
-land_says (Some (Decode p)) far new r es (inl x) =
-    fine (λ o l e z. false≢true (sym x.gone ∙ subst (λ (q : DecodeOrder).
-    live_in far q.set q.position ≡ true) (sym (same_decode p o e)) z.0))
-    (like r _ x.reply (λ id l e. cc))
-land_says (Some (Decode p)) far new r es (inr x) = landed_says p far new r es x
+land_says None far new r es x = none_says far r x.reply
+land_says (Some (Encode p)) far new r es x = encode_says p far r x.reply
+land_says (Some (Decode p)) far new r es (inl x) = outdated_says p far r x.gone x.reply
+land_says (Some (Decode p)) far new r es (inr x) =
+    landed_says p far x.brings.set r x.live x.brings.there x.brings.reply
 
 -- ---- an eviction leaves the sets that there are, and the members
 set_stays : (far new : FarState) (r : Reply) (id : SetId) (es : List Event) → EvictRule far new r es
@@ -145,6 +158,64 @@ crammed_there order o far new r es is rule full = by (subst (λ (k : Option Kept
         × (set_in far.sets o.set ≡ Some set) × (live_in far o.set o.position ≡ true)
     by (inl x) = absurd (changed_full (record { n = o.set }) x.reply full)
     by (inr x) = (x.brings.set, x.brings.there, x.live)
+
+-- ---- the whole turn, once it is counted
+module _ (order : Option Kept) where
+  pub said : (far : FarState) (r : Reply) → Says order (counted far Land) r → LandTells order far r
+  said far r (fine off never) = record {
+    only = λ id l e. absurd (never id l e);
+    each = λ o l is few live z. absurd (off o l is (
+      live,
+      record {
+        set = z.set;
+        there = z.there;
+        all = z.all;
+        many = z.many;
+      },
+    ));
+  }
+  said far r (broke o l is z e) = record {
+    only = λ id m same. (
+      o,
+      is,
+      numbers (sym same ∙ e),
+      z.0,
+      subst (λ (k : SetId). IsSetLost far k m) (sym (numbers (sym same ∙ e)))
+          (subst (λ (k : List Loss). IsSetLost far (record { n = o.set }) k)
+          (sym (losses (sym same ∙ e))) lost_before),
+    );
+    each = λ p m also few live y.
+        let one : o ≡ p = same_decode o p (sym is ∙ also) in
+        let all : l ≡ m = the_lost one y in
+        e ∙ (λ i. answer.Unavailable (record { n = (one i).set }) (all i));
+  }
+    where
+      lost_before : IsSetLost far (record { n = o.set }) l
+      lost_before = record { set = z.1.set; there = z.1.there; all = z.1.all; many = z.1.many }
+
+      number_in : Reply → SetId
+      number_in (answer.Unavailable id m) = id
+      number_in q = record { n = o.set }
+
+      losses_in : Reply → List Loss
+      losses_in (answer.Unavailable id m) = m
+      losses_in q = l
+
+      numbers : {id : SetId} {m : List Loss}
+          → answer.Unavailable id m ≡ answer.Unavailable (record { n = o.set }) l
+          → id ≡ record { n = o.set }
+      numbers f = ap number_in f
+
+      losses : {id : SetId} {m : List Loss}
+          → answer.Unavailable id m ≡ answer.Unavailable (record { n = o.set }) l → m ≡ l
+      losses f = ap losses_in f
+
+      the_lost : {p : DecodeOrder} {m : List Loss} → o ≡ p
+          → IsSetLost far (record { n = p.set }) m → l ≡ m
+      the_lost {p = p} one y =
+          let set : z.1.set ≡ y.set = same_Some z.1.set y.set
+          (sym z.1.there ∙ ap (λ (q : DecodeOrder). set_in far.sets q.set) one ∙ y.there) in
+          z.1.all ∙ ap (λ (k : SetState). lost far.members k.shards) set ∙ sym y.all
 
 module _ {D : Type 0} (run : D → List Event → D → Type 0) (shows : D → Shown → Type 0)
     (follows : (d e : D) (es : List Event) (s : Shown) → run d es e → shows d s
@@ -205,66 +276,10 @@ module _ {D : Type 0} (run : D → List Event → D → Type 0) (shows : D → S
           absurd (off o l is (was_lost a m n id o l (s, shown, sound) is x evict z))
 
   -- the whole turn
-  said : (far : FarState) (r : Reply) → Says order (counted far Land) r → LandTells order far r
-  said far r (fine off never) = record {
-    only = λ id l e. absurd (never id l e);
-    each = λ o l is few live z. absurd (off o l is (
-      live,
-      record {
-        set = z.set;
-        there = z.there;
-        all = z.all;
-        many = z.many;
-      },
-    ));
-  }
-  said far r (broke o l is z e) = record {
-    only = λ id m same. (
-      o,
-      is,
-      numbers (sym same ∙ e),
-      z.0,
-      subst (λ (k : SetId). IsSetLost far k m) (sym (numbers (sym same ∙ e)))
-          (subst (λ (k : List Loss). IsSetLost far (record { n = o.set }) k)
-          (sym (losses (sym same ∙ e))) lost_before),
-    );
-    each = λ p m also few live y.
-        let one : o ≡ p = same_decode o p (sym is ∙ also) in
-        let all : l ≡ m = the_lost one y in
-        e ∙ (λ i. answer.Unavailable (record { n = (one i).set }) (all i));
-  }
-    where
-      lost_before : IsSetLost far (record { n = o.set }) l
-      lost_before = record { set = z.1.set; there = z.1.there; all = z.1.all; many = z.1.many }
-
-      number_in : Reply → SetId
-      number_in (answer.Unavailable id m) = id
-      number_in q = record { n = o.set }
-
-      losses_in : Reply → List Loss
-      losses_in (answer.Unavailable id m) = m
-      losses_in q = l
-
-      numbers : {id : SetId} {m : List Loss}
-          → answer.Unavailable id m ≡ answer.Unavailable (record { n = o.set }) l
-          → id ≡ record { n = o.set }
-      numbers f = ap number_in f
-
-      losses : {id : SetId} {m : List Loss}
-          → answer.Unavailable id m ≡ answer.Unavailable (record { n = o.set }) l → m ≡ l
-      losses f = ap losses_in f
-
-      the_lost : {p : DecodeOrder} {m : List Loss} → o ≡ p
-          → IsSetLost far (record { n = p.set }) m → l ≡ m
-      the_lost {p = p} one y =
-          let set : z.1.set ≡ y.set = same_Some z.1.set y.set
-          (sym z.1.there ∙ ap (λ (q : DecodeOrder). set_in far.sets q.set) one ∙ y.there) in
-          z.1.all ∙ ap (λ (k : SetState). lost far.members k.shards) set ∙ sym y.all
-
   pub land_told : (a b : Hold) (r : Reply) → Good a
       → WithRoom c.frames (Lands run shows order) (WinsRoom run shows c) most_evictions
       (once_counted a Land) r b → LandTells order a.far r
-  land_told a b r (s, shown, sound) x = said a.far r (says_behind most_evictions (once_counted a Land)
+  land_told a b r (s, shown, sound) x = said order a.far r (says_behind most_evictions (once_counted a Land)
       b r (s, shown, counted_sound s a.far (counted a.far Land) Land refl sound) x)
 
 -- a landing that was refused for its number tells of no set

@@ -28,6 +28,6 @@ pub use Rattle.cb_core.proofs.TurnCallsPinned.{IsPinCount, free_counts, write_co
 pub use Rattle.cb_core.proofs.TurnCallsSound.{room_good, swap_sound}
 pub use Rattle.cb_core.proofs.TurnCallsSwap.{IsSwapRefusal, SwapEnds, refusal_line, refused, stays, swapped}
 pub use Rattle.cb_core.proofs.TurnCallsUnpinned.{free_unpinned, write_fits, write_unpinned}
-pub use Rattle.cb_core.proofs.Unavailables.{step_tells}
+pub use Rattle.cb_core.proofs.EventTells.{brought_only, step_tells}
 pub use Rattle.cb_core.proofs.TurnUnavailable.{IsNever, brought_tells, there_tells}
 pub use Rattle.cb_core.proofs.WorldKept.{counted_good, held}

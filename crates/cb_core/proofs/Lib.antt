@@ -17,16 +17,20 @@ pub mod NodesStay
 pub mod CompactIdle
 pub mod FarJobs
 mod Noted
+pub mod StillOrders
 pub mod StillParts
 pub mod StillFilters
 pub mod StillFarJobs
 pub mod StillBatches
+pub mod StillOrderParts
 pub mod StillReads
 pub mod ReadTurns
 pub mod TurnComes
 pub mod TurnCarries
 pub mod TurnLeft
 pub mod WorldKept
+pub mod OrderedKeeps
+pub mod OrderedWorld
 pub mod PinsKept
 pub mod OpenSteps
 pub mod OpenStores
@@ -37,11 +41,13 @@ mod WordsTold
 mod WordsOwned
 mod SwapRows
 mod OrderTurns
+pub mod OrderEnds
 mod LandRooms
 mod LandTold
 mod InstallAtDesk
 mod Unfetched
 mod WorkedOrders
+pub mod WorkedOrderTurns
 mod NarrowOrders
 pub mod OpenChanges
 pub mod OpenStored
@@ -89,6 +95,8 @@ pub mod TurnCallsBatch
 pub mod TurnCalls
 pub mod TurnCallsUnavailable
 pub mod Unavailables
+pub mod OrderedTells
+pub mod EventTells
 pub mod FarLooks
 pub mod TurnUnavailable
 pub mod Rejobbed

@@ -14,7 +14,7 @@ use Rattle.cb_world.specs.Seats.{OpenWriteState, IsClaimAt, claims_of_seat, with
 use Rattle.cb_world.specs.Shown.{Fits, object_at}
 use Rattle.cb_world.specs.World.{WorldState, IsSoundWorld, word_at}
 use Rattle.cb_world.specs.Write.{IsWriteBelow}
-use Rattle.cb_world.proofs.Laws.{below_packed, known_word, open_here, pinned_still}
+use Rattle.cb_world.proofs.Laws.{below_packed, known_word, open_here, pinned_still, same_orders}
 use Rattle.cb_core.proofs.OpenChanges.{is_settled}
 use Rattle.cb_core.proofs.OpenSteps.{claims_hold, claims_keep, claims_pinned}
 
@@ -97,6 +97,7 @@ module _ (w : WorldState) (seat place v : ℕ) (c : OpenWriteState) (sound : IsS
     ongoing = is_settled w.desk y w.far w.seats seat place c sound.ongoing in_range there others v
         settles.state o.below refl;
     one = claims_hold w.seats seat (remove (claims_of_seat w.seats seat) place) sound.one;
-    orders = claims_keep w.seats seat (remove (claims_of_seat w.seats seat) place) sound.orders;
+    orders = claims_keep sound.shown _ w.far w.seats seat (remove (claims_of_seat w.seats seat) place)
+        (same_orders sound.shown _ w.far refl) sound.orders;
     counted = sound.counted;
   }

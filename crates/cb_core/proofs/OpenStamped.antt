@@ -11,7 +11,7 @@ use Rattle.cb_world.specs.Shown.{object_at}
 use Rattle.cb_world.specs.StillWords.{contents_at}
 use Rattle.cb_world.specs.World.{WorldState, IsKnown, IsSoundWorld, word_at}
 use Rattle.cb_world.specs.Write.{IsWriteBelow}
-use Rattle.cb_world.proofs.Laws.{open_here, pinned_still, same_memory, sound_beside}
+use Rattle.cb_world.proofs.Laws.{open_here, pinned_still, same_memory, same_orders, sound_beside}
 use Rattle.cb_core.proofs.OpenChanges.{goes_on}
 use Rattle.cb_core.proofs.OpenSteps.{claims_hold, claims_keep, claims_pinned, not_zero}
 
@@ -154,6 +154,8 @@ module _ (w : WorldState) (seat place : ℕ) (c : OpenWriteState) (sound : IsSou
     ongoing = goes_on w.desk y w.far w.seats seat place c sound.ongoing in_range there others next refl
         mine refl;
     one = claims_hold w.seats seat (set (claims_of_seat w.seats seat) place next) sound.one;
-    orders = claims_keep w.seats seat (set (claims_of_seat w.seats seat) place next) sound.orders;
+    orders = claims_keep sound.shown t w.far w.seats seat
+        (set (claims_of_seat w.seats seat) place next) (same_orders sound.shown t w.far refl)
+        sound.orders;
     counted = sound.counted;
   }

@@ -13,18 +13,20 @@ use Rattle.cb_world.specs.declared.object.Object.TheVariants as is
 use Rattle.cb_world.specs.declared.seats.Pin.{Pin}
 use Rattle.cb_world.specs.declared.shown.Shown.{Shown}
 use Rattle.cb_world.specs.Grasped.{IsFree}
+use Rattle.cb_world.specs.FarState.{FarState}
 use Rattle.cb_world.specs.Memory.{IsPacked, window, words_for}
 use Rattle.cb_world.specs.OpenWrites.{IsOpen, IsLeavingNow, IsClaimedNow, AreOpen, touched}
+use Rattle.cb_world.specs.Orders.{AreOrdersKept, LeavesOrders}
 use Rattle.cb_world.specs.Packed.{IsPackedAs}
 use Rattle.cb_world.specs.Pinned.{with_word}
 use Rattle.cb_world.specs.Plain.{Words}
-use Rattle.cb_world.specs.Seats.{SeatState, OpenWriteState, AtMostOneHolds, KeepNoOrder, IsClaimAt, idle_seat, seat_at, claims_of_seat, with_claims, pins_among}
+use Rattle.cb_world.specs.Seats.{SeatState, OpenWriteState, AtMostOneHolds, IsClaimAt, idle_seat, seat_at, claims_of_seat, with_claims, pins_among}
 use Rattle.cb_world.specs.Shown.{Fits, object_at}
 use Rattle.cb_world.specs.StillDesk.{here_is, below_here}
 use Rattle.cb_world.specs.StillWords.{stamp_at, contents_at}
 use Rattle.cb_world.specs.World.{WorldState, ArePinned, IsSoundWorld, word_at}
 use Rattle.cb_world.specs.Write.{IsWriteBelow}
-use Rattle.cb_world.proofs.Laws.{known_word, leaving_claimed, orders_kept, pinned_still, seat_beside}
+use Rattle.cb_world.proofs.Laws.{known_word, leaving_claimed, orders_kept, orders_then, pinned_still, same_orders, seat_beside}
 use Rattle.cb_core.specs.Claiming.{opened}
 
 -- ---- the pins of the seats
@@ -71,10 +73,14 @@ claims_hold seats seat cs one a b held other =
     same k = seat_beside (λ (x : SeatState). x.holds) seats seat
         (record (seat_at seats seat) { claims = cs }) refl k
 
--- and that no seat keeps an order
-pub claims_keep : (seats : List SeatState) (seat : ℕ) (cs : List OpenWriteState)
-    → KeepNoOrder seats → KeepNoOrder (with_claims seats seat cs)
-claims_keep seats seat cs = orders_kept seats seat (record (seat_at seats seat) { claims = cs }) refl
+-- and the orders of all, where those that were kept are kept
+pub claims_keep : (s t : Shown) (far : FarState) (seats : List SeatState) (seat : ℕ)
+    (cs : List OpenWriteState) → LeavesOrders s far t far → AreOrdersKept s far seats
+    → AreOrdersKept t far (with_claims seats seat cs)
+claims_keep s t far seats seat cs leaves kept = orders_kept t far seats (with_claims seats seat cs)
+    (seat_beside (λ (x : SeatState). x.order) seats seat (record (seat_at seats seat) { claims = cs })
+    refl)
+    (orders_then s t far far seats leaves kept)
 
 -- ---- lists
 none_is : (y : OpenWriteState) (p : ℕ) → slice_get [] p ≡ Some y → ⊥
@@ -289,7 +295,8 @@ module _ (w : WorldState) (seat h at v : ℕ) (bytes : List ℕ) (sound : IsSoun
         (λ k below none. none_then k none (ℕ_discrete k h)));
     ongoing = ongoing;
     one = claims_hold w.seats seat (cs ++ mine ∷ []) sound.one;
-    orders = claims_keep w.seats seat (cs ++ mine ∷ []) sound.orders;
+    orders = claims_keep s _ w.far w.seats seat (cs ++ mine ∷ []) (same_orders s _ w.far refl)
+        sound.orders;
     counted = sound.counted;
   }
     where

@@ -10,7 +10,7 @@ use Rattle.cb_world.proofs.Laws.{pinned_still}
 use Rattle.cb_mutate.specs.Merged.{IsWordMerged}
 use Rattle.cb_core.proofs.OpenChanges.{goes_on}
 use Rattle.cb_core.proofs.OpenSteps.{claims_hold, claims_keep, claims_pinned, not_zero}
-use Rattle.cb_core.proofs.OpenStores.{desk, i, p, t, stored_known, stored_contents, others_stay}
+use Rattle.cb_core.proofs.OpenStores.{desk, i, p, t, stored_known, stored_orders, stored_contents, others_stay}
 
 module _ (w : WorldState) (seat place m : ℕ) (c : OpenWriteState) (sound : IsSoundWorld w)
     (lt : seat < 64) (there : IsClaimAt w.seats seat place c)
@@ -83,6 +83,8 @@ module _ (w : WorldState) (seat place m : ℕ) (c : OpenWriteState) (sound : IsS
     ongoing = goes_on w.desk y w.far w.seats seat place c sound.ongoing in_range there others next refl
         mine refl;
     one = claims_hold w.seats seat (set (claims_of_seat w.seats seat) place next) sound.one;
-    orders = claims_keep w.seats seat (set (claims_of_seat w.seats seat) place next) sound.orders;
+    orders = claims_keep sound.shown (t w seat place m c sound there less) w.far w.seats seat
+        (set (claims_of_seat w.seats seat) place next)
+        (stored_orders w seat place m c sound there less) sound.orders;
     counted = sound.counted;
   }

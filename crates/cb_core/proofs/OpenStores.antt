@@ -7,6 +7,7 @@ use Rattle.cb_world.specs.declared.object.Object.TheVariants as is
 use Rattle.cb_world.specs.declared.shown.Shown.{Shown}
 use Rattle.cb_world.specs.Memory.{IsPacked, window, put, words_for}
 use Rattle.cb_world.specs.OpenWrites.{IsOpen, touched}
+use Rattle.cb_world.specs.Orders.{LeavesOrders}
 use Rattle.cb_world.specs.Packed.{IsPackedAs}
 use Rattle.cb_world.specs.Plain.{Words}
 use Rattle.cb_world.specs.Seats.{OpenWriteState, IsClaimAt}
@@ -15,7 +16,7 @@ use Rattle.cb_world.specs.StillDesk.{here_is, put_window, window_length}
 use Rattle.cb_world.specs.StillWords.{contents_at}
 use Rattle.cb_world.specs.World.{WorldState, IsKnown, IsSoundWorld, word_at}
 use Rattle.cb_world.specs.Write.{IsWriteBelow}
-use Rattle.cb_world.proofs.Laws.{IsOutside, apart, lies, lies_within, open_here, set_put, sound_beside, window_at, window_put, window_same}
+use Rattle.cb_world.proofs.Laws.{IsOutside, apart, beside_orders, lies, lies_within, open_here, set_put, sound_beside, window_at, window_put, window_same}
 use Rattle.cb_mutate.specs.Merged.{IsWordMerged}
 use Rattle.cb_mutate.proofs.Laws.{write_more}
 
@@ -81,6 +82,10 @@ module _ (w : WorldState) (seat place m : ℕ) (c : OpenWriteState) (sound : IsS
 
   beside : (q : ℕ) → IsOutside (place_of old) (len_of old) q → get_or t.memory q 0 ≡ get_or s.memory q 0
   beside q side = get_or-set_other s.memory p q m 0 (other_word q side)
+
+  -- the object is not one that is leaving
+  pub stored_orders : LeavesOrders s w.far t w.far
+  stored_orders = beside_orders w.far s t h (len_of old) (place_of old) sound.known.sound here beside
 
   pub stored_known : IsKnown desk w.far t
   stored_known = record {

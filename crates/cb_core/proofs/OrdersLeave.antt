@@ -60,7 +60,7 @@ fetch_kept (fetching.Order o) far s t k = k
 fetch_kept (fetching.Answer r) far s t k = tt
 
 -- rows that are handed out are given out, and nothing else is done
-rows_stay : (c : Config) (s : Shown) (id p : ℕ) (far new : FarState) (g : Fetching) → Sound s far
+pub rows_stay : (c : Config) (s : Shown) (id p : ℕ) (far new : FarState) (g : Fetching) → Sound s far
     → FetchStep id p far new g → StaysIf c 16 far new × Sound s new
 rows_stay c s id p far new g sound x = by g x.state
   where
@@ -88,7 +88,7 @@ outdated_rows : (o : DecodeOrder) (s t : Shown) (far new : FarState) (r : Reply)
 outdated_rows o s t far new r es i reply x = same_rows s t far new
     (subst (λ (q : Reply). LandsRow o far new q es s t) reply x)
 
-land_rows : (order : Option Kept) (s t : Shown) (far new : FarState) (r : Reply) (es : List Event)
+pub land_rows : (order : Option Kept) (s t : Shown) (far new : FarState) (r : Reply) (es : List Event)
     → Sound s far → Sound t new → LeavesWords far new → LandRule order far new r es
     → LandEffect order far new r es s t → KeepsRows s far t new
 land_rows None s t far new r es before behind leaves rule x = same_rows s t far new x

@@ -10,6 +10,7 @@ use Rattle.cb_types.specs.declared.config.Config.{Config}
 use Rattle.cb_types.specs.declared.handle.Handle.{Handle}
 use Rattle.cb_types.specs.declared.job.Job.{Job}
 use Rattle.cb_types.specs.declared.job.Job.TheVariants.{Make, Read, Write, Free, Swap, Filter, Evict, Begin, Ship, Commit, Abort}
+use Rattle.cb_types.specs.declared.order.Kept.{Kept}
 use Rattle.cb_types.specs.declared.request.Request.{Request}
 use Rattle.cb_types.specs.declared.request.Request.TheVariants as line
 use Rattle.cb_types.specs.declared.reply.Reply.{Reply}
@@ -23,6 +24,7 @@ use Rattle.cb_world.specs.Now.Now.{held}
 use Rattle.cb_world.specs.Pinned.{with_word}
 use Rattle.cb_world.specs.Plain.{Words}
 use Rattle.cb_world.specs.StillWords.{stamp_at, contents_at, with_hot}
+use Rattle.cb_world.specs.Seats.{order_of}
 use Rattle.cb_world.specs.World.{WorldState, IsKnown, IsSoundWorld, word_at}
 use Rattle.cb_world.proofs.Laws.{StepKeeps}
 use Rattle.cb_mutate.specs.CallStep.{with_seen}
@@ -41,7 +43,7 @@ use Rattle.cb_core.specs.Jobs.{IsJob}
 use Rattle.cb_core.specs.Parts.{Holding, NeverDeclined, WithRoom, at_once, no_room, won, most_evictions, WhereItIs, near, declined, stays_far, brought, not_far, was_far}
 use Rattle.cb_core.specs.Pinning.{scope_full, refused as pin_refused, taken, not_pinned, given}
 use Rattle.cb_core.specs.Run.{LeadsSoundly}
-use Rattle.cb_core.specs.Step.{HoldOn, Step, StillMake, StillRead, StillWrite, StillFree, StillDecline, StillRoom, StillBring, StillWorks, AtomicStep, TurnStep, worn, done, held as other_holds, free as alone}
+use Rattle.cb_core.specs.Step.{HoldOn, Step, StillMake, StillRead, StillWrite, StillFree, StillDecline, StillRoom, StillBring, StillWorks, AtomicStep, TurnStep, worn, done, held as other_holds, free as alone, holding_of, ordered, OrderTurn, late as too_late, made as was_made}
 use Rattle.cb_core.specs.Unmoved.{IsUnmoved, HasPin, KeepsPinned, LeadsPinned, StaysPinned}
 use Rattle.cb_core.proofs.OpenKeptSteps.{with_stored}
 use Rattle.cb_core.proofs.HoldingFixed.{give_leaves, take_leaves}
@@ -49,6 +51,7 @@ use Rattle.cb_core.proofs.OpenStores.{others_here}
 use Rattle.cb_core.proofs.Changes.{read_leaves, write_leaves, free_leaves}
 use Rattle.cb_core.proofs.Settings.{step_settings}
 use Rattle.cb_core.proofs.StillParts.{next_free}
+use Rattle.cb_core.proofs.OrderedKeeps.{with_has_kept}
 use Rattle.cb_core.proofs.TurnCalls.{held_at, held_then}
 use Rattle.cb_core.proofs.TurnCallsKept.{HasKept, kept_room, kept_bring, kept_step, once_known, same_holding}
 use Rattle.cb_core.proofs.TurnCallsMake.{make_crammed}
@@ -321,6 +324,25 @@ turn_pinned j w new r sound after ok (done few works seats) k some behind =
       bytes = ap bytes_of e;
     }
 
+-- so of a turn that hands an order out or takes one
+order_pinned : (j : Job) (w new : WorldState) (order keeps : Option Kept) (r : Reply)
+    → IsSoundWorld w → IsSoundWorld new
+    → OrderTurn j order (holding_of w) r keeps (holding_of new) → KeepsPinned w new
+order_pinned j w new order keeps r sound after (too_late end is same stays) k some behind =
+    unmoved_same w.desk new.desk k (ap (λ (a : Holding Words). a.desk) stays)
+order_pinned j w new order keeps r sound after (was_made few step) k some behind =
+    let p = held_here w k sound some in
+    let known = once_known w j sound.shown sound.known in
+    let z = kept_fixed (held_at w j) (held_then new) sound.shown after.shown k
+    (with_has_kept j order keeps (held_at w j) (held_then new) r sound.shown known step) after.known p in
+    let e = sym (holds new.desk new.far after.shown k after.known (held_here new k after behind)) ∙ z.1
+    ∙ holds w.desk (held_at w j).far sound.shown k known p in record {
+      place = ap place_of z.0;
+      len = ap len_of z.0;
+      version = ap version_in e;
+      bytes = ap bytes_of e;
+    }
+
 -- a word that keeps its place and its length
 pub touched : (x y : Words) (h v k : ℕ) → h < length x.words → y ≡ with_word x h v
     → place_of v ≡ place_of (word_at x h) → len_of v ≡ len_of (word_at x h) → IsUnmoved k x y
@@ -415,6 +437,8 @@ step_pinned (event.Turn seat j) w new r sound after ok (other_holds holder off h
     λ k some still. unmoved_same w.desk new.desk k (ap (λ (v : WorldState). v.desk) same)
 step_pinned (event.Turn seat j) w new r sound after ok (alone none step) =
     turn_pinned j w new r sound after ok.1 step
+step_pinned (event.Turn seat j) w new r sound after ok (ordered keeps off none turn seats) =
+    order_pinned j w new (order_of w.seats seat) keeps r sound after turn
 step_pinned (event.Step seat atomic) w new r sound after ok step =
     atomic_pinned seat atomic w new r sound ok.1 step
 

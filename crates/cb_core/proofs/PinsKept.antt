@@ -1,10 +1,27 @@
 -- The world stays sound through a pin and its end.
-use Rattle.std.proofs.Common.{ℕ, ◌<◌, length, refl, sym, ◌∙◌, subst, arith}
+use Rattle.std.proofs.Common.{◌≡◌, ℕ, ◌<◌, List, length, refl, sym, ◌∙◌, subst, arith}
 use Rattle.cb_types.specs.declared.reply.Reply.{Reply}
+use Rattle.cb_world.specs.declared.seats.Pin.{Pin}
+use Rattle.cb_world.specs.declared.shown.Shown.{Shown}
+use Rattle.cb_world.specs.FarState.{FarState}
+use Rattle.cb_world.specs.Orders.{AreOrdersKept}
+use Rattle.cb_world.specs.Pinned.{with_word}
+use Rattle.cb_world.specs.Plain.{Words}
+use Rattle.cb_world.specs.Seats.{SeatState, seat_at, with_pins}
 use Rattle.cb_world.specs.StillWords.{stamp_at}
-use Rattle.cb_world.specs.World.{WorldState, IsSoundWorld}
-use Rattle.cb_world.proofs.Laws.{open_word, orders_kept, pins_hold, pins_leave, pin_sound, unpin_sound, pin_counts}
+use Rattle.cb_world.specs.World.{IsKnown, WorldState, IsSoundWorld}
+use Rattle.cb_world.proofs.Laws.{known_orders, open_word, orders_kept, orders_then, seat_beside, pins_hold, pins_leave, pin_sound, unpin_sound, pin_counts}
 use Rattle.cb_core.specs.Pinning.{PinStep, scope_full, refused, taken, UnpinStep, not_pinned, given}
+
+-- other pins of a seat leave every order kept, where local memory stays
+pins_keep : (x y : Words) (far : FarState) (s t : Shown) (seats : List SeatState) (seat : ℕ)
+    (pins : List Pin) → IsKnown x far s → IsKnown y far t → y.memory ≡ x.memory
+    → AreOrdersKept s far seats → AreOrdersKept t far (with_pins seats seat pins)
+pins_keep x y far s t seats seat pins k l same kept =
+    orders_kept t far seats (with_pins seats seat pins)
+    (seat_beside (λ (z : SeatState). z.order) seats seat (record (seat_at seats seat) { pins = pins })
+    refl)
+    (orders_then s t far far seats (known_orders x y far s t k l same) kept)
 
 pub pin_step_sound : (w new : WorldState) (seat h : ℕ) (r : Reply) → IsSoundWorld w → seat < 64
     → h < w.desk.settings.handles → PinStep seat h w r new → IsSoundWorld new
@@ -27,7 +44,8 @@ pin_step_sound w new seat h r sound within below (taken room may reply t) =
       ongoing = open_word w.desk w.far w.seats _ h t.word.word may.here (t.word.takes.state ∙ may.here)
           lt (pins_leave w.seats seat _) sound.ongoing;
       one = pins_hold w.seats seat _ sound.one;
-      orders = orders_kept w.seats seat _ refl sound.orders;
+      orders = pins_keep w.desk (with_word w.desk h t.word.word) w.far sound.shown _ w.seats seat _ sound.known z.0 refl
+          sound.orders;
       counted = sound.counted;
     })
 
@@ -52,6 +70,7 @@ unpin_step_sound w new seat h r sound within below (given reply t) =
       ongoing = open_word w.desk w.far w.seats _ h t.word.word here (t.word.gives.state ∙ here) lt
           (pins_leave w.seats seat _) sound.ongoing;
       one = pins_hold w.seats seat _ sound.one;
-      orders = orders_kept w.seats seat _ refl sound.orders;
+      orders = pins_keep w.desk (with_word w.desk h t.word.word) w.far sound.shown _ w.seats seat _ sound.known z.0 refl
+          sound.orders;
       counted = sound.counted;
     })

@@ -14,6 +14,7 @@ use Rattle.cb_evict.specs.EvictStep.{IsEvictStep, few_spans, few_nodes, made}
 use Rattle.cb_swapin.specs.SwapStep.{IsSwapped}
 use Rattle.cb_core.specs.Parts.{Holding, WithRoom, at_once, no_room, won, most_evictions}
 use Rattle.cb_core.specs.Step.{HoldOn, StillBring, StillEvict, StillRoom, StillSwap}
+use Rattle.cb_core.proofs.OrdersCounted.{recounted_kept}
 use Rattle.cb_core.proofs.StillFarJobs.{known_far}
 
 -- the far state, where so many turns were counted, by job in this way
@@ -49,6 +50,9 @@ module _ (turns : ℕ) (by_job : List ℕ) where
             after
             (then.3 seats
             (open_same a.desk (rejobbed turns by_job a.far) a.far s seats k before ongoing)),
+        λ o kept. recounted_kept then.0 b.far turns by_job o (then.4 o
+            (recounted_kept s (rejobbed turns by_job a.far) a.far.counts.turns a.far.counts.by_job o
+            kept)),
       )
 
   -- an eviction

@@ -12,6 +12,7 @@ use Rattle.cb_types.specs.declared.job.Job.{Job}
 use Rattle.cb_types.specs.declared.job.Job.TheVariants as job
 use Rattle.cb_types.specs.declared.request.Request.{Request}
 use Rattle.cb_types.specs.declared.request.Request.TheVariants.{Pin as PinLine, Write as WriteLine}
+use Rattle.cb_types.specs.declared.order.Kept.{Kept}
 use Rattle.cb_types.specs.declared.reply.Reply.{Reply}
 use Rattle.cb_types.specs.declared.reply.Reply.TheVariants as answer
 use Rattle.cb_model.specs.declared.object.Object.TheVariants.{Held, Freed}
@@ -30,7 +31,7 @@ use Rattle.cb_world.specs.Now.Now.{held}
 use Rattle.cb_world.specs.OpenSteps.{next_word}
 use Rattle.cb_world.specs.Pinned.{with_word}
 use Rattle.cb_world.specs.Plain.{Words}
-use Rattle.cb_world.specs.Seats.{IsNewestOf, SeatState, idle_seat, pins_of_seat, seat_at, with_holds, with_pins}
+use Rattle.cb_world.specs.Seats.{IsNewestOf, SeatState, idle_seat, pins_of_seat, order_of, seat_at, with_holds, with_order, with_pins}
 use Rattle.cb_world.specs.StillWords.{stamp_at, contents_at}
 use Rattle.cb_world.specs.World.{WorldState, IsKnown, IsSoundWorld, word_at}
 use Rattle.cb_world.proofs.Laws.{pinned_now, unpinned_now, pin_counts}
@@ -46,10 +47,12 @@ use Rattle.cb_core.specs.Called.{AreBegun, ClaimCall, called_as, call_of, claim_
 use Rattle.cb_core.specs.Claiming.{ClaimStep, claim_reply, refused as claim_refused, taken as claim_taken, StoreStep, not_claimed as none_stored, nothing_left, stored, stamped, SettleStep, not_claimed as none_settled, not_stored, settled}
 use Rattle.cb_core.specs.Events.{IsEvent}
 use Rattle.cb_core.specs.Holding.{TakeStep, held as lock_held, taken as lock_taken, GiveStep, not_held, given as lock_given}
-use Rattle.cb_core.specs.Jobs.{IsJob}
+use Rattle.cb_core.specs.Jobs.{IsJob, NeedsNoOrder}
 use Rattle.cb_core.specs.NowIn.{claim_on, now_in}
+use Rattle.cb_core.specs.Parts.{Holding}
 use Rattle.cb_core.specs.Pinning.{PinStep, scope_full, refused, taken, pin_refusal, UnpinStep, not_pinned, given}
-use Rattle.cb_core.specs.Step.{Step, TurnStep, worn, done, held as other_holds, free}
+use Rattle.cb_core.specs.Step.{Step, TurnStep, worn, done, held as other_holds, free, holding_of, ordered, OrderTurn, late as too_late, made as was_made}
+use Rattle.cb_core.specs.Turned.{once_counted}
 use Rattle.cb_core.proofs.CallsBeside.{CallsCome, IsObjectCall, comes_none, call_comes, make_comes, on_read, on_write, on_free, on_pinned}
 use Rattle.cb_core.proofs.ClaimOn.{claim_set}
 use Rattle.cb_core.proofs.ClaimsBegun.{begun_beside, begun_still, claim_begun, settle_begun, store_begun}
@@ -61,7 +64,8 @@ use Rattle.cb_core.proofs.OpenFrame.{claim_leaves, store_leaves, settle_leaves}
 use Rattle.cb_core.proofs.OpenKeptSteps.{with_stamp, with_stored}
 use Rattle.cb_core.proofs.OpenSteps.{here_moving}
 use Rattle.cb_core.proofs.TurnCalls.{read_turn, write_turn, free_turn, make_turn, evict_turn, begin_turn, ship_turn, commit_turn, abort_turn, swap_turn, crash_turn, far_map, is_done, turn_first, filter_turn}
-use Rattle.cb_core.proofs.TurnCallsKept.{known_same}
+use Rattle.cb_core.proofs.OrderedKeeps.{order_first, with_has_kept}
+use Rattle.cb_core.proofs.TurnCallsKept.{known_same, once_known}
 use Rattle.cb_core.proofs.TurnCallsMap.{IsSameMap}
 use Rattle.cb_core.proofs.TurnCallsNodes.{IsMapLost}
 
@@ -507,6 +511,49 @@ lock_goes before claims seat w new c same seats =
     (subst (λ (x : Words). IsKnown x w.far c.after.shown) same.desk
     (subst (λ (f : FarState). IsKnown new.desk f c.after.shown) same.far c.after.known))))
 
+-- ---- a turn that hands an order out or takes one
+-- it is no call
+ordered_none : (before : List Called) (claims : List ClaimCall) (seat : ℕ) (j : Job) (r : Reply)
+    → (NeedsNoOrder j → ⊥) → called_as before claims (event.Turn seat j) r ≡ []
+ordered_none before claims seat job.Gather r off = refl
+ordered_none before claims seat job.Install r off = refl
+ordered_none before claims seat (job.Fetch handle) r off = refl
+ordered_none before claims seat job.Land r off = refl
+ordered_none before claims seat j r off = absurd (off tt)
+
+-- what every object holds stays
+ordered_now : (j : Job) (w new : WorldState) (order keeps : Option Kept) (r : Reply)
+    → (before : IsSoundWorld w) → (after : IsSoundWorld new)
+    → OrderTurn j order (holding_of w) r keeps (holding_of new)
+    → (new.far.made ≡ w.far.made)
+    × ((h : ℕ) → now after.shown new.far h ≡ now before.shown w.far h)
+ordered_now j w new order keeps r before after (too_late end is same stays) = (
+  ap (λ (a : Holding Words). a.far.made) stays,
+  λ h. ap (λ (a : Holding Words). now after.shown a.far h) stays
+      ∙ known_same w.desk w.far before.shown after.shown h before.known
+      (subst (λ (a : Holding Words). IsKnown a.desk a.far after.shown) stays after.known),
+)
+ordered_now j w new order keeps r before after (was_made few step) =
+    let z = with_has_kept j order keeps (once_counted (holding_of w) j) (holding_of new) r before.shown
+    (once_known w j before.shown before.known) step in (
+      (λ i. (z.made i).1),
+      λ h. known_same new.desk new.far z.shown after.shown h z.known after.known ∙ z.same_now h,
+    )
+
+ordered_goes : (before : List Called) (claims : List ClaimCall) (seat : ℕ) (j : Job) (r : Reply)
+    (w new : WorldState) → (c : AroundEvent before claims w new) → (order keeps : Option Kept)
+    → (NeedsNoOrder j → ⊥) → OrderTurn j order (holding_of w) r keeps (holding_of new)
+    → new.seats ≡ with_order w.seats seat keeps
+    → EventGoes before claims (event.Turn seat j) r w new c.after
+ordered_goes before claims seat j r w new c order keeps off turn seats =
+    let z = ordered_now j w new order keeps r c.at_first c.after turn in
+    subst (λ (cs : List Called). GoesAs before cs w new c.after)
+    (sym (ordered_none before claims seat j r off))
+    (none_goes before claims w new c z.0
+    (λ h. in_same w new c.at_first.shown c.after.shown
+    (λ k. ap (λ (l : List SeatState). claim_on l k) seats
+    ∙ claim_set w.seats seat (record (seat_at w.seats seat) { order = keeps }) k refl) h (z.1 h)))
+
 -- ---- every event
 
 pub in_words_of : (w : WorldState) (h : ℕ) → IsSoundWorld w → h < w.desk.settings.handles
@@ -520,6 +567,8 @@ event_goes before claims (event.Turn seat j) r w new c ok (other_holds holder of
     held_goes before claims seat holder j r w new c is same
 event_goes before claims (event.Turn seat j) r w new c ok (free none step) =
     turn_goes before claims seat j r w new c ok.1 step
+event_goes before claims (event.Turn seat j) r w new c ok (ordered keeps off none turn seats) =
+    ordered_goes before claims seat j r w new c (order_of w.seats seat) keeps off turn seats
 event_goes before claims (event.Step seat (atomic.Load handle)) r w new c ok step =
     same_goes before claims w new c step.1
 event_goes before claims (event.Step seat (atomic.Pin handle)) r w new c ok step =
@@ -550,6 +599,8 @@ event_begun claims (event.Turn seat j) r w new sound ok (other_holds holder off 
     begun_still claims w.seats new.seats (ap (λ (v : WorldState). v.seats) same) begun
 event_begun claims (event.Turn seat j) r w new sound ok (free none step) begun =
     begun_still claims w.seats new.seats (turn_seats j w new r step) begun
+event_begun claims (event.Turn seat j) r w new sound ok (ordered keeps off none turn seats) begun =
+    subst (AreBegun claims) (sym seats) (begun_beside claims w.seats seat _ refl begun)
 event_begun claims (event.Step seat (atomic.Load handle)) r w new sound ok step begun =
     begun_still claims w.seats new.seats (ap (λ (v : WorldState). v.seats) step.1) begun
 event_begun claims (event.Step seat (atomic.Pin handle)) r w new sound ok (scope_full full is same) begun =
@@ -582,6 +633,8 @@ event_first (event.Turn seat j) r w new sound (free none (worn end is same)) =
     ap (λ (v : WorldState). v.far.first) same
 event_first (event.Turn seat j) r w new sound (free none (done few works seats)) =
     turn_first j w new r sound few (done few works seats)
+event_first (event.Turn seat j) r w new sound (ordered keeps off none turn seats) =
+    order_first j (order_of w.seats seat) keeps (holding_of w) (holding_of new) r turn
 event_first (event.Step seat (atomic.Load handle)) r w new sound step =
     ap (λ (v : WorldState). v.far.first) step.1
 event_first (event.Step seat (atomic.Pin handle)) r w new sound (scope_full full is same) =

@@ -5,16 +5,18 @@ use Rattle.cb_types.specs.declared.reply.Reply.{Reply}
 use Rattle.cb_world.specs.Joining.{JoiningState}
 use Rattle.cb_world.specs.Leaving.{LeavingState}
 use Rattle.cb_world.specs.Plain.{Words}
+use Rattle.cb_world.specs.Seats.{order_of}
 use Rattle.cb_world.specs.World.{WorldState}
 use Rattle.cb_core.specs.declared.event.Atomic.TheVariants.{Load, Pin, Unpin, Claim, Store, Settle, Take, Give}
 use Rattle.cb_core.specs.declared.event.Event.{Event}
 use Rattle.cb_core.specs.declared.event.Event.TheVariants as event
 use Rattle.cb_core.specs.Parts.{Holding}
 use Rattle.cb_core.specs.Pinning.{PinStep, scope_full, refused, taken, UnpinStep, not_pinned, given}
-use Rattle.cb_core.specs.Step.{StillWorks, TurnStep, worn, done, held, free, Step}
+use Rattle.cb_core.specs.Step.{StillWorks, TurnStep, worn, done, held, free, holding_of, ordered, Step}
 use Rattle.cb_core.specs.Turned.{counted}
 use Rattle.cb_core.proofs.HoldingFixed.{take_leaves, give_leaves}
 use Rattle.cb_core.proofs.OpenFrame.{claim_leaves, store_leaves, settle_leaves}
+use Rattle.cb_core.proofs.OrderedKeeps.{order_settings}
 use Rattle.cb_core.proofs.PartsStay.{Steady, works_left}
 
 works_settings : (job : Job) (a b : Holding Words) (r : Reply) → StillWorks job a r b
@@ -51,6 +53,8 @@ pub step_settings : (w new : WorldState) (e : Event) (r : Reply) → Step w e r 
 step_settings w new (event.Turn seat job) r (held holder off holds reply same) =
     ap (λ (v : WorldState). v.desk.settings) same
 step_settings w new (event.Turn seat job) r (free none step) = turn_settings w new job r step
+step_settings w new (event.Turn seat job) r (ordered keeps off none turn seats) =
+    order_settings job (order_of w.seats seat) keeps (holding_of w) (holding_of new) r turn
 step_settings w new (event.Step seat (Load handle)) r step =
     ap (λ (v : WorldState). v.desk.settings) step.1
 step_settings w new (event.Step seat (Pin handle)) r step = pin_settings w new seat handle.n r step

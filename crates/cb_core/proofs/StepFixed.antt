@@ -1,41 +1,53 @@
 -- An event leads from a sound world to one reply and one world; and so do events one after another.
-use Rattle.std.proofs.Common.{◌≡◌, ℕ, List, [], ◌∷◌, length, None, refl, sym, ap, ◌∙◌, subst, arith, inl, inr}
+use Rattle.std.proofs.Common.{◌≡◌, ℕ, List, [], ◌∷◌, length, Option, None, Some, refl, sym, ap, ◌∙◌, subst, arith, inl, inr}
 use Rattle.std.specs.List.{remove}
 use Rattle.std.proofs.lemmas.Bool.{cases_order}
+use Rattle.std.proofs.lemmas.List.{set-get_or}
 use Rattle.cb_member.specs.declared.names.Code.{Code}
 use Rattle.cb_types.specs.declared.handle.Handle.{Handle}
 use Rattle.cb_types.specs.declared.handle.SetId.{SetId}
 use Rattle.cb_types.specs.declared.job.Job.{Job}
-use Rattle.cb_types.specs.declared.job.Job.TheVariants.{Make, Read, Write, Free, Swap, Filter, Evict, Begin, Ship, Commit, Abort}
+use Rattle.cb_types.specs.declared.job.Job.TheVariants.{Make, Read, Write, Free, Swap, Filter, Evict, Begin, Ship, Commit, Abort, Fetch, Gather, Install, Land}
+use Rattle.cb_types.specs.declared.order.EncodeOrder.{EncodeOrder}
+use Rattle.cb_types.specs.declared.order.Kept.{Kept}
+use Rattle.cb_types.specs.declared.order.Kept.TheVariants.{Encode}
 use Rattle.cb_types.specs.declared.reply.Reply.{Reply}
 use Rattle.cb_types.specs.declared.reply.Reply.TheVariants as answer
+use Rattle.cb_types.specs.Orders.{IsEncodable}
 use Rattle.cb_gf256.specs.InRange.{IsInRange}
 use Rattle.cb_world.specs.declared.homes.Home.{Home}
 use Rattle.cb_world.specs.declared.seats.Pin.{Pin}
 use Rattle.cb_world.specs.declared.shown.Shown.{Shown}
 use Rattle.cb_world.specs.FarState.{FarState}
+use Rattle.cb_world.specs.Orders.{KeepsOrder}
 use Rattle.cb_world.specs.Pinned.{with_word}
 use Rattle.cb_world.specs.Plain.{Words}
-use Rattle.cb_world.specs.Seats.{IsNewestOf, pins_of_seat, with_pins}
+use Rattle.cb_world.specs.Seats.{IsNewestOf, SeatState, idle_seat, order_of, pins_of_seat, with_order, with_pins}
 use Rattle.cb_world.specs.Sound.{Sound}
 use Rattle.cb_world.specs.World.{WorldState, IsSoundWorld}
 use Rattle.cb_world.proofs.Laws.{IsOneEnd, home_same}
 use Rattle.cb_mutate.proofs.Laws.{free_step_fixes, make_step_fixes, read_step_fixes, write_step_fixes}
 use Rattle.cb_evict.specs.declared.eviction.Eviction.TheVariants.{Set}
 use Rattle.cb_evict.specs.EvictStep.{IsEvictStep, few_spans, few_nodes, made}
-use Rattle.cb_evict.proofs.Laws.{abort_step_fixes, begin_step_fixes, commit_step_fixes, evict_step_fixes, counted_step_fixes, ship_step_fixes}
+use Rattle.cb_evict.specs.Gathering.{gathered_order, gathered_reply}
+use Rattle.cb_evict.proofs.Laws.{gather_step_fixes, install_step_fixes, abort_step_fixes, begin_step_fixes, commit_step_fixes, evict_step_fixes, counted_step_fixes, ship_step_fixes}
 use Rattle.cb_filter.proofs.Laws.{filter_step_fixes}
 use Rattle.cb_swapin.specs.SwapStep.{IsSwapStep}
-use Rattle.cb_swapin.proofs.Laws.{swap_step_fixes}
+use Rattle.cb_swapin.specs.declared.fetching.Fetching.{Fetching}
+use Rattle.cb_swapin.specs.FetchStep.{FetchStep, fetching_order, fetching_reply}
+use Rattle.cb_swapin.proofs.Laws.{fetch_fixes, land_cases, land_step_fixes, swap_step_fixes}
 use Rattle.cb_core.specs.declared.event.Atomic.{Atomic}
 use Rattle.cb_core.specs.declared.event.Atomic.TheVariants.{Load, Pin as PinOn, Unpin, Claim, Store, Settle, Take, Give}
 use Rattle.cb_core.specs.declared.event.Event.{Event}
 use Rattle.cb_core.specs.declared.event.Event.TheVariants as event
+use Rattle.cb_core.specs.Jobs.{NeedsNoOrder}
+use Rattle.cb_core.specs.OrderParts.{FetchesBy, landed_order}
+use Rattle.cb_core.specs.OrderParts.FetchesBy.{not_far, was_far}
 use Rattle.cb_core.specs.Parts.{Holding, NeverDeclined, most_evictions}
 use Rattle.cb_core.specs.Pinning.{IsPinGiven, IsPinTaken, PinStep, scope_full, refused, taken, UnpinStep, not_pinned, given}
 use Rattle.cb_core.specs.Run.{IsOnlyRun, IsOnlyStep, LeadsSoundly}
-use Rattle.cb_core.specs.Step.{AtomicStep, Leads, SeatTurn, held, free, Step, StillBring, StillDecline, StillFind, StillMake, StillRead, StillRoom, StillSwap, StillWorks, StillWrite, TurnStep, worn, done}
-use Rattle.cb_core.specs.Turned.{counted}
+use Rattle.cb_core.specs.Step.{AtomicStep, Leads, OrderTurn, late as too_late, made as was_made, SeatTurn, held, free, holding_of, ordered, Step, still_orders, StillFetch, StillLand, StillWith, Works, StillBring, StillDecline, StillFind, StillMake, StillRead, StillRoom, StillSwap, StillWorks, StillWrite, TurnStep, worn, done}
+use Rattle.cb_core.specs.Turned.{counted, once_counted}
 use Rattle.cb_core.proofs.Counting.{counted_sound}
 use Rattle.cb_core.proofs.FarJobs.{far_job}
 use Rattle.cb_core.proofs.HoldingFixed.{give_fixed, one_holder, take_fixed}
@@ -200,6 +212,128 @@ turn_fixed job w a b r q sound (done few x s) (done few' y t) =
           (s ∙ sym t),
     )
 
+-- ---- a turn that hands an order out or takes one
+-- two such turns have one reply and one end, and the seat keeps the same behind them
+record IsOneOrdered (r q : Reply) (keeps also : Option Kept) (b c : Holding Words) : Type 0 where
+  reply : r ≡ q
+  kept : keeps ≡ also
+  ends : b ≡ c
+
+land_fixed : (order : Option Kept) (a : Holding Words) → IsFixed (StillLand order) a
+land_fixed order a r q b c x y =
+    both r q b c (land_step_fixes a.desk b.desk c.desk a.far b.far c.far order r q x.0 y.0)
+
+pub land_refuses : (order : Option Kept) → PartLeavesAll (StillLand order) answer.NoFrame
+land_refuses order a b x = land_cases (b ≡ a) a.desk b.desk a.far b.far order answer.NoFrame x.0
+    (λ same. same_holding a b same.0 same.1)
+    (λ o at brings. same_holding a b brings.change.0 brings.change.1)
+
+-- the rows of one position are one order
+rows_fixed : (h : ℕ) (a b c : Holding Words) (g f : Fetching) → StillFetch h a g b
+    → StillFetch h a f c → (g ≡ f) × (b ≡ c)
+rows_fixed h a b c g f x y =
+    let homes : x.0 ≡ y.0 = home_same x.0 y.0 (sym x.1 ∙ y.1) in
+    let z = fetch_fixes y.0.set y.0.position a.far b.far c.far g f
+    (subst (λ (home : Home). FetchStep home.set home.position a.far b.far g) homes x.3) y.3 in
+    (z.0, λ i. record { desk = (x.2 ∙ sym y.2) i; far = z.1 i })
+
+fetch_fixed : (h : ℕ) (order keeps also : Option Kept) (a b c : Holding Words) (r q : Reply)
+    → FetchesBy still_orders h order a r keeps b → FetchesBy still_orders h order a q also c
+    → IsOneOrdered r q keeps also b c
+fetch_fixed h order keeps also a b c r q (not_far find off same) (not_far seek on other) =
+    let z = find_fixed h a r q b c find seek in
+    record { reply = z.0; kept = same ∙ sym other; ends = z.1 }
+fetch_fixed h order keeps also a b c r q (not_far find off same) (was_far n f seek rows is keep) =
+    absurd (off (find_fixed h a r answer.NotHere b n find seek).0)
+fetch_fixed h order keeps also a b c r q (was_far m g find rows is keep) (not_far seek off same) =
+    absurd (off (find_fixed h a q answer.NotHere c m seek find).0)
+fetch_fixed h order keeps also a b c r q (was_far m g find rows is keep)
+    (was_far n f seek others also_is hold) =
+    let z = rows_fixed h a b c g f (subst (λ (d : Holding Words). StillFetch h d g b) find.1 rows)
+    (subst (λ (d : Holding Words). StillFetch h d f c) seek.1 others) in record {
+      reply = is ∙ ap fetching_reply z.0 ∙ sym also_is;
+      kept = keep ∙ ap (fetching_order order) z.0 ∙ sym hold;
+      ends = z.1;
+    }
+
+with_fixed : (job : Job) (order keeps also : Option Kept) (a b c : Holding Words) (r q : Reply)
+    → IsReadyToWork a → ((o : EncodeOrder) → order ≡ Some (Encode o) → IsEncodable o)
+    → StillWith job order a r keeps b → StillWith job order a q also c
+    → IsOneOrdered r q keeps also b c
+with_fixed Gather order keeps also a b c r q ready fits (g, x, is, same) (f, y, also_is, other) =
+    let z = gather_step_fixes a.desk b.desk c.desk a.far b.far c.far g f ready.range x.0 y.0 in record {
+      reply = is ∙ ap gathered_reply z.1 ∙ sym also_is;
+      kept = same ∙ ap (gathered_order order) z.1 ∙ sym other;
+      ends = λ i. record { desk = z.0.words i; far = z.0.far i };
+    }
+with_fixed Install order keeps also a b c r q ready fits (same, x, hold) (other, y, on) =
+    let z = install_step_fixes a.far b.far c.far r q order keeps also fits x y in record {
+      reply = z.reply;
+      kept = z.kept;
+      ends = λ i. record { desk = (same ∙ sym other) i; far = z.far i };
+    }
+with_fixed (Fetch handle) order keeps also a b c r q ready fits x y =
+    fetch_fixed handle.n order keeps also a b c r q x y
+with_fixed Land order keeps also a b c r q ready fits (x, same) (y, other) =
+    let z = with_room_fixed a.desk.settings.frames (StillLand order) StillRoom HasRange
+    (land_fixed order) (land_refuses order) room_fixed room_range most_evictions a ready.range r q b c
+    x y in record {
+      reply = z.0;
+      kept = same ∙ ap (landed_order order) z.0 ∙ sym other;
+      ends = z.1;
+    }
+with_fixed job order keeps also a b c r q ready fits never other = absurd never
+
+-- an order to encode that is kept can be run
+encodable : (s : Shown) (far : FarState) (order : Option Kept) → KeepsOrder s far order
+    → (o : EncodeOrder) → order ≡ Some (Encode o) → IsEncodable o
+encodable s far order kept o is =
+    (subst (KeepsOrder s far) is kept).fits
+
+order_fixed : (job : Job) (w : WorldState) (seat : ℕ) (keeps also : Option Kept)
+    (b c : Holding Words) (r q : Reply) → IsSoundWorld w
+    → OrderTurn job (order_of w.seats seat) (holding_of w) r keeps b
+    → OrderTurn job (order_of w.seats seat) (holding_of w) q also c
+    → IsOneOrdered r q keeps also b c
+order_fixed job w seat keeps also b c r q sound (too_late end e k s) (too_late last f l t) =
+    record { reply = e ∙ sym f; kept = k ∙ sym l; ends = s ∙ sym t }
+order_fixed job w seat keeps also b c r q sound (too_late end e k s) (was_made few y) =
+    absurd (omega (arith, end, few))
+order_fixed job w seat keeps also b c r q sound (was_made few x) (too_late end f l t) =
+    absurd (omega (arith, end, few))
+order_fixed job w seat keeps also b c r q sound (was_made few x) (was_made more y) =
+    with_fixed job (order_of w.seats seat) keeps also (once_counted (holding_of w) job) b c r q
+    (turn_ready w job sound)
+    (encodable sound.shown w.far (order_of w.seats seat) (sound.orders seat)) x y
+
+-- none of the other jobs does what such a turn does
+none_works : (job : Job) (w a : WorldState) (r : Reply) → (NeedsNoOrder job → ⊥)
+    → Works w.desk (counted w.far job) job r a.desk a.far → ⊥
+none_works Gather w a r off x = x.1
+none_works Install w a r off x = x.1
+none_works (Fetch handle) w a r off x = x.1
+none_works Land w a r off x = x.1
+none_works job w a r off x = off tt
+
+-- where it is refused for its number, it is refused as any other turn
+pub order_same : (seats : List SeatState) (seat : ℕ)
+    → with_order seats seat (order_of seats seat) ≡ seats
+order_same seats seat = set-get_or seats seat idle_seat
+
+free_ordered : (job : Job) (seat : ℕ) (w a b : WorldState) (r q : Reply) (also : Option Kept)
+    → (NeedsNoOrder job → ⊥) → TurnStep job w r a
+    → OrderTurn job (order_of w.seats seat) (holding_of w) q also (holding_of b)
+    → b.seats ≡ with_order w.seats seat also → (r ≡ q) × (a ≡ b)
+free_ordered job seat w a b r q also off (worn end e s) (too_late last f k t) seats = (
+  e ∙ sym f,
+  s ∙ sym (turned b w (ap (λ (h : Holding Words). h.desk) t) (ap (λ (h : Holding Words). h.far) t)
+      (seats ∙ ap (with_order w.seats seat) k ∙ order_same w.seats seat)),
+)
+free_ordered job seat w a b r q also off (worn end e s) (was_made few y) seats =
+    absurd (omega (arith, end, few))
+free_ordered job seat w a b r q also off (done few works same) turn seats =
+    absurd (none_works job w a r off works)
+
 -- a turn of a seat, by who holds the far lock
 seat_fixed : (seat : ℕ) (job : Job) (w a b : WorldState) (r q : Reply) → IsSoundWorld w
     → SeatTurn seat job w r a → SeatTurn seat job w q b → (r ≡ q) × (a ≡ b)
@@ -208,6 +342,21 @@ seat_fixed seat job w a b r q sound (held k off x e s) (held l out y f t) =
 seat_fixed seat job w a b r q sound (held k off x e s) (free none y) = absurd (off (none k x))
 seat_fixed seat job w a b r q sound (free none x) (held l out y f t) = absurd (out (none l y))
 seat_fixed seat job w a b r q sound (free none x) (free m y) = turn_fixed job w a b r q sound x y
+seat_fixed seat job w a b r q sound (held k off x e s) (ordered also needs none y t) =
+    absurd (off (none k x))
+seat_fixed seat job w a b r q sound (ordered keeps needs none x s) (held k off y f t) =
+    absurd (off (none k y))
+seat_fixed seat job w a b r q sound (free none x) (ordered also needs m y t) =
+    free_ordered job seat w a b r q also needs x y t
+seat_fixed seat job w a b r q sound (ordered keeps needs none x s) (free m y) =
+    let z = free_ordered job seat w b a q r keeps needs y x s in (sym z.0, sym z.1)
+seat_fixed seat job w a b r q sound (ordered keeps needs none x s) (ordered also off m y t) =
+    let z = order_fixed job w seat keeps also (holding_of a) (holding_of b) r q sound x y in (
+      z.reply,
+      turned a b (ap (λ (h : Holding Words). h.desk) z.ends)
+          (ap (λ (h : Holding Words). h.far) z.ends)
+          (s ∙ ap (with_order w.seats seat) z.kept ∙ sym t),
+    )
 
 -- ---- a pin and its end
 -- the newest pin on an object is one

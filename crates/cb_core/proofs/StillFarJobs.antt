@@ -6,11 +6,12 @@ use Rattle.cb_types.specs.declared.reply.Reply.{Reply}
 use Rattle.cb_world.specs.declared.shown.Shown.{Shown}
 use Rattle.cb_world.specs.FarState.{FarState}
 use Rattle.cb_world.specs.OpenWrites.{AreOpen}
+use Rattle.cb_world.specs.Orders.{LeavesWords}
 use Rattle.cb_world.specs.Plain.{Words}
 use Rattle.cb_world.specs.Seats.{SeatState}
 use Rattle.cb_world.specs.Sound.{Sound}
 use Rattle.cb_world.specs.World.{ArePinned, IsKnown}
-use Rattle.cb_world.proofs.Laws.{open_same}
+use Rattle.cb_world.proofs.Laws.{open_same, orders_then}
 use Rattle.cb_core.specs.FarJobs.{FarLacks, FarStep}
 use Rattle.cb_core.specs.Jobs.{IsJob}
 use Rattle.cb_core.specs.Parts.{Holding}
@@ -19,7 +20,8 @@ use Rattle.cb_core.specs.Turned.{AtFar, AtFarLacks}
 use Rattle.cb_core.proofs.Carried.{turn_rise}
 use Rattle.cb_core.proofs.FarJobs.{KeepsContents, StaysSound, far_job, note_of}
 use Rattle.cb_core.proofs.KeptParts.{IsGood, ArrivesBy}
-use Rattle.cb_core.proofs.StillParts.{Ran}
+use Rattle.cb_core.proofs.StillOrders.{Ran}
+use Rattle.cb_core.proofs.WordsTold.{far_orders}
 
 -- all is known of words that stay, where the far state is another sound one
 pub known_far : (x : Words) (far new : FarState) (s : Shown) → IsKnown x far s → Sound s new
@@ -49,9 +51,9 @@ open_after a b s seats same k sound ongoing =
 -- what a change of the far state alone comes to
 pub arrives_far : {N : FarState → FarState → Type 0} (c : Config) (seats : List SeatState)
     (a b : Holding Words) (Z : Type 0)
-    → (good : IsGood c seats a) → b.desk ≡ a.desk → StaysSound N c good.shown a.far b.far → Z
-    → ArrivesBy N c seats turn_rise a b Z
-arrives_far c seats a b Z good same x z = record {
+    → (good : IsGood c seats a) → b.desk ≡ a.desk → StaysSound N c good.shown a.far b.far
+    → LeavesWords a.far b.far → Z → ArrivesBy N c seats turn_rise a b Z
+arrives_far c seats a b Z good same x leaves z = record {
   is = z;
   good = record {
     settings = ap (λ (x : Words). x.settings) same ∙ good.settings;
@@ -60,6 +62,8 @@ arrives_far c seats a b Z good same x z = record {
     known = known_after a b good.shown same good.known x.sound;
     pinned = subst (λ (x : Words). ArePinned x seats) (sym same) good.pinned;
     ongoing = open_after a b good.shown seats same good.known x.sound good.ongoing;
+    orders = orders_then good.shown good.shown a.far b.far seats
+        (far_orders good.shown a.far b.far good.known.sound x.sound leaves) good.orders;
   };
   rises = x.stays.rises;
 }
@@ -69,7 +73,8 @@ pub far_arrives : (c : Config) (seats : List SeatState) (job : Job) (a b : Holdi
     (Z : Type 0) → IsJob c job → IsGood c seats a → b.desk ≡ a.desk → FarStep job a.far b.far r → Z
     → ArrivesBy (note_of job) c seats turn_rise a b Z
 far_arrives c seats job a b r Z ok good same step z = arrives_far c seats a b Z good same
-    ((far_job job).keeps c good.shown a.far b.far r ok good.configured good.known.sound step) z
+    ((far_job job).keeps c good.shown a.far b.far r ok good.configured good.known.sound step)
+    ((far_job job).words c good.shown a.far b.far r ok good.configured good.known.sound step) z
 
 pub far_part : (c : Config) (seats : List SeatState) (job : Job) → IsJob c job → KeepsContents job
     → (a b : Holding Words) (r : Reply) → IsGood c seats a → AtFar Ran (FarStep job) a r b
@@ -85,6 +90,9 @@ far_part c seats job ok holds a b r good (ran, step) =
         (far_job job).now holds c s a.far b.far r ok good.configured k.sound step,
         λ others ongoing. open_after a b s others ran.0 k
             ((far_job job).keeps c s a.far b.far r ok good.configured k.sound step).sound ongoing,
+        far_orders s a.far b.far k.sound
+            ((far_job job).keeps c s a.far b.far r ok good.configured k.sound step).sound
+            ((far_job job).words c s a.far b.far r ok good.configured k.sound step),
       ),
     )
 
@@ -94,4 +102,5 @@ pub far_lack : (c : Config) (seats : List SeatState) (job : Job)
     → ArrivesBy (note_of job) c seats turn_rise a b (StillFarLacks (FarLacks job) a b)
 far_lack c seats job a b good (ran, lacks) =
     arrives_far c seats a b (StillFarLacks (FarLacks job) a b) good ran.0
-    ((far_job job).lacks c good.shown a.far b.far good.configured good.known.sound lacks) (ran.0, lacks)
+    ((far_job job).lacks c good.shown a.far b.far good.configured good.known.sound lacks)
+    ((far_job job).lacked c good.shown a.far b.far good.configured good.known.sound lacks) (ran.0, lacks)

@@ -15,12 +15,14 @@ use Rattle.cb_filter.specs.FilterRule.{FilterRule}
 use Rattle.cb_filter.specs.FilterStep.{IsFilterStep, IsFreeIn, temp_of}
 use Rattle.cb_filter.specs.Plans.{Wants}
 use Rattle.cb_filter.specs.Seats.{temp_for}
-use Rattle.cb_filter.proofs.Laws.{filter_keeps, filter_step, filter_stopped, filter_stays}
+use Rattle.cb_filter.proofs.Laws.{filter_keeps, filter_leaves_words, filter_step, filter_stopped, filter_stays}
 use Rattle.cb_core.specs.Step.{StillFilter, StillFilterLacks}
 use Rattle.cb_core.specs.Turned.{Filters, FilterLacks}
 use Rattle.cb_core.proofs.KeptParts.{Carries, CarriesLack, arrives_same, arrives_step}
-use Rattle.cb_core.proofs.StillParts.{Ran, SaysAll}
+use Rattle.cb_core.proofs.StillOrders.{Ran, SaysAll, performs_orders}
 use Rattle.cb_core.proofs.TurnCallsKept.{same_holding}
+use Rattle.cb_core.proofs.WordsOwned.{filter_words}
+use Rattle.cb_core.proofs.WordsTold.{by_words}
 
 pub filter_part : (c : Config) (seats : List SeatState) (h : ℕ)
     → Carries c seats 1 (Filters Ran SaysAll c h) (StillFilter h)
@@ -30,6 +32,9 @@ filter_part c seats h a b r good p =
     (FilterEffect h far new r)) (sym good.settings) p in
     arrives_step c seats 1 a b (IsFilterStep x y far new h r) good
     (filter_stays c c.frames h far new r p.events p.rule) q
+    (performs_orders a b p
+    (λ s k. filter_leaves_words c.frames h far new r p.events p.rule)
+    (by_words far new p.events (FilterEffect h far new r) (filter_words h far new r p.events)))
     (λ s k. filter_step x y far new s h r k q) (λ z. (filter_keeps x y far new h r z).words)
 
 -- ---- want of memory

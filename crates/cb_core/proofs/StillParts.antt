@@ -1,5 +1,5 @@
 -- Each part of a turn over a still desk is a step, and leaves all known.
-use Rattle.std.proofs.Common.{◌≡◌, ◌⊎◌, ℕ, Bool, false, ◌<◌, List, length, Option, sym, ap, ◌∙◌, subst, arith, inl, inr}
+use Rattle.std.proofs.Common.{◌≡◌, ◌⊎◌, ℕ, Bool, false, ◌<◌, List, length, Option, refl, sym, ap, ◌∙◌, subst, arith, inl, inr}
 use Rattle.cb_ptr.specs.Word.{state_of, len_of, pins_of}
 use Rattle.cb_types.specs.declared.config.Config.{Config}
 use Rattle.cb_types.specs.Config.{IsAccepted}
@@ -10,32 +10,35 @@ use Rattle.cb_world.specs.declared.object.Object.{Object}
 use Rattle.cb_world.specs.declared.shown.Shown.{Shown}
 use Rattle.cb_world.specs.FarState.{FarState}
 use Rattle.cb_world.specs.Now.{is_gone}
+use Rattle.cb_world.specs.Orders.{LeavesOrders, LeavesWords}
 use Rattle.cb_world.specs.OpenWrites.{AreOpen}
 use Rattle.cb_world.specs.Placed.{place_in}
-use Rattle.cb_world.specs.Plain.{Words, Plain, Shows, IsSized}
+use Rattle.cb_world.specs.Plain.{Words}
+use Rattle.cb_world.specs.Played.{played}
 use Rattle.cb_world.specs.Seats.{SeatState}
 use Rattle.cb_world.specs.Shown.{Fits, object_at, never}
 use Rattle.cb_world.specs.Still.{IsStill}
 use Rattle.cb_world.specs.StillWords.{stamp_at}
 use Rattle.cb_world.specs.World.{IsKnown, ArePinned, word_at}
-use Rattle.cb_world.proofs.Laws.{found_exact, open_kept, open_same, StaysIf, stays_same, PerformsStill, RunsStill, runs_still, stays_still, told_exact}
+use Rattle.cb_world.proofs.Laws.{found_exact, open_kept, open_same, orders_then, StaysIf, stays_same, PerformsStill, RunsStill, runs_still, stays_still, told_exact, words_stay}
 use Rattle.cb_mutate.specs.Answered.{Answered}
 use Rattle.cb_mutate.specs.MakeRule.{MakeRule, MakeEffect, NeedsNewSpan, new_word}
 use Rattle.cb_mutate.specs.MakeStep.{IsMakeStep}
 use Rattle.cb_mutate.specs.ReadRule.{ReadRule, ReadEffect}
+use Rattle.cb_mutate.specs.FreeRule.{FreeEffect}
 use Rattle.cb_mutate.specs.CallStep.{IsReadStep, with_seen, IsWriteStep, IsOverwritten, IsFreeStep, IsTakenOut}
 use Rattle.cb_mutate.specs.StillReplies.{reply_as}
 use Rattle.cb_mutate.specs.WriteRule.{WriteRule, WriteEffect}
-use Rattle.cb_mutate.proofs.Laws.{free_step, make_step, free_stays, make_stays, read_step, failed_step, is_exact, ComesTo, comes, reply_comes, write_step}
+use Rattle.cb_mutate.proofs.Laws.{free_step, make_step, free_leaves_words, free_stays, make_leaves_words, make_stays, read_step, failed_step, is_exact, ComesTo, comes, reply_comes, write_step}
 use Rattle.cb_evict.specs.Evicting.{TouchesSpans}
 use Rattle.cb_evict.specs.EvictEffect.{EvictEffect}
 use Rattle.cb_evict.specs.EvictRule.{EvictRule}
 use Rattle.cb_evict.specs.EvictStep.{IsEvictStep}
 use Rattle.cb_evict.specs.Eviction.{CountsRule, reply_of}
-use Rattle.cb_evict.proofs.Laws.{evict_keeps, rule_weaker, counted_step, evict_step, evict_stopped, evict_stays}
+use Rattle.cb_evict.proofs.Laws.{evict_keeps, rule_weaker, counted_step, evict_step, evict_stopped, evict_stays, evicts_leave_words}
 use Rattle.cb_swapin.specs.Fetching.{far_given}
 use Rattle.cb_swapin.specs.SwapStep.{IsSwapStep}
-use Rattle.cb_swapin.proofs.Laws.{given_known, given_stays, swap_keeps, swap_stays, swap_step}
+use Rattle.cb_swapin.proofs.Laws.{given_known, given_leaves_words, given_stays, swap_keeps, swap_leaves_words, swap_stays, swap_step}
 use Rattle.cb_core.specs.Declining.{write_refusal}
 use Rattle.cb_core.specs.Parts.{Holding, NeverDeclined}
 use Rattle.cb_core.specs.Step.{StillMake, StillRead, StillWrite, StillFree, StillFind, StillDecline, StillEvict, StillRoom, StillSwap, StillMakeLacks, StillReadLacks, StillEvictLacks, StillSwapLacks}
@@ -43,14 +46,13 @@ use Rattle.cb_core.specs.Turned.{Makes, Reads, WritesObject, Frees, FindsWhere, 
 use Rattle.cb_core.proofs.Changes.{MayGo, read_leaves, write_leaves, free_leaves}
 use Rattle.cb_core.proofs.KeptParts.{IsGood, Rises, Arrives, Carries, CarriesLack, arrives_more, arrives_same, arrives_stays, arrives_step}
 use Rattle.cb_core.proofs.KeptPins.{seen_pinned, written_pinned, freed_pinned, new_pinned, no_pins}
+pub use Rattle.cb_core.proofs.StillOrders.{Ran, SaysAll}
+use Rattle.cb_core.proofs.StillOrders.{performs_orders}
+use Rattle.cb_core.proofs.SwapRows.{swap_rows}
 use Rattle.cb_core.proofs.TurnCallsKept.{same_holding}
-
--- what the still desk runs and shows
-abbrev pub Ran : Words → List Event → Words → Type 0
-Ran x es y = Plain x es y × (IsSized x → IsSized y)
-
-abbrev pub SaysAll : Words → Shown → Type 0
-SaysAll x s = IsSized x × Shows x s
+use Rattle.cb_core.proofs.TurnCarries.{live_in_set}
+use Rattle.cb_core.proofs.WordsOwned.{evict_words, free_words, make_words, read_words, write_words}
+use Rattle.cb_core.proofs.WordsTold.{by_words, far_orders}
 
 -- an operation that leaves the far state
 without_far : (x y : Words) (far new : FarState) (rules : List Event → Type 0)
@@ -67,11 +69,16 @@ without_far x y far new rules does p = record {
   effect = p.effect;
 }
 
+-- the words of sets are left where nothing changed
+same_left : (far new : FarState) → new ≡ far → LeavesWords far new
+same_left far new same = subst (LeavesWords far) (sym same) (words_stay far)
+
 -- ---- the calls on objects in local memory
 read_kept : (c : Config) (seats : List SeatState) (h : ℕ) (a b : Holding Words) (r : Reply)
-    (t : Shown) (Z : Type 0) → IsGood c seats a → b.far ≡ a.far → IsReadStep a.desk b.desk h r
-    → IsKnown b.desk b.far t → AreOpen b.desk b.far seats → Z → Arrives c seats 1 a b Z
-read_kept c seats h a b r t Z good same step known ongoing z =
+    (t : Shown) (Z : Type 0) → (good : IsGood c seats a) → b.far ≡ a.far → IsReadStep a.desk b.desk h r
+    → IsKnown b.desk b.far t → AreOpen b.desk b.far seats → LeavesOrders good.shown a.far t b.far
+    → Z → Arrives c seats 1 a b Z
+read_kept c seats h a b r t Z good same step known ongoing orders z =
     go (read_leaves a.desk b.desk h r step)
   where
     stays : StaysIf c 1 a.far b.far
@@ -79,10 +86,10 @@ read_kept c seats h a b r t Z good same step known ongoing z =
 
     go : (b.desk ≡ a.desk) ⊎ (b.desk ≡ with_seen a.desk h) → Arrives c seats 1 a b Z
     go (inl e) = arrives_stays c seats 1 a b t Z good stays known (ap (λ (x : Words). x.settings) e)
-        (subst (λ (x : Words). ArePinned x seats) (sym e) good.pinned) ongoing z
+        (subst (λ (x : Words). ArePinned x seats) (sym e) good.pinned) ongoing orders z
     go (inr e) = arrives_stays c seats 1 a b t Z good stays known (ap (λ (x : Words). x.settings) e)
         (subst (λ (x : Words). ArePinned x seats) (sym e) (seen_pinned a.desk seats h good.pinned))
-        ongoing z
+        ongoing orders z
 
 pub read_part : (c : Config) (seats : List SeatState) (h : ℕ)
     → Carries c seats 1 (Reads Ran SaysAll h) (StillRead h)
@@ -91,7 +98,11 @@ read_part c seats h a b r good p =
     let z = read_step a.desk b.desk a.far b.far good.shown h r good.known q in
     read_kept c seats h a b r _ (StillRead h a r b) good p.rule.0 z.0 z.1
     (open_kept a.desk b.desk a.far b.far (ReadRule h r) (ReadEffect h r) good.shown seats good.known q
-    good.ongoing) (z.0, p.rule.0)
+    good.ongoing)
+    (performs_orders a b p (λ s k. same_left a.far b.far p.rule.0)
+    (by_words a.far b.far p.events (ReadEffect h r) (read_words h a.far b.far r p.events))
+    good.shown _ good.known z.1)
+    (z.0, p.rule.0)
 
 pub write_part : (c : Config) (seats : List SeatState) (h at : ℕ) (bytes : List ℕ)
     → Carries c seats 1 (WritesObject Ran SaysAll h at bytes) (StillWrite h at bytes)
@@ -108,6 +119,11 @@ write_part c seats h at bytes a b r good p =
         good.shown seats good.known (without_far a.desk b.desk a.far b.far (WriteRule h at bytes r)
         (WriteEffect h at bytes r) p) good.ongoing
 
+    orders : (t : Shown) → IsKnown b.desk b.far t → LeavesOrders good.shown a.far t b.far
+    orders t known = performs_orders a b p (λ s k. same_left a.far b.far p.rule.0)
+        (by_words a.far b.far p.events (WriteEffect h at bytes r)
+        (write_words h at bytes a.far b.far r p.events)) good.shown t good.known known
+
     go : (t : Shown) → IsWriteStep a.desk b.desk h at bytes r → IsKnown b.desk b.far t
         → (b.desk ≡ a.desk) ⊎ ((pins_of (word_at a.desk h) ≡ 0)
         × ((n : ℕ) × IsOverwritten a.desk b.desk h n at bytes))
@@ -115,12 +131,14 @@ write_part c seats h at bytes a b r good p =
     go t step known (inl e) =
         arrives_stays c seats 1 a b t (StillWrite h at bytes a r b) good stays known
         (ap (λ (x : Words). x.settings) e)
-        (subst (λ (x : Words). ArePinned x seats) (sym e) good.pinned) ongoing (step, p.rule.0)
+        (subst (λ (x : Words). ArePinned x seats) (sym e) good.pinned) ongoing (orders t known)
+        (step, p.rule.0)
     go t step known (inr (free, (n, o))) =
         arrives_stays c seats 1 a b t (StillWrite h at bytes a r b) good stays known
         (ap (λ (x : Words). x.settings) o.left)
         (subst (λ (x : Words). ArePinned x seats) (sym o.left)
-        (written_pinned a.desk seats h n o.words good.pinned free)) ongoing (step, p.rule.0)
+        (written_pinned a.desk seats h n o.words good.pinned free)) ongoing (orders t known)
+        (step, p.rule.0)
 
 pub free_part : (c : Config) (seats : List SeatState) (h : ℕ)
     → Carries c seats 1 (Frees Ran SaysAll h) (StillFree h)
@@ -139,7 +157,10 @@ free_part c seats h a b r good p =
         (free_stays c h a.far b.far r p.events p.rule) known (ap (λ (x : Words). x.settings) o.left)
         (subst (λ (x : Words). ArePinned x seats) (sym o.left)
         (freed_pinned a.desk seats h n good.pinned (no_pins a.desk seats h good.pinned may)))
-        (open_kept a.desk b.desk a.far b.far _ _ good.shown seats good.known p good.ongoing) step
+        (open_kept a.desk b.desk a.far b.far _ _ good.shown seats good.known p good.ongoing)
+        (performs_orders a b p (λ s k. free_leaves_words s h a.far b.far r p.events k.sound p.rule)
+        (by_words a.far b.far p.events (FreeEffect h r) (free_words h a.far b.far r p.events))
+        good.shown t good.known known) step
 
 -- the next handle has an empty word, without pins
 pub next_free : (x : Words) (far : FarState) (s : Shown) → IsKnown x far s
@@ -175,7 +196,10 @@ make_part c seats bytes a b r good p =
         (subst (λ (x : Words). ArePinned x seats) (sym z.left)
         (new_pinned a.desk seats a.far.made a.far.first (length bytes) (place_in z.slot) z.words
         good.pinned (next_free a.desk a.far good.shown good.known more)
-        (new_pins (length bytes) (place_in z.slot)))) ongoing step
+        (new_pins (length bytes) (place_in z.slot)))) ongoing
+        (performs_orders a b p (λ s k. make_leaves_words c.handles bytes a.far b.far r p.events p.rule)
+        (by_words a.far b.far p.events (MakeEffect bytes a.far b.far r)
+        (make_words bytes a.far b.far r p.events)) good.shown t good.known known) step
 
 -- ---- looks at an object
 pub find_part : (c : Config) (seats : List SeatState) (h : ℕ)
@@ -246,7 +270,9 @@ evict_part c seats accepted a b r good p =
     let q = subst (λ (d : Config). PerformsStill x y far new (EvictRule far new r)
     (EvictEffect far new r)) (sym good.settings) p in
     arrives_step c seats 24 a b (IsEvictStep x y far new r) good
-    (evict_stays c far new r p.events accepted p.rule) q (λ s k. evict_step x y far new r s q k)
+    (evict_stays c far new r p.events accepted p.rule) q
+    (performs_orders a b p (λ s k. evicts_leave_words s far new r p.events k.sound p.rule)
+    (by_words far new p.events (EvictEffect far new r) (evict_words far new r p.events p.rule))) (λ s k. evict_step x y far new r s q k)
     (λ z. (evict_keeps x y far new r z).words)
 
 -- so is one that tells both counts
@@ -271,6 +297,11 @@ swap_part c seats h a b r good (home, at, p) =
     let id = home.set in let place = home.position in
     let z = arrives_step c seats 16 a b (IsSwapStep x y far new id place r) good
     (swap_stays c id place good.shown far new r p.events good.known.sound p.rule) p
+    (performs_orders a b p
+    (λ s k. swap_leaves_words s id place far new r p.events k.sound p.rule)
+    (λ s before behind leaves agree first e. swap_rows id place p.rule.set s (played p.events s) far new
+    r p.events before behind leaves p.rule.there
+    (live_in_set s far h home p.rule.set before at p.rule.there) p.rule.reply e))
     (λ s k. swap_step x y far new id place r s p k)
     (λ z. (swap_keeps x y far new id place r good.shown good.known z).words) in
     arrives_more c seats 16 16 a b _ (StillSwap h a r b) (omega arith) z
@@ -315,6 +346,10 @@ swap_lack c seats h a b good (ran, (home, set, n, at, there, few, state)) =
         pinned = good.pinned;
         ongoing = open_same a.desk a.far (far_given a.far n) good.shown seats good.known
             (given_known a.desk a.far good.shown n good.known) good.ongoing;
+        orders = orders_then good.shown good.shown a.far (far_given a.far n) seats
+            (far_orders good.shown a.far (far_given a.far n) good.known.sound
+            (given_known a.desk a.far good.shown n good.known).sound
+            (given_leaves_words a.far (far_given a.far n) n refl)) good.orders;
       });
       rises = subst (Rises 16 a.far) (sym state) stays.rises;
     }

@@ -7,13 +7,14 @@ use Rattle.cb_types.specs.declared.handle.Handle.{Handle}
 use Rattle.cb_types.specs.declared.handle.SetId.{SetId}
 use Rattle.cb_types.specs.declared.job.Job.{Job}
 use Rattle.cb_types.specs.declared.job.Job.TheVariants as job
+use Rattle.cb_types.specs.declared.order.Kept.{Kept}
 use Rattle.cb_types.specs.declared.reply.Reply.{Reply}
 use Rattle.cb_types.specs.declared.reply.Reply.TheVariants as answer
 use Rattle.cb_world.specs.declared.shown.Shown.{Shown}
 use Rattle.cb_world.specs.FarState.{FarState}
 use Rattle.cb_world.specs.Now.{now}
 use Rattle.cb_world.specs.Plain.{Words}
-use Rattle.cb_world.specs.Seats.{SeatState}
+use Rattle.cb_world.specs.Seats.{SeatState, order_of}
 use Rattle.cb_world.specs.Sound.{Sound}
 use Rattle.cb_world.specs.StillWords.{stamp_at}
 use Rattle.cb_world.specs.World.{WorldState, IsConfigured, IsKnown, IsSoundWorld, word_at}
@@ -26,21 +27,23 @@ use Rattle.cb_core.specs.declared.event.Event.{Event}
 use Rattle.cb_core.specs.declared.event.Event.TheVariants as event
 use Rattle.cb_core.specs.FarJobs.{FarLacks}
 use Rattle.cb_core.specs.Holding.{NoOtherHolds}
+use Rattle.cb_core.specs.Jobs.{NeedsNoOrder}
 use Rattle.cb_core.specs.NowIn.{claim_on, now_in}
+use Rattle.cb_core.specs.OrderParts.{StopsWithBy}
 use Rattle.cb_core.specs.Parts.{Holding, RoomStops, WithRoom, at_once, most_evictions, was_far, won}
 use Rattle.cb_core.specs.Parts.WithRoom.{no_room}
 use Rattle.cb_core.specs.Parts.RoomStops.{at_once as lacks_at_once, evicting, after as lacks_after}
 use Rattle.cb_core.specs.Parts.CallStops.{near, far as was_away, after as call_after}
 use Rattle.cb_core.specs.Run.{but_counts, HoldsAsBefore, MakesEvictions, last, one_more, MakesRoom, nothing, evicts, brings, LeavesAsBefore, LeavesPrefix}
-use Rattle.cb_core.specs.Step.{Step, EventStops, AtomicStops, StillBring, StillBringLacks, StillEvictLacks, StillFarLacks, StillFind, StillMake, StillMakeLacks, StillRoom, StillStops, StillSwap, StillSwapLacks, StillWorks, done}
+use Rattle.cb_core.specs.Step.{Step, EventStops, AtomicStops, StillBring, StillBringLacks, StillEvictLacks, StillFarLacks, StillFind, StillMake, StillMakeLacks, StillRoom, StillStops, StillSwap, StillSwapLacks, StillWorks, StillLand, OrderStops, TurnStops, holding_of, in_part, in_run, still_order_lacks, still_orders, done}
 use Rattle.cb_core.specs.Step.SeatTurn.{free}
-use Rattle.cb_core.specs.Turned.{counted}
+use Rattle.cb_core.specs.Turned.{counted, once_counted}
 use Rattle.cb_core.specs.Unavailable.{brought_by}
 use Rattle.cb_core.proofs.FarJobs.{far_job}
 use Rattle.cb_core.proofs.NowIn.{in_same}
 use Rattle.cb_core.proofs.Rejobbed.{held_as, room_evicts, bring_as}
 use Rattle.cb_core.proofs.Runs.{Going, next_at, split_at}
-use Rattle.cb_core.proofs.StepFixed.{swap_refuses}
+use Rattle.cb_core.proofs.StepFixed.{land_refuses, swap_refuses}
 use Rattle.cb_core.proofs.StillFarJobs.{known_after}
 use Rattle.cb_core.proofs.TurnCalls.{held_at, held_then}
 use Rattle.cb_core.proofs.TurnCallsKept.{HasKept, kept_all, kept_bring, kept_room, kept_then, once_known, same_holding}
@@ -177,6 +180,41 @@ stop_room job.Commit a b is stops = absurd stops
 stop_room job.Abort a b is stops = absurd stops
 stop_room j a b is stops = none (left_far j a b is stops)
 
+-- ---- a turn that hands an order out or takes one
+-- where its order could not be run, or a part found no memory
+part_room : (j : Job) (order : Option Kept) (a b : Holding Words) (asked : Option ℕ)
+    → StopsWithBy still_orders still_order_lacks j order a b → HasRoom a b asked
+part_room job.Gather order a b asked same = none (left_same a b same)
+part_room (job.Fetch handle) order a b asked (m, find, same) =
+    none (left_same a b (same ∙ find.1))
+part_room job.Land order a b asked stops = has_room a b asked (left_behind (StillLand order)
+    StillEvictLacks (land_refuses order) (λ a b same. left_same a b same) most_evictions a b stops)
+part_room j order a b asked never = absurd never
+
+order_room : (j : Job) (order : Option Kept) (a b : Holding Words) (asked : Option ℕ)
+    → OrderStops j order a b → HasRoom (once_counted a j) b asked
+order_room j order a b asked (in_run runs same) = none (left_same (once_counted a j) b same)
+order_room j order a b asked (in_part stops) = part_room j order (once_counted a j) b asked stops
+
+-- a job that hands no order out and takes none stops as it does itself
+none_stop : (j : Job) (order : Option Kept) (a b : Holding Words) → NeedsNoOrder j
+    → StopsWithBy still_orders still_order_lacks j order a b → ⊥
+none_stop job.Gather order a b ok stops = ok
+none_stop job.Install order a b ok stops = ok
+none_stop (job.Fetch handle) order a b ok stops = ok
+none_stop job.Land order a b ok stops = ok
+none_stop j order a b ok stops = stops
+
+pub stops_alone : (j : Job) (w new : WorldState) (seat : ℕ) → NeedsNoOrder j
+    → EventStops w (event.Turn seat j) new → TurnStops j w new
+stops_alone j w new seat ok (alone, inl stops) = stops
+stops_alone j w new seat ok (alone, inr (few, seats, in_run (inl (o, is, at)) same)) =
+    absurd (subst NeedsNoOrder is ok)
+stops_alone j w new seat ok (alone, inr (few, seats, in_run (inr (o, is, at)) same)) =
+    absurd (subst NeedsNoOrder is ok)
+stops_alone j w new seat ok (alone, inr (few, seats, in_part stops)) =
+    absurd (none_stop j (order_of w.seats seat) (once_counted (holding_of w) j) (holding_of new) ok stops)
+
 -- ---- in the world
 left_now : (a b : Holding Words) (s : Shown) (h : ℕ) → IsLeft a b → now s b.far h ≡ now s a.far h
 left_now a b s h z = ap (λ (f : FarState). now s f h) z.far
@@ -304,7 +342,14 @@ atomic_leaves seat atomic w new never = absurd never
 pub stop_leaves : (e : Event) (w new : WorldState) → IsSoundWorld w → EventStops w e new
     → LeavesAsBefore w e new
 stop_leaves (event.Step seat atomic) w new sound stops = atomic_leaves seat atomic w new stops
-stop_leaves (event.Turn seat j) w new sound (alone, (few, seats, stops)) =
+stop_leaves (event.Turn seat j) w new sound (alone, inr (few, seats, stops)) =
+    let room = order_room j (order_of w.seats seat) (holding_of w) (holding_of new) (brought_by j) stops in
+    record {
+      room = world_room w new seat j alone few seats sound.shown sound.known room;
+      holds = world_holds w new seat j alone few seats room;
+      seats = seats;
+    }
+stop_leaves (event.Turn seat j) w new sound (alone, inl (few, seats, stops)) =
     let room = stop_room j (held_at w j) (held_then new)
     (recounted w.desk.settings w.far (counted w.far j).counts sound.configured) stops in record {
       room = world_room w new seat j alone few seats sound.shown sound.known room;

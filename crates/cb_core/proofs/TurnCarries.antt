@@ -127,7 +127,7 @@ pub still_rows : (far new : FarState) (es : List Event) → KeepsBatch far new e
 still_rows far new es = by_words far new es IsStill (still_words far new es)
 
 -- the position of a home is live
-live_in_set : (s : Shown) (far : FarState) (h : ℕ) (home : Home) (set : SetState) → Sound s far
+pub live_in_set : (s : Shown) (far : FarState) (h : ℕ) (home : Home) (set : SetState) → Sound s far
     → home_at far.homes h ≡ Some home → set_in far.sets home.set ≡ Some set
     → live_at set home.position ≡ true
 live_in_set s far h home set sound at there = let x = live_home s far h home sound at in

@@ -52,12 +52,12 @@ IsNever r = (id : SetId) (l : List Loss) → r ≡ answer.Unavailable id l → �
 
 -- What a call on an object comes to: it tells of its set, which is lost; or the object is not gone,
 -- and it tells of none.
-data Tells (far : FarState) (h : ℕ) (r : Reply) : Type 0 where
+pub data Tells (far : FarState) (h : ℕ) (r : Reply) : Type 0 where
   broke : (id : SetId) (l : List Loss) → r ≡ answer.Unavailable id l → IsLostFar far h id l
       → Tells far h r
   whole_there : is_gone far h ≡ false → IsNever r → Tells far h r
 
-tells_only : (far : FarState) (h : ℕ) (r : Reply) (id : SetId) (l : List Loss) → Tells far h r
+pub tells_only : (far : FarState) (h : ℕ) (r : Reply) (id : SetId) (l : List Loss) → Tells far h r
     → r ≡ answer.Unavailable id l → IsInLost far h id l
 tells_only far h r id l (broke i m e z) is = far_in far h id l (same (sym e ∙ is))
   where
@@ -74,7 +74,7 @@ tells_only far h r id l (broke i m e z) is = far_in far h id l (same (sym e ∙ 
         (subst (λ (n : List Loss). IsLostFar far h i n) (ap losses f) z)
 tells_only far h r id l (whole_there there never) is = absurd (never id l is)
 
-tells_each : (far : FarState) (h : ℕ) (r : Reply) (id : SetId) (l : List Loss) → Tells far h r
+pub tells_each : (far : FarState) (h : ℕ) (r : Reply) (id : SetId) (l : List Loss) → Tells far h r
     → IsInLost far h id l → r ≡ answer.Unavailable id l
 tells_each far h r id l (broke i m e z) lost = e ∙ one_lost far h i id m l z (in_far far h id l lost)
 tells_each far h r id l (whole_there there never) lost =
@@ -378,7 +378,7 @@ module _ {D : Type 0} (run : D → List Event → D → Type 0) (shows : D → S
       worn_lost id l e = cc
 
   -- ---- a fetch
-  rows_tell : (m b : Hold) (h : ℕ) (g : Fetching) → FetchesRows run h m g b
+  pub rows_tell : (m b : Hold) (h : ℕ) (g : Fetching) → FetchesRows run h m g b
       → Tells m.far h (fetching_reply g)
   rows_tell m b h g (home, at, ran, x) = by g x.ordered x.state
     where

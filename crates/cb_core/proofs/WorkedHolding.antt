@@ -1,6 +1,6 @@
 -- Worked examples of turns beside the far lock: those that take place and those that are refused, and
 -- each with one part broken.
-use Rattle.std.proofs.Common.{◌≡◌, ℕ, zero, suc, true, false, List, [], ◌∷◌, None, refl, ap, sym, lit<, arith}
+use Rattle.std.proofs.Common.{◌≡◌, ℕ, zero, suc, true, false, List, [], ◌∷◌, None, refl, ap, sym, inl, lit<, arith}
 use Rattle.cb_types.specs.declared.job.Job.{Job}
 use Rattle.cb_types.specs.declared.job.Job.TheVariants.{Crash}
 use Rattle.cb_types.specs.declared.reply.Reply.{Reply}
@@ -13,7 +13,7 @@ use Rattle.cb_core.specs.declared.event.Event.TheVariants as event
 use Rattle.cb_core.specs.Events.{IsEvent}
 use Rattle.cb_core.specs.Holding.{not_held, taken, given}
 use Rattle.cb_core.specs.Membership.{crashed, is_down}
-use Rattle.cb_core.specs.Step.{SeatTurn, held, free, TurnStep, worn, done, Leads, EventStops}
+use Rattle.cb_core.specs.Step.{SeatTurn, held, free, ordered, TurnStep, worn, done, Leads, EventStops}
 use Rattle.cb_core.proofs.WorkedPins.{settings, calm}
 use Rattle.cb_core.proofs.WorkedTurns.{node, far, far_down, world, idle, three, four, old, crashed_down, nobody}
 
@@ -58,14 +58,17 @@ never_held w new k (done few (words, is_down down reply same) seats) = absurd (l
 runs_beside : (new : WorldState) → SeatTurn 1 crash (at_lock three) epoch new → ⊥
 runs_beside new (held other off holds reply same) = absurd (let e = reply in cc)
 runs_beside new (free none step) = apart 0 (none 0 refl)
+runs_beside new (ordered keeps off none turn seats) = off tt
 
 refuses_the_holder : SeatTurn 0 crash (at_lock three) (answer.Held 0) (at_lock three) → ⊥
 refuses_the_holder (held other off holds reply same) = off (the_first other holds)
 refuses_the_holder (free none step) = never_held (at_lock three) (at_lock three) 0 step
+refuses_the_holder (ordered keeps off none turn seats) = off tt
 
 refuses_for_nobody : SeatTurn 1 crash old (answer.Held 0) old → ⊥
 refuses_for_nobody (held other off holds reply same) = off (nobody 1 other holds)
 refuses_for_nobody (free none step) = never_held old old 0 step
+refuses_for_nobody (ordered keeps off none turn seats) = off tt
 
 abbrev seat_of : Reply → ℕ
 seat_of (answer.Held seat) = seat
@@ -75,15 +78,17 @@ names_another : SeatTurn 1 crash (at_lock three) (answer.Held 2) (at_lock three)
 names_another (held other off holds reply same) =
     let e : 2 ≡ other = ap seat_of reply in let f = the_first other holds in omega (arith, e, f)
 names_another (free none step) = never_held (at_lock three) (at_lock three) 2 step
+names_another (ordered keeps off none turn seats) = off tt
 
 counts_it : SeatTurn 1 crash (at_lock three) (answer.Held 0) (at_lock four) → ⊥
 counts_it (held other off holds reply same) =
     let e : 4 ≡ 3 = ap (λ (w : WorldState). w.far.counts.turns) same in omega (arith, e)
 counts_it (free none step) = never_held (at_lock three) (at_lock four) 0 step
+counts_it (ordered keeps off none turn seats) = off tt
 
 -- ---- no memory
 stops_with_it : EventStops (at_lock three) (event.Turn 0 crash) (at_lock four)
-stops_with_it = (the_first, (lit< tt, refl, (refl, (refl, refl))))
+stops_with_it = (the_first, inl (lit< tt, refl, (refl, (refl, refl))))
 
 stops_beside : (new : WorldState) → EventStops (at_lock three) (event.Turn 1 crash) new → ⊥
 stops_beside new stopped = apart 0 (stopped.0 0 refl)

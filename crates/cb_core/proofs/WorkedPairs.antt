@@ -23,6 +23,7 @@ use Rattle.cb_core.specs.Parts.{Holding}
 use Rattle.cb_core.specs.Step.{HoldOn, StillStops, StillWorks, TurnStep, worn, done}
 use Rattle.cb_core.specs.Turned.{AtFar, AtFarLacks}
 use Rattle.cb_core.proofs.StillFarJobs.{known_far}
+use Rattle.cb_core.proofs.WordsTold.{far_orders}
 use Rattle.cb_core.proofs.WorkedPins.{calm, hot, seat_with}
 use Rattle.cb_core.proofs.WorkedRoom.{counts, far_of, span_with, words_are}
 
@@ -51,7 +52,7 @@ two_made f g two one same =
     let e : 2 ≡ 1 = sym two ∙ ap (λ (x : FarState). x.made) same ∙ one in omega (arith, e)
 
 same_holds : (f : FarState) → HoldOn (holds f) (holds f)
-same_holds f s k = (s, k, (λ h. refl), λ seats ongoing. ongoing)
+same_holds f s k = (s, k, (λ h. refl), (λ seats ongoing. ongoing), λ o kept. kept)
 
 -- ---- a begin: no two sets can be joined where there is none
 no_set : (id : ℕ) (s : SetState) → set_in start.sets id ≡ Some s → ⊥
@@ -79,6 +80,7 @@ hold_noted s k = let keeps = begin_laws.keeps s start noted answer.NoPair k.soun
   keeps.same_now,
   λ seats ongoing. open_same (words_are calm hot) start noted s seats k
       (known_far (words_are calm hot) start noted s k keeps.sound) ongoing,
+  far_orders s start noted k.sound keeps.sound keeps.words,
 )
 
 pairs : StillWorks Pair (holds start) answer.NoPair (holds noted)
@@ -152,6 +154,7 @@ hold_on c s k = let keeps = part_laws.keeps s (joined (far c)) (far c) answer.Do
   keeps.same_now,
   λ seats ongoing. open_same (words_are calm hot) (joined (far c)) (far c) s seats k
       (known_far (words_are calm hot) (joined (far c)) (far c) s k keeps.sound) ongoing,
+  far_orders s (joined (far c)) (far c) k.sound keeps.sound keeps.words,
 )
 
 parts : StillWorks Part (holds (joined start)) answer.Done (holds start)

@@ -14,6 +14,7 @@ use Rattle.cb_span.specs.declared.temp.Temp.TheVariants.{Hot, Cold}
 use Rattle.cb_types.specs.declared.config.Field.TheVariants.{K, R, Nodes, Frames, Room, Handles, Turns}
 use Rattle.cb_types.specs.declared.handle.SetId.{SetId}
 use Rattle.cb_types.specs.declared.job.Job.TheVariants.{Read, Write, Swap, Rebuild}
+use Rattle.cb_types.specs.declared.order.Kept.{Kept}
 use Rattle.cb_types.specs.declared.reply.Reply.{Reply}
 use Rattle.cb_types.specs.declared.reply.Reply.TheVariants as answer
 use Rattle.cb_types.specs.Config.{IsAccepted}
@@ -25,6 +26,7 @@ use Rattle.cb_world.specs.Leaving.{LeavingState}
 use Rattle.cb_world.specs.Memory.{bytes_in, window}
 use Rattle.cb_world.specs.Now.{now, is_gone, broken_set}
 use Rattle.cb_world.specs.OpenWrites.{AreOpen}
+use Rattle.cb_world.specs.Orders.{IsOrderKept}
 use Rattle.cb_world.specs.Placed.{HasRoom}
 use Rattle.cb_world.specs.Plain.{Words}
 use Rattle.cb_world.specs.Seats.{SeatState}
@@ -173,7 +175,7 @@ looks_and_warms step = let e : 16390 ≡ 16385 = ap word_of step.1 in omega (ari
 
 -- ---- what every object holds
 same_holds : (a : Holding Words) → HoldOn a a
-same_holds a s k = (s, k, (λ h. refl), λ seats ongoing. ongoing)
+same_holds a s k = (s, k, (λ h. refl), (λ seats ongoing. ongoing), λ o kept. kept)
 
 -- words that are lost are not known
 abbrev emptied : Holding Words
@@ -209,6 +211,12 @@ holds_another a b s t h k l off hold =
 closes_a_write : (a b : Holding Words) (s : Shown) (seats : List SeatState) → IsKnown a.desk a.far s
     → AreOpen a.desk a.far seats → (AreOpen b.desk b.far seats → ⊥) → HoldOn a b → ⊥
 closes_a_write a b s seats k ongoing off hold = off ((hold s k).3 seats ongoing)
+
+-- nor where an order that was kept is not kept
+forgets_an_order : (a b : Holding Words) (s : Shown) (o : Kept) → IsKnown a.desk a.far s
+    → IsOrderKept s a.far o → ((t : Shown) → IsKnown b.desk b.far t → IsOrderKept t b.far o → ⊥)
+    → HoldOn a b → ⊥
+forgets_an_order a b s o k kept off hold = let z = hold s k in off z.0 z.1 (z.4 o kept)
 
 -- ---- an eviction: both objects have pins
 abbrev crowd : Holding Words

@@ -19,7 +19,7 @@ use Rattle.cb_core.specs.declared.event.Event.TheVariants as event
 use Rattle.cb_core.specs.NowIn.{claim_on, now_in, now_with}
 use Rattle.cb_core.specs.Run.{IsSameBut, HoldsAsBefore, MakesEvictions, last, one_more, MakesRoom, nothing, evicts, brings, LeavesAsBefore, LeavesPrefix, LeadsSoundly, seat_of}
 use Rattle.cb_core.specs.Step.{Step, worn, done}
-use Rattle.cb_core.specs.Step.SeatTurn.{held as is_held, free as is_free}
+use Rattle.cb_core.specs.Step.SeatTurn.{held as is_held, free as is_free, ordered}
 use Rattle.cb_core.proofs.Rejobbed.{rejobbed}
 use Rattle.cb_core.proofs.TurnCallsKept.{known_same}
 use Rattle.cb_core.proofs.WorkedPins.{pin_on, seat_with}
@@ -138,6 +138,7 @@ no_fewer v new more = by 0 refl more
 -- there is no span that could leave
 nothing_leaves : (v : WorldState) (id : SetId) → Step w (event.Turn 3 job.Evict) (answer.Set id) v → ⊥
 nothing_leaves v id (is_held holder other holds is same) = set_is_held id holder is
+nothing_leaves v id (ordered keeps off none turn seats) = off tt
 nothing_leaves v id (is_free none (worn end is same)) = set_is_worn id is
 nothing_leaves v id (is_free none (done few (few_spans z same, hold) seats)) =
     set_is_none id _ z.reply

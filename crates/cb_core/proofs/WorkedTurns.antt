@@ -35,7 +35,8 @@ use Rattle.cb_evict.specs.declared.eviction.Eviction.TheVariants.{Refused, Set}
 use Rattle.cb_evict.specs.declared.eviction.Lack.{Lack}
 use Rattle.cb_evict.specs.declared.eviction.Lack.TheVariants.{Spans}
 use Rattle.cb_core.specs.Parts.{Holding, at_once, no_room as no_room_won, won, near, far as was_away, after as once_in}
-use Rattle.cb_core.specs.Step.{StillEvict, StillRoom, TurnStep, worn, done, free, Step, Leads, EventStops, StillStops}
+use Rattle.cb_core.specs.Step.{StillEvict, StillRoom, TurnStep, worn, done, free, Step, Leads, EventStops, StillStops, TurnStops}
+use Rattle.cb_core.proofs.Stopping.{stops_alone}
 use Rattle.cb_core.proofs.WorkedPins.{settings, desk, calm, hot, pinned, pin_on, seat_with}
 use Rattle.cb_core.proofs.WorkedRoom.{counts, far_of, first_down, one_small_page, span_with, two_open, words_are}
 
@@ -195,7 +196,7 @@ no_spans : StillEvict start (answer.NoSpans 0) start
 unfolding batch_pages most_loose
 no_spans = (
   few_spans (record { few = refl; reply = refl; state = refl }) refl,
-  λ s k. (s, k, (λ h. refl), λ seats ongoing. ongoing),
+  λ s k. (s, k, (λ h. refl), (λ seats ongoing. ongoing), λ o kept. kept),
 )
 
 -- none of them is loose, and two nodes have room
@@ -318,44 +319,55 @@ a_reply_too_few new none = none
 
 -- ---- no memory
 stops : EventStops old (event.Turn 0 (Crash (node 0))) (world (far four) calm idle)
-stops = (nobody 0, (lit< tt, refl, (refl, (refl, refl))))
+stops = (nobody 0, inl (lit< tt, refl, (refl, (refl, refl))))
 
 stops_and_crashes : EventStops old (event.Turn 0 (Crash (node 0))) (world (far_down four) calm idle)
     → ⊥
-stops_and_crashes stopped = let e : 1 ≡ 0 =
-    ap (λ (f : FarState). f.members.epoch) stopped.1.2.1.0 in omega (arith, e)
+stops_and_crashes stopped =
+    let alone = stops_alone (Crash (node 0)) old (world (far_down four) calm idle) 0 tt stopped in
+    let e : 1 ≡ 0 = ap (λ (f : FarState). f.members.epoch) alone.2.1.0 in omega (arith, e)
 
 stops_uncounted : EventStops old (event.Turn 0 (Crash (node 0))) old → ⊥
-stops_uncounted stopped = let e : 3 ≡ 4 =
-    ap (λ (f : FarState). f.counts.turns) stopped.1.2.1.0 in omega (arith, e)
+stops_uncounted stopped =
+    let alone = stops_alone (Crash (node 0)) old old 0 tt stopped in
+    let e : 3 ≡ 4 = ap (λ (f : FarState). f.counts.turns) alone.2.1.0 in omega (arith, e)
 
 stops_and_takes_a_pin : EventStops old (event.Turn 0 (Crash (node 0)))
     (world (far four) calm (seat_with (pin_on 0 3 ∷ []) ∷ seat_with [] ∷ [])) → ⊥
-stops_and_takes_a_pin stopped = let e : 1 ≡ 0 =
-    ap (λ (s : List SeatState). length (get_or s 0 (seat_with [])).pins) stopped.1.1 in omega (arith, e)
+stops_and_takes_a_pin stopped =
+    let alone = stops_alone (Crash (node 0)) old
+    (world (far four) calm (seat_with (pin_on 0 3 ∷ []) ∷ seat_with [] ∷ [])) 0 tt stopped in
+    let e : 1 ≡ 0 =
+    ap (λ (s : List SeatState). length (get_or s 0 (seat_with [])).pins) alone.1 in omega (arith, e)
 
 -- the last turn was counted before
 stops_too_late : (new : WorldState) → EventStops worn_out (event.Turn 0 (Crash (node 0))) new → ⊥
-stops_too_late new stopped = let few = stopped.1.0 in omega (arith, few)
+stops_too_late new stopped =
+    let few = (stops_alone (Crash (node 0)) worn_out new 0 tt stopped).0 in omega (arith, few)
 
 -- a crash of a node that is down, a free, a join and a write to an object that is here take no memory
 down_and_stops : EventStops (world (far_down three) calm idle) (event.Turn 0 (Crash (node 0)))
     (world (far_down four) calm idle) → ⊥
-down_and_stops stopped = absurd (let e = stopped.1.2.1.1 in cc)
+down_and_stops stopped =
+    let alone = stops_alone (Crash (node 0)) (world (far_down three) calm idle)
+    (world (far_down four) calm idle) 0 tt stopped in absurd (let e = alone.2.1.1 in cc)
 
 free_stops : (new : WorldState) → EventStops old (event.Turn 0 (Free (handle 0))) new → ⊥
-free_stops new stopped = stopped.1.2
+free_stops new stopped = (stops_alone (Free (handle 0)) old new 0 tt stopped).2
 
 join_stops : (new : WorldState) → EventStops old (event.Turn 0 (Join (node 0))) new → ⊥
-join_stops new stopped = stopped.1.2.1
+join_stops new stopped = (stops_alone (Join (node 0)) old new 0 tt stopped).2.1
 
 not_here_version : (v : ℕ) → answer.NotHere ≡ answer.Version v → ⊥
 not_here_version v e = cc
 
 write_stops : (new : WorldState) → EventStops old (event.Turn 0 (Write (handle 0) 1 [])) new → ⊥
-write_stops new (alone, (few, seats, near none)) = none
-write_stops new (alone, (few, seats, was_away m n o d lacks)) = not_here_version 4 o.0.reply
-write_stops new (alone, (few, seats, once_in m n last f o d v lacks)) = lacks
+write_stops new stopped = by (stops_alone (Write (handle 0) 1 []) old new 0 tt stopped)
+  where
+    by : TurnStops (Write (handle 0) 1 []) old new → ⊥
+    by (few, seats, near none) = none
+    by (few, seats, was_away m n o d lacks) = not_here_version 4 o.0.reply
+    by (few, seats, once_in m n last f o d v lacks) = lacks
 
 stops_at_a_step : (new : WorldState) → EventStops old (event.Step 0 (Load (handle 0))) new → ⊥
 stops_at_a_step new stopped = stopped

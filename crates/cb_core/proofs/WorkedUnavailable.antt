@@ -1,6 +1,6 @@
 -- Worked examples of objects whose set has lost too many shards: what meets each definition, and
 -- what breaks one part.
-use Rattle.std.proofs.Common.{◌≡◌, ℕ, ◌^◌, true, false, List, [], ◌∷◌, None, Some, length, refl, ap, sym, ◌∙◌, subst, lit<, arith}
+use Rattle.std.proofs.Common.{◌≡◌, ℕ, ◌^◌, true, false, List, [], ◌∷◌, None, Some, length, refl, ap, sym, ◌∙◌, subst, inl, inr, lit<, arith}
 use Rattle.std.specs.FinMap as map
 use Rattle.cb_member.specs.declared.names.Loss.{Loss}
 use Rattle.cb_member.specs.declared.names.Shard.{Shard}
@@ -160,15 +160,25 @@ unavailable = answer.Unavailable five both_lost
 
 -- a look is never answered so
 look_tells : TellsUnavailable lost_world (event.Step 0 (atomic.Load handle)) (answer.Word 16385)
-look_tells = record { only = λ id l e. absurd (word_lost id l e); each = λ h id l asked made z. absurd made }
+look_tells = record {
+  only = λ id l e. absurd (word_lost id l e);
+  each = λ h id l asked made z. absurd made;
+  landed = λ id l made z. absurd z;
+}
   where
     word_lost : (id : SetId) (l : List Loss) → answer.Word 16385 ≡ answer.Unavailable id l → ⊥
     word_lost id l e = cc
 
 -- a read of an object whose set is whole enough
 of_another : TellsUnavailable (world first_down away) read (answer.Unavailable five (loss 0 1 ∷ [])) → ⊥
-of_another z = by (z.only five (loss 0 1 ∷ []) refl)
+of_another z = elim (z.only five (loss 0 1 ∷ []) refl) [
+  | inl x ↦ by x
+  | inr x ↦ no_landing x.1
+]
   where
+    no_landing : job.Read handle ≡ job.Land → ⊥
+    no_landing e = cc
+
     asked_is : (h : ℕ) → Some 0 ≡ Some h → h ≡ 0
     asked_is h e = cc
 
@@ -178,8 +188,14 @@ of_another z = by (z.only five (loss 0 1 ∷ []) refl)
         (subst (λ (i : ℕ). IsLost (world first_down away) i five (loss 0 1 ∷ [])) (asked_is h asked) lost)
 
 told_by_a_free : TellsUnavailable lost_world (event.Turn 0 (job.Free handle)) unavailable → ⊥
-told_by_a_free z = none_asked (z.only five both_lost refl).0 (z.only five both_lost refl).1
+told_by_a_free z = elim (z.only five both_lost refl) [
+  | inl x ↦ none_asked x.0 x.1
+  | inr x ↦ no_landing x.1
+]
   where
+    no_landing : job.Free handle ≡ job.Land → ⊥
+    no_landing e = cc
+
     none_asked : (h : ℕ) → None ≡ Some h → ⊥
     none_asked h e = cc
 

@@ -10,7 +10,7 @@ use Rattle.cb_world.specs.FarState.{FarState}
 use Rattle.cb_world.specs.Plain.{Words}
 use Rattle.cb_world.specs.Seats.{SeatState}
 use Rattle.cb_world.specs.World.{WorldState, IsConfigured, IsSoundWorld}
-use Rattle.cb_world.proofs.Laws.{open_same, recounted}
+use Rattle.cb_world.proofs.Laws.{open_same, orders_then, recounted}
 use Rattle.cb_core.specs.Jobs.{IsJob}
 use Rattle.cb_core.specs.OnceHere.{OnceHere, OnceHereStops}
 use Rattle.cb_core.specs.Parts.{Holding, WhereItIs, NeverDeclined, CallStops}
@@ -22,6 +22,7 @@ use Rattle.cb_core.proofs.KeptParts.{IsGood, Arrives, Carries, CarriesLack, rise
 use Rattle.cb_core.proofs.StillParts.{Ran, SaysAll, make_part, read_part, write_part, free_part, find_part, decline_part, evict_part, room_part, swap_part, make_lack, read_lack, evict_lack, swap_lack}
 use Rattle.cb_core.proofs.FarJobs.{note_of}
 use Rattle.cb_core.proofs.Noted.{noted_after}
+use Rattle.cb_core.proofs.OrdersCounted.{still_kept}
 use Rattle.cb_core.proofs.StillBatches.{begin_part, ship_part, ship_lack, commit_part, abort_part}
 use Rattle.cb_core.proofs.StillFilters.{filter_part, filter_lack}
 use Rattle.cb_core.proofs.StillFarJobs.{far_arrives, far_lack, far_part}
@@ -160,6 +161,8 @@ counted_good w job sound = record {
   pinned = sound.pinned;
   ongoing = open_same w.desk w.far (counted w.far job) sound.shown w.seats sound.known
       (once_known w job sound.shown sound.known) sound.ongoing;
+  orders = orders_then sound.shown sound.shown w.far (counted w.far job) w.seats
+      (still_kept sound.shown w.far job) sound.orders;
 }
 
 pub arrived_sound : (w : WorldState) (job : Job) (b : Holding Words) (Z : Type 0) → IsSoundWorld w
@@ -174,7 +177,7 @@ arrived_sound w job b Z sound few z = record {
   pinned = z.good.pinned;
   ongoing = z.good.ongoing;
   one = sound.one;
-  orders = sound.orders;
+  orders = z.good.orders;
   counted = counted_rises w.far (counted w.far job) b.far (job_index job) sound.counted few
       (job_below job) refl (rises_more turn_rise (2 ^ 20) (counted w.far job) b.far (omega arith)
       z.rises)

@@ -46,3 +46,12 @@ pub record InstallLeaves (c : Config) (far new : FarState) (order : Option Kept)
   pub next : IsOneTurnOn far new
   pub sound : (s : Shown) → Sound s far → KeepsOrder s far order → Sound s new
   pub orders : (s : Shown) → Sound s far → KeepsOrder s far order → LeavesOrders s far s new
+
+-- What a turn leaves of a seat that kept `order` before it, whatever its outcome: what every turn
+-- leaves, and no version; and for all that the desk showed, where that was sound and the order was
+-- kept, what the seat keeps behind it is kept then.
+pub record LeavesWith {D : Type 0} (run : D → List Event → D → Type 0) (shows : D → Shown → Type 0)
+    (c : Config) (a b : Holding D) (order keeps : Option Kept) : Type 0 where
+  pub leaves : TurnLeaves run shows c a b (λ more. more ≡ [])
+  pub kept : (s : Shown) → shows a.desk s → Sound s a.far → KeepsOrder s a.far order
+      → KeepsOrder (played leaves.events s) b.far keeps

@@ -1,8 +1,10 @@
 -- The jobs that hand an order out or take one, one table over their parts: over any desk, and over
 -- the still desk.
-use Rattle.std.specs.Prelude.{◌≡◌, ℕ, Option, None, Some}
+use Rattle.std.specs.Prelude.{◌≡◌, ◌⊎◌, ℕ, Option, None, Some}
 use Rattle.cb_types.specs.declared.job.Job.{Job}
 use Rattle.cb_types.specs.declared.job.Job.TheVariants.{Gather, Install, Fetch, Land}
+use Rattle.cb_types.specs.declared.order.DecodeOrder.{DecodeOrder}
+use Rattle.cb_types.specs.declared.order.EncodeOrder.{EncodeOrder}
 use Rattle.cb_types.specs.declared.order.Kept.{Kept}
 use Rattle.cb_types.specs.declared.order.Kept.TheVariants.{Encode, Decode}
 use Rattle.cb_types.specs.declared.reply.Reply.{Reply}
@@ -79,3 +81,9 @@ StopsWithBy {D = D} p l (Fetch handle) order a b =
 StopsWithBy p l Land order a b =
     RoomStops (p.lands order) (l.lands order) p.wins l.evicts most_evictions a b
 StopsWithBy p l job order a b = ⊥
+
+-- The job runs the order that the seat keeps before it does anything: an install runs one to encode,
+-- and a landing one to decode.
+abbrev pub RunsOrder : Job → Option Kept → Type 0
+RunsOrder job order = ((o : EncodeOrder) × (job ≡ Install) × (order ≡ Some (Encode o)))
+    ⊎ ((o : DecodeOrder) × (job ≡ Land) × (order ≡ Some (Decode o)))

@@ -1,5 +1,6 @@
 -- A turn whose job hands an order out or takes one, over any desk.
-use Rattle.std.specs.Prelude.{◌≡◌, ℕ, ◌^◌, ◌<◌, List, [], Option, Some}
+use Rattle.std.specs.Prelude.{◌≡◌, ℕ, ◌^◌, ◌<◌, List, [], Option, Some, Result, Ok, Err}
+use Rattle.cb_member.specs.declared.no_memory.NoMemory.{NoMemory}
 use Rattle.cb_types.specs.declared.config.Config.{Config}
 use Rattle.cb_types.specs.declared.job.Job.{Job}
 use Rattle.cb_types.specs.declared.job.Job.TheVariants.{Install}
@@ -14,14 +15,14 @@ use Rattle.cb_world.specs.Homes.{home_at}
 use Rattle.cb_world.specs.Performs.{Performs}
 use Rattle.cb_world.specs.Sound.{Sound}
 use Rattle.cb_evict.specs.declared.gathering.Gathered.{Gathered}
-use Rattle.cb_evict.specs.Gathering.{GatherEffect, GatherRule}
+use Rattle.cb_evict.specs.Gathering.{GatherEffect, GatherRule, gathered_order, gathered_reply}
 use Rattle.cb_evict.specs.InstallRule.{InstallStep}
 use Rattle.cb_swapin.specs.declared.fetching.Fetching.{Fetching}
 use Rattle.cb_swapin.specs.declared.fetching.Fetching.TheVariants as fetching
-use Rattle.cb_swapin.specs.FetchStep.{FetchStep}
+use Rattle.cb_swapin.specs.FetchStep.{FetchStep, fetching_order, fetching_reply}
 use Rattle.cb_swapin.specs.LandEffect.{LandEffect}
 use Rattle.cb_swapin.specs.LandRule.{LandRule}
-use Rattle.cb_core.specs.OrderParts.{DoesWithBy, OrderLacks, OrderParts, StopsWithBy}
+use Rattle.cb_core.specs.OrderParts.{DoesWithBy, OrderLacks, OrderParts, RunsOrder, StopsWithBy, landed_order}
 use Rattle.cb_core.specs.Parts.{Holding}
 use Rattle.cb_core.specs.Turned.{EvictLacks, FindsWhere, WinsRoom, counted, once_counted}
 
@@ -123,3 +124,46 @@ pub record StoppedWith {D : Type 0} (run : D → List Event → D → Type 0) (s
     (c : Config) (job : Job) (order : Option Kept) (a b : Holding D) : Type 0 where
   pub few : a.far.counts.turns < 2 ^ 40
   pub stops : StopsWith run shows c job order (once_counted a job) b
+
+-- Where such a turn stopped of a seat that keeps an order: the order could not be run, and the turn
+-- is counted and nothing is done; or its job found no memory.
+pub data StopsAt {D : Type 0} (run : D → List Event → D → Type 0) (shows : D → Shown → Type 0)
+    (c : Config) (job : Job) (order : Option Kept) (a b : Holding D) : Type 0 where
+  in_run : a.far.counts.turns < 2 ^ 40 → RunsOrder job order → NothingDone run (once_counted a job) b
+      → StopsAt run shows c job order a b
+  in_part : StoppedWith run shows c job order a b → StopsAt run shows c job order a b
+
+-- ---- what a seat keeps behind such a turn, by its outcome
+-- a turn that found no memory leaves it what it kept
+abbrev pub gather_keeps : Option Kept → Result Gathered NoMemory → Option Kept
+gather_keeps order (Ok g) = gathered_order order g
+gather_keeps order (Err e) = order
+
+abbrev pub gather_answer : Result Gathered NoMemory → Result Reply NoMemory
+gather_answer (Ok g) = Ok (gathered_reply g)
+gather_answer (Err e) = Err e
+
+abbrev pub fetch_keeps : Option Kept → Result Fetching NoMemory → Option Kept
+fetch_keeps order (Ok g) = fetching_order order g
+fetch_keeps order (Err e) = order
+
+abbrev pub fetch_answer : Result Fetching NoMemory → Result Reply NoMemory
+fetch_answer (Ok g) = Ok (fetching_reply g)
+fetch_answer (Err e) = Err e
+
+abbrev pub land_keeps : Option Kept → Result Reply NoMemory → Option Kept
+land_keeps order (Ok r) = landed_order order r
+land_keeps order (Err e) = order
+
+-- What such a turn comes to, by its outcome.
+abbrev pub EndsWith : {D : Type 0} → (D → List Event → D → Type 0) → (D → Shown → Type 0) → Config
+    → Job → Option Kept → Holding D → Option Kept → Result Reply NoMemory → Holding D → Type 0
+EndsWith run shows c job order a keeps (Ok r) b = TurnedWith run shows c job order a r keeps b
+EndsWith run shows c job order a keeps (Err e) b = (keeps ≡ order) × StopsAt run shows c job order a b
+
+-- An install, at the far state alone: the order could be run or not.
+abbrev pub InstallEnds : FarState → Option Kept → Option Kept → Result Reply NoMemory → FarState
+    → Type 0
+InstallEnds far order keeps (Ok r) new = InstallTurn far r order keeps new
+InstallEnds far order keeps (Err e) new = (keeps ≡ order) × (far.counts.turns < 2 ^ 40)
+    × RunsOrder Install order × (new ≡ counted far Install)

@@ -1,18 +1,20 @@
 -- One event of the core, at the still desk: its reply, and every part of the world after it.
-use Rattle.std.specs.Prelude.{◌≡◌, ℕ, ◌^◌, ◌<◌, List, [], ◌∷◌, Option, Some, length}
+use Rattle.std.specs.Prelude.{◌≡◌, ◌⊎◌, ℕ, ◌^◌, ◌<◌, List, [], ◌∷◌, Option, Some, length}
 use Rattle.cb_ptr.specs.declared.word.State.TheVariants as state
 use Rattle.cb_ptr.specs.Word.{state_of, len_of}
 use Rattle.cb_types.specs.declared.job.Job.{Job}
 use Rattle.cb_types.specs.declared.job.Job.TheVariants.{Free, Filter, Evict, Begin, Ship, Commit, Abort, Crash}
+use Rattle.cb_types.specs.declared.order.Kept.{Kept}
 use Rattle.cb_types.specs.declared.reply.Reply.{Reply}
 use Rattle.cb_types.specs.declared.reply.Reply.TheVariants as answer
-use Rattle.cb_world.specs.Seats.{SeatState, Holds}
+use Rattle.cb_world.specs.Seats.{SeatState, Holds, order_of, with_order}
 use Rattle.cb_world.specs.OpenWrites.{AreOpen}
 use Rattle.cb_world.specs.declared.homes.Home.{Home}
 use Rattle.cb_world.specs.declared.shown.Shown.{Shown}
 use Rattle.cb_world.specs.FarState.{FarState}
 use Rattle.cb_world.specs.Homes.{home_at}
 use Rattle.cb_world.specs.Now.{is_gone, now}
+use Rattle.cb_world.specs.Orders.{LeavesOrders}
 use Rattle.cb_world.specs.Plain.{Words}
 use Rattle.cb_world.specs.StillWords.{stamp_at}
 use Rattle.cb_world.specs.World.{WorldState, IsKnown, word_at}
@@ -24,11 +26,17 @@ use Rattle.cb_evict.specs.AbortStep.{IsAbortStep}
 use Rattle.cb_evict.specs.BeginStep.{IsBeginStep}
 use Rattle.cb_evict.specs.CommitStep.{IsCommitStep}
 use Rattle.cb_evict.specs.declared.eviction.Eviction.{Eviction}
+use Rattle.cb_evict.specs.declared.gathering.Gathered.{Gathered}
 use Rattle.cb_evict.specs.EvictStep.{IsCountedStep, IsEvictStep}
+use Rattle.cb_evict.specs.Gathering.{IsGatherStep}
+use Rattle.cb_evict.specs.InstallRule.{InstallStep}
 use Rattle.cb_evict.specs.ShipStep.{IsShipStep}
 use Rattle.cb_filter.specs.FilterStep.{IsFilterStep, IsFreeIn, temp_of}
 use Rattle.cb_filter.specs.Plans.{Wants}
 use Rattle.cb_filter.specs.Seats.{Seat}
+use Rattle.cb_swapin.specs.declared.fetching.Fetching.{Fetching}
+use Rattle.cb_swapin.specs.FetchStep.{FetchStep}
+use Rattle.cb_swapin.specs.LandStep.{IsLandStep}
 use Rattle.cb_swapin.specs.SwapStep.{IsSwapStep}
 use Rattle.cb_core.specs.declared.event.Atomic.{Atomic}
 use Rattle.cb_core.specs.declared.event.Atomic.TheVariants.{Load, Pin, Unpin, Claim, Store, Settle, Take, Give}
@@ -38,10 +46,12 @@ use Rattle.cb_core.specs.Claiming.{ClaimStep, StoreStep, SettleStep}
 use Rattle.cb_core.specs.Declining.{write_refusal}
 use Rattle.cb_core.specs.FarJobs.{FarLacks, FarStep}
 use Rattle.cb_core.specs.Holding.{GiveStep, NoOtherHolds, TakeStep}
+use Rattle.cb_core.specs.Jobs.{NeedsNoOrder}
 use Rattle.cb_core.specs.JobParts.{JobParts, PartLacks, DoesBy, StopsBy}
+use Rattle.cb_core.specs.OrderParts.{DoesWithBy, OrderLacks, OrderParts, RunsOrder, StopsWithBy}
 use Rattle.cb_core.specs.Parts.{Holding, WithRoom, most_evictions, WhereItIs, NeverDeclined, RoomStops, CallStops}
 use Rattle.cb_core.specs.Pinning.{PinStep, UnpinStep}
-use Rattle.cb_core.specs.Turned.{IsGiven, counted}
+use Rattle.cb_core.specs.Turned.{IsGiven, counted, once_counted}
 
 -- the parts of a turn, each a step from words and a far state to others
 abbrev pub StillMake : List ℕ → Holding Words → Reply → Holding Words → Type 0
@@ -68,11 +78,13 @@ StillDecline h at count a declined b = (declined
     × (b ≡ a)
 
 -- What every object holds stays: who knows all of the words and the far state before knows all
--- after, and it is the same; and the open writes of seats stay open.
+-- after, and it is the same; the open writes of seats stay open, and every order that was kept is
+-- kept.
 abbrev pub HoldOn : Holding Words → Holding Words → Type 0
 HoldOn a b = (s : Shown) → IsKnown a.desk a.far s
     → (t : Shown) × IsKnown b.desk b.far t × ((h : ℕ) → now t b.far h ≡ now s a.far h)
     × ((seats : List SeatState) → AreOpen a.desk a.far seats → AreOpen b.desk b.far seats)
+    × LeavesOrders s a.far t b.far
 
 abbrev pub StillEvict : Holding Words → Reply → Holding Words → Type 0
 StillEvict a r b = IsEvictStep a.desk b.desk a.far b.far r × HoldOn a b
@@ -142,6 +154,50 @@ still_parts = record {
 abbrev pub StillWorks : Job → Holding Words → Reply → Holding Words → Type 0
 StillWorks = DoesBy still_parts (λ h. WhereItIs (StillRead h) NeverDeclined (StillBring h))
 
+-- ---- the jobs that hand an order out or take one
+-- spans begin to leave, with their rows handed out
+abbrev pub StillGather : Holding Words → Gathered → Holding Words → Type 0
+StillGather a g b = IsGatherStep a.desk b.desk a.far b.far g × HoldOn a b
+
+-- the batch that is leaving gets the parities of the order that a seat keeps
+abbrev pub StillInstall : Option Kept → Holding Words → Reply → Option Kept → Holding Words → Type 0
+StillInstall order a r keeps b =
+    (b.desk ≡ a.desk) × InstallStep a.far b.far r order keeps × HoldOn a b
+
+-- the rows of the set in which a far object has its home are handed out
+abbrev pub StillFetch : ℕ → Holding Words → Fetching → Holding Words → Type 0
+StillFetch h a g b = (home : Home) × (home_at a.far.homes h ≡ Some home) × (b.desk ≡ a.desk)
+    × FetchStep home.set home.position a.far b.far g × HoldOn a b
+
+-- the position of the order that a seat keeps is brought in, with the order's row
+abbrev pub StillLand : Option Kept → Holding Words → Reply → Holding Words → Type 0
+StillLand order a r b = IsLandStep a.desk b.desk a.far b.far order r × HoldOn a b
+
+abbrev pub still_orders : OrderParts Words
+still_orders = record {
+  frames = λ a. a.desk.settings.frames;
+  gathers = λ a g b. StillGather a g b;
+  installs = λ order a r keeps b. StillInstall order a r keeps b;
+  finds = λ h. StillFind h;
+  fetches = λ h a g b. StillFetch h a g b;
+  lands = λ order. StillLand order;
+  wins = StillRoom;
+}
+
+-- such a job once the turn is counted, by what the seat keeps before it and behind it
+abbrev pub StillWith : Job → Option Kept → Holding Words → Reply → Option Kept → Holding Words
+    → Type 0
+StillWith = DoesWithBy still_orders
+
+-- A turn with such a job of a seat that kept `order` before it and keeps `keeps` behind it: where
+-- 2^40 turns were counted it is refused and changes nothing; else it is counted, and does its job.
+pub data OrderTurn (job : Job) (order : Option Kept) (a : Holding Words) (r : Reply)
+    (keeps : Option Kept) (b : Holding Words) : Type 0 where
+  late : a.far.counts.turns ≡ 2 ^ 40 → r ≡ answer.Worn → keeps ≡ order → b ≡ a
+      → OrderTurn job order a r keeps b
+  made : a.far.counts.turns < 2 ^ 40 → StillWith job order (once_counted a job) r keeps b
+      → OrderTurn job order a r keeps b
+
 -- A job once the turn is counted: it leads from the words x and a far state to the words y and
 -- another.
 abbrev pub Works : Words → FarState → Job → Reply → Words → FarState → Type 0
@@ -155,13 +211,21 @@ pub data TurnStep (job : Job) (w : WorldState) (r : Reply) (new : WorldState) : 
   done : w.far.counts.turns < 2 ^ 40 → Works w.desk (counted w.far job) job r new.desk new.far
       → new.seats ≡ w.seats → TurnStep job w r new
 
+-- the words and the far state of a world
+abbrev pub holding_of : WorldState → Holding Words
+holding_of w = record { desk = w.desk; far = w.far }
+
 -- A turn of a seat: where another seat holds the far lock it is refused, not counted, and changes
--- nothing. Else it takes place, whether the seat holds the lock or nobody does.
+-- nothing. Else it takes place, whether the seat holds the lock or nobody does. A job that hands an
+-- order out or takes one leaves the seat with what it keeps behind the turn.
 pub data SeatTurn (seat : ℕ) (job : Job) (w : WorldState) (r : Reply) (new : WorldState) : Type 0
   where
     held : (holder : ℕ) → (holder ≡ seat → ⊥) → Holds w.seats holder → r ≡ answer.Held holder
         → new ≡ w → SeatTurn seat job w r new
     free : NoOtherHolds w.seats seat → TurnStep job w r new → SeatTurn seat job w r new
+    ordered : (keeps : Option Kept) → (NeedsNoOrder job → ⊥) → NoOtherHolds w.seats seat
+        → OrderTurn job (order_of w.seats seat) (holding_of w) r keeps (holding_of new)
+        → new.seats ≡ with_order w.seats seat keeps → SeatTurn seat job w r new
 
 -- an atomic step of a seat
 abbrev pub AtomicStep : ℕ → Atomic → WorldState → Reply → WorldState → Type 0
@@ -252,7 +316,29 @@ TurnStops job w new = (w.far.counts.turns < 2 ^ 40) × (new.seats ≡ w.seats)
     × StillStops job (record { desk = w.desk; far = counted w.far job })
     (record { desk = new.desk; far = new.far })
 
+-- what the parts of a job leave that hands an order out or takes one
+abbrev pub still_order_lacks : OrderLacks Words
+still_order_lacks = record {
+  gathers = StillEvictLacks;
+  fetches = λ h. StillEvictLacks;
+  lands = λ order. StillEvictLacks;
+  evicts = StillEvictLacks;
+}
+
+-- Where such a turn stopped: the order that the seat keeps could not be run, and the turn is counted
+-- and nothing is done; or a part of its job found no memory.
+pub data OrderStops (job : Job) (order : Option Kept) (a b : Holding Words) : Type 0 where
+  in_run : RunsOrder job order → b ≡ once_counted a job → OrderStops job order a b
+  in_part : StopsWithBy still_orders still_order_lacks job order (once_counted a job) b
+      → OrderStops job order a b
+
+-- such a turn is counted too, and the seat keeps what it kept
+abbrev pub OrderTurnStops : ℕ → Job → WorldState → WorldState → Type 0
+OrderTurnStops seat job w new = (w.far.counts.turns < 2 ^ 40) × (new.seats ≡ w.seats)
+    × OrderStops job (order_of w.seats seat) (holding_of w) (holding_of new)
+
 -- An event that found no memory. No turn does beside a seat that holds the far lock.
 abbrev pub EventStops : WorldState → Event → WorldState → Type 0
 EventStops w (event.Step seat atomic) new = AtomicStops atomic w new
-EventStops w (event.Turn seat job) new = NoOtherHolds w.seats seat × TurnStops job w new
+EventStops w (event.Turn seat job) new =
+    NoOtherHolds w.seats seat × (TurnStops job w new ⊎ OrderTurnStops seat job w new)

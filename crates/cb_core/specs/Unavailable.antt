@@ -1,5 +1,5 @@
 -- Which turn is answered Unavailable, and which event, and exactly when.
-use Rattle.std.specs.Prelude.{◌≡◌, ℕ, ◌^◌, ◌<◌, true, List, [], ◌∷◌, Option, None, Some, length}
+use Rattle.std.specs.Prelude.{◌≡◌, ◌⊎◌, ℕ, ◌^◌, ◌<◌, true, List, [], ◌∷◌, Option, None, Some, length}
 use Rattle.cb_member.specs.declared.names.Loss.{Loss}
 use Rattle.cb_ptr.specs.declared.word.State.TheVariants as state
 use Rattle.cb_ptr.specs.Word.{state_of}
@@ -16,6 +16,7 @@ use Rattle.cb_types.specs.declared.reply.Reply.TheVariants as answer
 use Rattle.cb_world.specs.declared.homes.Home.{Home}
 use Rattle.cb_world.specs.FarState.{FarState}
 use Rattle.cb_world.specs.Homes.{home_at}
+use Rattle.cb_world.specs.Seats.{order_of}
 use Rattle.cb_world.specs.Sets.{set_in}
 use Rattle.cb_world.specs.World.{WorldState, word_at}
 use Rattle.cb_swapin.specs.LandRule.{live_in}
@@ -85,14 +86,24 @@ abbrev pub IsTurnMade : WorldState → Event → Type 0
 IsTurnMade w (event.Turn seat job) = NoOtherHolds w.seats seat × (w.far.counts.turns < 2 ^ 40)
 IsTurnMade w (event.Step seat atomic) = ⊥
 
+-- the event is a landing of the order that its seat keeps, whose position is live, and whose set has
+-- lost more shards than it has parities
+abbrev pub IsLandLost : WorldState → Event → SetId → List Loss → Type 0
+IsLandLost w (event.Turn seat j) id losses = (o : DecodeOrder) × (j ≡ job.Land)
+    × (order_of w.seats seat ≡ Some (Decode o)) × (id ≡ record { n = o.set })
+    × (live_in w.far o.set o.position ≡ true) × IsSetLost w.far id losses
+IsLandLost w (event.Step seat atomic) id losses = ⊥
+
 -- An event is answered Unavailable exactly where it is a turn that brings in an object, and that is
--- far in a set that has lost more shards than it has parities; and the answer tells the set and all
--- that it lost.
+-- far in a set that has lost more shards than it has parities, or a landing of an order of such a
+-- set; and the answer tells the set and all that it lost.
 pub record TellsUnavailable (w : WorldState) (e : Event) (r : Reply) : Type 0 where
   pub only : (id : SetId) (losses : List Loss) → r ≡ answer.Unavailable id losses
-      → (h : ℕ) × (asked_by e ≡ Some h) × IsLost w h id losses
+      → ((h : ℕ) × (asked_by e ≡ Some h) × IsLost w h id losses) ⊎ IsLandLost w e id losses
   pub each : (h : ℕ) (id : SetId) (losses : List Loss) → asked_by e ≡ Some h → IsTurnMade w e
       → IsLost w h id losses → r ≡ answer.Unavailable id losses
+  pub landed : (id : SetId) (losses : List Loss) → IsTurnMade w e → IsLandLost w e id losses
+      → r ≡ answer.Unavailable id losses
 
 -- The world leads by these events, with these replies, to another, and each of them is answered
 -- Unavailable exactly where it is to be.

@@ -11,6 +11,7 @@ pub mod fetching;
 pub mod gathering;
 mod holding;
 mod membership;
+mod ordering;
 mod pinning;
 pub mod reading;
 pub mod replies;

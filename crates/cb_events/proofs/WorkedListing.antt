@@ -5,7 +5,7 @@ use Rattle.std.specs.Fmt.{digits}
 use Rattle.hex.specs.Hex.{encode_with}
 use Rattle.cb_types.specs.declared.config.Config.{Config}
 use Rattle.cb_types.specs.declared.handle.Handle.{Handle}
-use Rattle.cb_types.specs.declared.job.Job.TheVariants.{Write, Merge, Part, Fetch}
+use Rattle.cb_types.specs.declared.job.Job.TheVariants.{Write, Merge, Part, Swap, Fetch}
 use Rattle.cb_types.specs.declared.reply.Reply.TheVariants.{Made, Bytes, Set, Word, Stored, Stays, NoOrder, Direct, Fetched}
 use Rattle.cb_core.specs.declared.event.Atomic.TheVariants.{Claim, Store}
 use Rattle.cb_core.specs.declared.event.Event.{Event}
@@ -87,7 +87,7 @@ merges = record {
   whole = lit≤ tt;
   within = (lit< tt, lit< tt);
   said = (refl, (refl, tt));
-  may = (lit< tt, tt, tt);
+  may = (lit< tt, tt);
 }
 
 two : AreListed few (claim_bytes ++ merge ++ rest) (claim ∷ event.Turn 0 Merge ∷ []) rest
@@ -100,12 +100,23 @@ two = (
 parts : IsListed few (merge ++ rest) (event.Turn 0 Part) → ⊥
 parts is = let e = is.said.1.0 in cc
 
--- a fetch hands an order out: it may not come
+-- rows of the set of the object 3 are fetched; its span is not swapped in, and no other is asked for
 abbrev fetch : List ℕ
 fetch = 0 ∷ 21 ∷ 3 ∷ 0 ∷ 0 ∷ 0 ∷ 0 ∷ 0 ∷ []
 
-no_fetch : IsListed few fetch (event.Turn 0 (Fetch third)) → ⊥
-no_fetch is = is.may.2
+fetches : IsListed few fetch (event.Turn 0 (Fetch third))
+fetches = record {
+  whole = lit≤ tt;
+  within = (lit< tt, lit< tt);
+  said = (refl, (refl, refl));
+  may = (lit< tt, lit< tt);
+}
+
+swaps : IsListed few fetch (event.Turn 0 (Swap third)) → ⊥
+swaps is = let e = is.said.1.0 in cc
+
+fetches_first : IsListed few fetch (event.Turn 0 (Fetch first)) → ⊥
+fetches_first is = let e = ap (λ (h : Handle). h.n) is.said.1.1 in cc
 
 -- what is told of replies, and of bytes that were not read
 made : told_line (Made third 1) ≡ codes "reply made 3 v1\n"

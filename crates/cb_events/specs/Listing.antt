@@ -9,7 +9,7 @@ use Rattle.cb_core.specs.declared.event.Atomic.TheVariants.{Load, Pin, Unpin, Cl
 use Rattle.cb_core.specs.declared.event.Event.{Event}
 use Rattle.cb_core.specs.declared.event.Event.TheVariants as event
 use Rattle.cb_core.specs.Events.{IsEvent}
-use Rattle.cb_core.specs.Jobs.{IsJob, NeedsNoOrder}
+use Rattle.cb_core.specs.Jobs.{IsJob}
 use Rattle.cb_events.specs.declared.reading.Head.{Head}
 
 -- the number in the two bytes at a place, the low one first
@@ -91,10 +91,9 @@ IsJobOf head written job = (head.kind ≡ job_index job) × HasOfJob head writte
 abbrev pub IsStepOf : Head → List ℕ → Atomic → Type 0
 IsStepOf head written atomic = (head.kind ≡ step_index atomic) × HasOfStep head written atomic
 
--- they say no job that may be asked for, or no step; no order is handed out or taken here
+-- they say no job that may be asked for, or no step
 abbrev pub NoJob : Config → Head → List ℕ → Type 0
-NoJob c head written =
-    (job : Job) → IsJobOf head written job → IsJob c job → NeedsNoOrder job → ⊥
+NoJob c head written = (job : Job) → IsJobOf head written job → IsJob c job → ⊥
 
 abbrev pub SaysNoStep : Head → List ℕ → Type 0
 SaysNoStep head written = (atomic : Atomic) → IsStepOf head written atomic → ⊥

@@ -1,7 +1,7 @@
 ghost use Rattle.std.specs.Prelude.{◌≡◌, ◌≢◌, ◌+◌, ◌<◌, ◌≤◌, List, ℕ, drop, length, IfOk, MatchOption};
 ghost use Rattle.cb_types.specs.Config.{most_bytes};
 ghost use Rattle.cb_core.specs.Events.{IsAtomic, IsEvent};
-ghost use Rattle.cb_core.specs.Jobs.{IsJob, NeedsNoOrder};
+ghost use Rattle.cb_core.specs.Jobs.{IsJob};
 ghost use Rattle.cb_events.specs.Listing.{IsEventOf, IsHeadWithin, IsJobOf, IsListed, IsStepOf, NoJob, NoneListed, SaysNoStep, SaysNone};
 ghost use Rattle.cb_events.specs.Listing.{event_len as len_of_event, head_in, number_in};
 
@@ -127,7 +127,7 @@ fn job_of(
     requires handle { head.handle.n < config.handles }
     requires node { head.node.n < config.nodes }
     ensures { IfOk result (λ found. MatchOption found (NoJob config head written.now)
-        (λ job. IsJobOf head written.now job × IsJob config job × NeedsNoOrder job)) }
+        (λ job. IsJobOf head written.now job × IsJob config job)) }
 {
     if head.kind == 0 {
         return make_of(alloc, written);
@@ -164,7 +164,7 @@ fn plain_job(config: Config, head: Head) -> Option<Job>
     requires handle { head.handle.n < config.handles }
     requires node { head.node.n < config.nodes }
     ensures { (written : List ℕ) → MatchOption result (NoJob config head written)
-        (λ job. IsJobOf head written job × IsJob config job × NeedsNoOrder job) }
+        (λ job. IsJobOf head written job × IsJob config job) }
 {
     let handle = head.handle;
     let node = head.node;
@@ -186,6 +186,10 @@ fn plain_job(config: Config, head: Head) -> Option<Job>
         16 => Some(Job::Rebuild),
         17 => Some(Job::Crash { node }),
         18 => Some(Job::Join { node }),
+        19 => Some(Job::Gather),
+        20 => Some(Job::Install),
+        21 => Some(Job::Fetch { handle }),
+        22 => Some(Job::Land),
         _ => None,
     }
 }

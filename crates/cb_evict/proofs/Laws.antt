@@ -14,6 +14,7 @@ pub use Rattle.cb_evict.proofs.EvictFixed.{evict_step_fixes}
 pub use Rattle.cb_evict.proofs.EvictStep.{counted_step, evict_step, evict_stopped, loose_span}
 pub use Rattle.cb_evict.proofs.EvictionFixed.{counted_step_fixes}
 pub use Rattle.cb_evict.proofs.Gone.{given_in}
+pub use Rattle.cb_evict.proofs.Installs.{IsRun, installed_sound}
 pub use Rattle.cb_evict.proofs.InstallKeeps.{IsOneInstall, install_cases, install_keeps, install_leaves_words, install_now, install_stays, install_step_codes, install_step_fixes}
 pub use Rattle.cb_evict.proofs.LeftWords.{aborts_leave_words, begins_leave_words, begins_step_leaves_words, commits_leave_words, evicts_leave_words, ships_leave_words}
 pub use Rattle.cb_evict.proofs.Loose.{loose_among}

@@ -103,63 +103,63 @@ pub line_goes : (side : Side) (answers : List Answer) (l : Line) (request : Requ
     → LineGives answers (answer_to l request r) w new c.then.shown
 line_goes side answers l (Make name bytes) r w new handle c is named ready lt made few step =
     make_goes answers l name bytes r w new c
-    (turn_alone l.lane.n (job.Make bytes) w new r c.lone step)
+    (turn_alone l.lane.n (job.Make bytes) w new r tt c.lone step)
 line_goes side answers l Evict r w new handle c is named ready lt made few step =
     still_goes job.Evict Evict evict_turn refl (λ xs q. refl) answers l r w new c
-    (turn_alone l.lane.n job.Evict w new r c.lone step)
+    (turn_alone l.lane.n job.Evict w new r tt c.lone step)
 line_goes side answers l Begin r w new handle c is named ready lt made few step =
     still_goes job.Begin Begin begin_turn refl (λ xs q. refl) answers l r w new c
-    (turn_alone l.lane.n job.Begin w new r c.lone step)
+    (turn_alone l.lane.n job.Begin w new r tt c.lone step)
 line_goes side answers l Ship r w new handle c is named ready lt made few step =
     still_goes job.Ship Ship ship_turn refl (λ xs q. refl) answers l r w new c
-    (turn_alone l.lane.n job.Ship w new r c.lone step)
+    (turn_alone l.lane.n job.Ship w new r tt c.lone step)
 line_goes side answers l Commit r w new handle c is named ready lt made few step =
     still_goes job.Commit Commit commit_turn refl (λ xs q. refl) answers l r w new c
-    (turn_alone l.lane.n job.Commit w new r c.lone step)
+    (turn_alone l.lane.n job.Commit w new r tt c.lone step)
 line_goes side answers l Abort r w new handle c is named ready lt made few step =
     still_goes job.Abort Abort abort_turn refl (λ xs q. refl) answers l r w new c
-    (turn_alone l.lane.n job.Abort w new r c.lone step)
+    (turn_alone l.lane.n job.Abort w new r tt c.lone step)
 line_goes side answers l Pair r w new handle c is named ready lt made few step =
     still_goes job.Pair Pair pair_turn refl (λ xs q. refl) answers l r w new c
-    (turn_alone l.lane.n job.Pair w new r c.lone step)
+    (turn_alone l.lane.n job.Pair w new r tt c.lone step)
 line_goes side answers l Patch r w new handle c is named ready lt made few step =
     still_goes job.Patch Patch patch_turn refl (λ xs q. refl) answers l r w new c
-    (turn_alone l.lane.n job.Patch w new r c.lone step)
+    (turn_alone l.lane.n job.Patch w new r tt c.lone step)
 line_goes side answers l Merge r w new handle c is named ready lt made few step =
     still_goes job.Merge Merge merge_turn refl (λ xs q. refl) answers l r w new c
-    (turn_alone l.lane.n job.Merge w new r c.lone step)
+    (turn_alone l.lane.n job.Merge w new r tt c.lone step)
 line_goes side answers l Part r w new handle c is named ready lt made few step =
     still_goes job.Part Part part_turn refl (λ xs q. refl) answers l r w new c
-    (turn_alone l.lane.n job.Part w new r c.lone step)
+    (turn_alone l.lane.n job.Part w new r tt c.lone step)
 line_goes side answers l Compact r w new handle c is named ready lt made few step =
     compact_goes side answers l r w new c step
 line_goes side answers l Rebuild r w new handle c is named ready lt made few step =
     still_goes job.Rebuild Rebuild rebuild_turn refl (λ xs q. refl) answers l r w new c
-    (turn_alone l.lane.n job.Rebuild w new r c.lone step)
+    (turn_alone l.lane.n job.Rebuild w new r tt c.lone step)
 line_goes side answers l (Crash node) r w new handle c is named ready lt made few step =
-    crash_goes answers l node r w new c is (turn_alone l.lane.n (job.Crash node) w new r c.lone step)
+    crash_goes answers l node r w new c is (turn_alone l.lane.n (job.Crash node) w new r tt c.lone step)
 line_goes side answers l (Join node) r w new handle c is named ready lt made few step =
-    join_goes answers l node r w new c is (turn_alone l.lane.n (job.Join node) w new r c.lone step)
+    join_goes answers l node r w new c is (turn_alone l.lane.n (job.Join node) w new r tt c.lone step)
 line_goes side answers l (Read name) r w new None c is named ready lt made few step =
     unmade_line answers l (Read name) name r w new (around answers w new c) named refl refl tt step
 line_goes side answers l (Read name) r w new (Some h) c is named ready lt made few step =
     read_goes answers l name h r w new c (ready h refl) named
-    (turn_alone l.lane.n (job.Read (record { n = h })) w new r c.lone step)
+    (turn_alone l.lane.n (job.Read (record { n = h })) w new r tt c.lone step)
 line_goes side answers l (Write name at bytes) r w new None c is named ready lt made few step =
     unmade_line answers l (Write name at bytes) name r w new (around answers w new c) named refl refl tt step
 line_goes side answers l (Write name at bytes) r w new (Some h) c is named ready lt made few step =
     write_goes answers l name at bytes h r w new c (ready h refl) named
-    (turn_alone l.lane.n (job.Write (record { n = h }) at bytes) w new r c.lone step)
+    (turn_alone l.lane.n (job.Write (record { n = h }) at bytes) w new r tt c.lone step)
 line_goes side answers l (Free name) r w new None c is named ready lt made few step =
     unmade_line answers l (Free name) name r w new (around answers w new c) named refl refl tt step
 line_goes side answers l (Free name) r w new (Some h) c is named ready lt made few step =
     free_goes answers l name h r w new c (ready h refl) named
-    (turn_alone l.lane.n (job.Free (record { n = h })) w new r c.lone step)
+    (turn_alone l.lane.n (job.Free (record { n = h })) w new r tt c.lone step)
 line_goes side answers l (Filter name) r w new None c is named ready lt made few step =
     unmade_line answers l (Filter name) name r w new (around answers w new c) named refl refl tt step
 line_goes side answers l (Filter name) r w new (Some h) c is named ready lt made few step =
     filter_goes answers l name h r w new c (ready h refl) named
-    (turn_alone l.lane.n (job.Filter (record { n = h })) w new r c.lone step)
+    (turn_alone l.lane.n (job.Filter (record { n = h })) w new r tt c.lone step)
 line_goes side answers l Leave r w new handle c is named ready lt made few step =
     leave_goes answers l (length (pins_of_seat w.seats l.lane.n)) r w new (around answers w new c) lt step.0 step.1
 line_goes side answers l (Pin name) r w new None c is named ready lt made few step =

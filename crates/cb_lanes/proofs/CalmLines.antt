@@ -19,6 +19,7 @@ use Rattle.cb_world.specs.Plain.{Words}
 use Rattle.cb_world.specs.StillWords.{stamp_at}
 use Rattle.cb_world.specs.World.{WorldState, IsSoundWorld, word_at}
 use Rattle.cb_core.specs.declared.event.Event.TheVariants.{Turn}
+use Rattle.cb_core.specs.Jobs.{NeedsNoOrder}
 use Rattle.cb_core.specs.Pinning.{PinStep, UnpinStep, given, not_pinned as none_given, pin_refusal}
 use Rattle.cb_core.specs.Pinning.{refused, scope_full, taken}
 use Rattle.cb_core.specs.Step.{Step}
@@ -33,6 +34,7 @@ use Rattle.cb_lanes.specs.LineStep.{LineStep, ObjectStep, OtherStep, IsInReply, 
 use Rattle.cb_lanes.specs.LineStep.{not_pinned, shown, PinLine, at_once, stays_far, swapped_in}
 use Rattle.cb_lanes.specs.declared.side.Side.{Side}
 use Rattle.cb_lanes.proofs.EasyLines.{IsEasyLine, job_whole}
+use Rattle.cb_lanes.proofs.LineKeeps.{line_alone}
 use Rattle.cb_lanes.proofs.Lone.{turn_alone}
 use Rattle.cb_lanes.proofs.Recounting.{turn_beside}
 
@@ -100,18 +102,18 @@ module _ {most : ℕ} (E : Holding Words → Type 0) (keeps : KeepsEasy most E) 
     (sound : IsSoundWorld w) (few : w.far.counts.turns < 2 ^ 40) (lone : NoneHolds w.seats)
     (easy : MakesEasy most w.desk w.far) (begins : (j : Job) → E (once_counted (held w) j)) where
   event_calm : (seat : ℕ) (j : Job) (new : WorldState) (r : Reply) → IsWholeJob j
-      → MakesWithin most j → Step w (Turn seat j) r new → IsEased r
-  event_calm seat j new r whole within step =
+      → MakesWithin most j → NeedsNoOrder j → Step w (Turn seat j) r new → IsEased r
+  event_calm seat j new r whole within alone step =
       turn_calm E keeps w new j r sound few whole within (begins j)
-      (turn_alone seat j w new r lone step)
+      (turn_alone seat j w new r alone lone step)
 
   pin_line_calm : (seat h : ℕ) (new : WorldState) (r : Reply) → h < w.desk.settings.handles
       → PinLine seat h w r new → IsEased r
   pin_line_calm seat h new r below (at_once pin never) = pin_calm w new seat h r easy pin
   pin_line_calm seat h new r below (stays_far away swap off) =
-      event_calm seat (job.Swap (record { n = h })) new r tt tt swap
+      event_calm seat (job.Swap (record { n = h })) new r tt tt tt swap
   pin_line_calm seat h new r below (swapped_in m q away swap is again) =
-      let step = turn_alone seat (job.Swap (record { n = h })) w m q lone swap in
+      let step = turn_alone seat (job.Swap (record { n = h })) w m q tt lone swap in
       by (swap_turn w m h q sound (swap_sound w m h q sound step) few below step).ends
     where
       by : SwapEnds m.desk h q → IsEased r
@@ -127,24 +129,25 @@ module _ {most : ℕ} (E : Holding Words → Type 0) (keeps : KeepsEasy most E) 
   object_calm side seat (Some h) (Peek name) new r ready x = peek_calm seat h w new r x
   object_calm side seat (Some h) (Unpin name) new r ready x = unpin_calm seat h w new r x
   object_calm side seat (Some h) (Read name) new r ready x =
-      event_calm seat (job.Read (record { n = h })) new r tt tt x
+      event_calm seat (job.Read (record { n = h })) new r tt tt tt x
   object_calm side seat (Some h) (Write name at bytes) new r ready x =
-      event_calm seat (job.Write (record { n = h }) at bytes) new r tt tt x
+      event_calm seat (job.Write (record { n = h }) at bytes) new r tt tt tt x
   object_calm side seat (Some h) (Free name) new r ready x =
-      event_calm seat (job.Free (record { n = h })) new r tt tt x
+      event_calm seat (job.Free (record { n = h })) new r tt tt tt x
   object_calm side seat (Some h) (Filter name) new r ready x =
-      event_calm seat (job.Filter (record { n = h })) new r tt tt x
+      event_calm seat (job.Filter (record { n = h })) new r tt tt tt x
   object_calm side seat (Some h) request new r ready x = absurd x
 
   other_calm : (side : Side) (seat : ℕ) (handle : Option ℕ) (request : Request) (o : Option Job)
       (new : WorldState) (r : Reply) → ((j : Job) → o ≡ Some j → IsWholeJob j)
       → ((j : Job) → o ≡ Some j → MakesWithin most j)
+      → ((j : Job) → o ≡ Some j → NeedsNoOrder j)
       → ((h : ℕ) → handle ≡ Some h → h < w.desk.settings.handles)
       → OtherStep side seat handle request o w r new → IsEased r
-  other_calm side seat handle request (Some j) new r whole within ready x =
+  other_calm side seat handle request (Some j) new r whole within alone ready x =
       let z = turn_beside j side seat w new r x in
-      event_calm seat j z.mid r (whole j refl) (within j refl) z.step
-  other_calm side seat handle request None new r whole within ready x =
+      event_calm seat j z.mid r (whole j refl) (within j refl) (alone j refl) z.step
+  other_calm side seat handle request None new r whole within alone ready x =
       object_calm side seat handle request new r ready x
 
   go : (nodes : List ℕ) (side : Side) (seat : ℕ) (handle : Option ℕ) (request : Request)
@@ -152,10 +155,11 @@ module _ {most : ℕ} (E : Holding Words → Type 0) (keeps : KeepsEasy most E) 
       → ((h : ℕ) → handle ≡ Some h → h < w.desk.settings.handles)
       → LineStep side seat handle request w r new → IsEased r
   go nodes side seat handle (Make name bytes) new r line within ready x =
-      event_calm seat (job.Make bytes) new r tt within x
+      event_calm seat (job.Make bytes) new r tt within tt x
   go nodes side seat handle Leave new r line within ready x = eased_as r _ tt x.0
   go nodes side seat handle request new r line within ready x = other_calm side seat handle request
-      (job_of request) new r (job_whole nodes request line) (job_within most request) ready x
+      (job_of request) new r (job_whole nodes request line) (job_within most request)
+      (line_alone request) ready x
 
 pub line_calm : {most : ℕ} (E : Holding Words → Type 0) → KeepsEasy most E → (nodes : List ℕ)
     (side : Side) (seat : ℕ) (handle : Option ℕ) (request : Request)

@@ -37,7 +37,7 @@ done_here : (seat : ℕ) (w new : WorldState) (r : Reply) → NoneHolds w.seats
     → w.far.counts.turns < 2 ^ 40 → CompactsHere seat w r new → IsDoneHere w r new
 done_here seat w new r lone few x =
     let works = is_done job.Compact w x.mid r few
-    (turn_alone seat job.Compact w x.mid r lone x.there) in
+    (turn_alone seat job.Compact w x.mid r tt lone x.there) in
     record {
       desk = x.desk ∙ works.0;
       step = record { mid = x.mid.far; same = works.1; beside = x.beside; full = x.full };
@@ -97,6 +97,6 @@ pub compact_goes : (side : Side) (answers : List Answer) (l : Line) (r : Reply)
     → LineGives answers (answer_to l Compact r) w new c.then.shown
 compact_goes parities.Nodes answers l r w new c step =
     still_goes job.Compact Compact compact_turn refl (λ xs q. refl) answers l r w new c
-    (turn_alone l.lane.n job.Compact w new r c.lone step)
+    (turn_alone l.lane.n job.Compact w new r tt c.lone step)
 compact_goes parities.Compute answers l r w new c x =
     here_goes answers l r w new c (done_here l.lane.n w new r c.lone c.few x)

@@ -8,9 +8,10 @@ use Rattle.cb_types.specs.declared.reply.Reply.{Reply}
 use Rattle.cb_types.specs.declared.reply.Reply.TheVariants as answer
 use Rattle.cb_world.specs.declared.shown.Shown.{Shown}
 use Rattle.cb_world.specs.FarState.{FarState}
+use Rattle.cb_world.specs.Orders.{LeavesWords}
 use Rattle.cb_world.specs.Sound.{Sound}
 use Rattle.cb_world.specs.World.{WorldState, IsSoundWorld}
-use Rattle.cb_world.proofs.Laws.{KeepsHolding, StaysIfBy}
+use Rattle.cb_world.proofs.Laws.{KeepsHolding, StaysIfBy, alike_leaves_words}
 use Rattle.cb_core.specs.Admitting.{IsAdmitted, IsTurnRefused, all_counted, other_holds}
 use Rattle.cb_core.specs.Step.{SeatTurn, free, held, worn}
 use Rattle.cb_core.specs.Turned.{counted}
@@ -73,18 +74,21 @@ module _ (seat : ℕ) (w m new : WorldState) (sound : IsSoundWorld w)
 
   -- the far state alone changed
   sound_by : StaysIfBy KeepsHolding w.desk.settings 36 (counted w.far Compact) new.far
+      → LeavesWords (counted w.far Compact) new.far
       → ((s : Shown) → Sound s m.far → Sound s new.far) → IsSoundWorld new
-  sound_by stays then =
+  sound_by stays leaves then =
       subst IsSoundWorld (sym (λ i. record { desk = desk_stays i; far = new.far; seats = seats_stay i }))
       (compacted_sound w 36 new.far (omega arith) sound admitted.few stays
       (then sound.shown (subst (Sound sound.shown) (sym far)
-      (once_known w Compact sound.shown sound.known).sound)))
+      (once_known w Compact sound.shown sound.known).sound)) leaves)
 
   pub compacted_stays : (r : Reply) → LocalStep m.far new.far r
       → ((s : Shown) → Sound s m.far → Sound s new.far) → IsSoundWorld new
-  compacted_stays r step = sound_by (local_laws.stays w.desk.settings sound.shown
-      (counted w.far Compact) new.far r (once_known w Compact sound.shown sound.known).sound
-      (subst (λ (f : FarState). LocalStep f new.far r) far step))
+  compacted_stays r step =
+      let known = (once_known w Compact sound.shown sound.known).sound in
+      let here = subst (λ (f : FarState). LocalStep f new.far r) far step in
+      sound_by (local_laws.stays w.desk.settings sound.shown (counted w.far Compact) new.far r known here)
+      (local_laws.keeps sound.shown (counted w.far Compact) new.far r known here).words
 
   pub lacking_is : (rows : ℕ) → rows ≤ 36 → new.far ≡ far_given m.far rows → StopsHere seat w new
   lacking_is rows most given =
@@ -98,5 +102,9 @@ module _ (seat : ℕ) (w m new : WorldState) (sound : IsSoundWorld w)
 
   pub lacking_stays : (rows : ℕ) → rows ≤ 36 → new.far ≡ far_given m.far rows
       → ((s : Shown) → Sound s m.far → Sound s new.far) → IsSoundWorld new
-  lacking_stays rows few given = sound_by (lack_stays w.desk.settings (counted w.far Compact)
-      new.far rows few (given ∙ ap (λ (f : FarState). far_given f rows) far))
+  lacking_stays rows few given =
+      let there = given ∙ ap (λ (f : FarState). far_given f rows) far in
+      sound_by (lack_stays w.desk.settings (counted w.far Compact) new.far rows few there)
+      (subst (LeavesWords (counted w.far Compact)) (sym there)
+      (alike_leaves_words (counted w.far Compact) (far_given (counted w.far Compact) rows) refl refl
+      refl refl (λ id p shard of. refl)))

@@ -286,6 +286,7 @@ module _ (side : Side) (s : Script) (i : ℕ) (later : List ℕ) (answers : List
         known = sound.known;
         pinned = sound.pinned;
         ongoing = sound.ongoing;
+        orders = sound.orders;
       };
       idle = rest.idle;
       crashed = rest.crashed;

@@ -12,13 +12,15 @@ use Rattle.cb_world.specs.KeepCodes.{KeepCodes}
 use Rattle.cb_world.specs.World.{IsSoundWorld, WorldState}
 use Rattle.cb_world.proofs.Laws.{codes_same, codes_stay, codes_then}
 use Rattle.cb_core.specs.declared.event.Event.TheVariants.{Turn}
-use Rattle.cb_core.specs.Step.{Leads, Step, held as other_holds, free}
+use Rattle.cb_core.specs.Jobs.{NeedsNoOrder}
+use Rattle.cb_core.specs.Step.{Leads, Step, held as other_holds, free, ordered}
 use Rattle.cb_core.proofs.Laws.{pin_far, turn_codes, unpin_far}
 use Rattle.cb_lanes.specs.GivingBack.{unpin_event, GivesAll, Rests}
 use Rattle.cb_lanes.specs.LineGoes.{job_of}
 use Rattle.cb_lanes.specs.LineStep.{LineStep, ObjectStep, OtherStep, TurnAt, PeekStep, not_pinned}
 use Rattle.cb_lanes.specs.LineStep.{shown, PinLine, at_once, stays_far, swapped_in}
 use Rattle.cb_lanes.specs.declared.side.Side.{Side}
+use Rattle.cb_lanes.proofs.LineKeeps.{line_alone}
 use Rattle.cb_lanes.proofs.Recounting.{IsRecounted, turn_beside}
 
 -- the same world
@@ -42,16 +44,17 @@ recounted_codes w new same =
     subst (KeepCodes w.far) (sym same.far) (codes_stay w.far _ refl refl refl refl)
 
 module _ (w : WorldState) (sound : IsSoundWorld w) where
-  event_codes : (seat : ℕ) (j : Job) (new : WorldState) (r : Reply) → Step w (Turn seat j) r new
-      → KeepCodes w.far new.far
-  event_codes seat j new r (other_holds holder off holds is same) =
+  event_codes : (seat : ℕ) (j : Job) (new : WorldState) (r : Reply) → NeedsNoOrder j
+      → Step w (Turn seat j) r new → KeepCodes w.far new.far
+  event_codes seat j new r alone (other_holds holder off holds is same) =
       codes_same w.far new.far (far_is w new same)
-  event_codes seat j new r (free none step) = turn_codes w new j r sound step
+  event_codes seat j new r alone (free none step) = turn_codes w new j r sound step
+  event_codes seat j new r alone (ordered keeps needs none turn seats) = absurd (needs alone)
 
-  side_codes : (side : Side) (seat : ℕ) (j : Job) (new : WorldState) (r : Reply)
+  side_codes : (side : Side) (seat : ℕ) (j : Job) (new : WorldState) (r : Reply) → NeedsNoOrder j
       → TurnAt j side seat w r new → KeepCodes w.far new.far
-  side_codes side seat j new r x = let z = turn_beside j side seat w new r x in
-      codes_then w.far z.mid.far new.far (event_codes seat j z.mid r z.step)
+  side_codes side seat j new r alone x = let z = turn_beside j side seat w new r x in
+      codes_then w.far z.mid.far new.far (event_codes seat j z.mid r alone z.step)
       (recounted_codes z.mid new z.counts)
 
   pin_codes : (seat h : ℕ) (new : WorldState) (r : Reply) → PinLine seat h w r new
@@ -59,9 +62,9 @@ module _ (w : WorldState) (sound : IsSoundWorld w) where
   pin_codes seat h new r (at_once pin never) =
       codes_same w.far new.far (pin_far w new seat h r pin)
   pin_codes seat h new r (stays_far away swap off) =
-      event_codes seat (job.Swap (record { n = h })) new r swap
+      event_codes seat (job.Swap (record { n = h })) new r tt swap
   pin_codes seat h new r (swapped_in m q away swap is again) =
-      codes_then w.far m.far new.far (event_codes seat (job.Swap (record { n = h })) m q swap)
+      codes_then w.far m.far new.far (event_codes seat (job.Swap (record { n = h })) m q tt swap)
       (codes_same m.far new.far (pin_far m new seat h r again))
 
   peek_codes : (seat h : ℕ) (new : WorldState) (r : Reply) → PeekStep seat h w r new
@@ -79,29 +82,31 @@ module _ (w : WorldState) (sound : IsSoundWorld w) where
   object_codes side seat (Some h) (Unpin name) new r x =
       codes_same w.far new.far (unpin_far w new seat h r x)
   object_codes side seat (Some h) (Read name) new r x =
-      event_codes seat (job.Read (record { n = h })) new r x
+      event_codes seat (job.Read (record { n = h })) new r tt x
   object_codes side seat (Some h) (Write name at bytes) new r x =
-      event_codes seat (job.Write (record { n = h }) at bytes) new r x
+      event_codes seat (job.Write (record { n = h }) at bytes) new r tt x
   object_codes side seat (Some h) (Free name) new r x =
-      event_codes seat (job.Free (record { n = h })) new r x
+      event_codes seat (job.Free (record { n = h })) new r tt x
   object_codes side seat (Some h) (Filter name) new r x =
-      event_codes seat (job.Filter (record { n = h })) new r x
+      event_codes seat (job.Filter (record { n = h })) new r tt x
   object_codes side seat (Some h) request new r x = absurd x
 
   other_codes : (side : Side) (seat : ℕ) (handle : Option ℕ) (request : Request) (o : Option Job)
-      (new : WorldState) (r : Reply) → OtherStep side seat handle request o w r new
-      → KeepCodes w.far new.far
-  other_codes side seat handle request (Some j) new r x = side_codes side seat j new r x
-  other_codes side seat handle request None new r x = object_codes side seat handle request new r x
+      (new : WorldState) (r : Reply) → ((j : Job) → o ≡ Some j → NeedsNoOrder j)
+      → OtherStep side seat handle request o w r new → KeepCodes w.far new.far
+  other_codes side seat handle request (Some j) new r alone x =
+      side_codes side seat j new r (alone j refl) x
+  other_codes side seat handle request None new r alone x =
+      object_codes side seat handle request new r x
 
   pub line_codes : (side : Side) (seat : ℕ) (handle : Option ℕ) (request : Request)
       (new : WorldState) (r : Reply) → LineStep side seat handle request w r new
       → KeepCodes w.far new.far
   line_codes side seat handle (Make name bytes) new r x =
-      event_codes seat (job.Make bytes) new r x
+      event_codes seat (job.Make bytes) new r tt x
   line_codes side seat handle Leave new r x = codes_same w.far new.far (all_far seat w new x.1)
   line_codes side seat handle request new r x =
-      other_codes side seat handle request (job_of request) new r x
+      other_codes side seat handle request (job_of request) new r (line_alone request) x
 
 -- a lane that rests leaves the far state
 pub rests_far : (left seat : ℕ) (w new : WorldState) → Rests left seat w new → new.far ≡ w.far

@@ -1,17 +1,22 @@
 -- What turns, pins and the ends of pins keep, lines keep too.
 use Rattle.std.proofs.Common.{◌≡◌, ℕ, zero, suc, List, [], ◌∷◌, map, Option, None, Some, refl, sym}
 use Rattle.std.proofs.Common.{subst}
+use Rattle.std.proofs.lemmas.Option.{none-some, same_Some}
 use Rattle.cb_types.specs.declared.job.Job.{Job}
 use Rattle.cb_types.specs.declared.job.Job.TheVariants as job
 use Rattle.cb_types.specs.declared.request.Request.{Request}
 use Rattle.cb_types.specs.declared.request.Request.TheVariants.{Make, Read, Write, Free, Pin, Peek}
-use Rattle.cb_types.specs.declared.request.Request.TheVariants.{Unpin, Filter, Leave}
+use Rattle.cb_types.specs.declared.request.Request.TheVariants.{Unpin, Filter, Leave, Evict, Begin}
+use Rattle.cb_types.specs.declared.request.Request.TheVariants.{Ship, Commit, Abort, Pair, Patch}
+use Rattle.cb_types.specs.declared.request.Request.TheVariants.{Merge, Part, Compact, Rebuild}
+use Rattle.cb_types.specs.declared.request.Request.TheVariants.{Crash, Join}
 use Rattle.cb_types.specs.declared.reply.Reply.{Reply}
 use Rattle.cb_world.specs.declared.seats.Pin.{Pin as SeatPin}
 use Rattle.cb_world.specs.World.{WorldState}
 use Rattle.cb_core.specs.declared.event.Event.TheVariants.{Turn}
+use Rattle.cb_core.specs.Jobs.{NeedsNoOrder}
 use Rattle.cb_core.specs.Pinning.{PinStep, UnpinStep}
-use Rattle.cb_core.specs.Step.{Leads, Step, TurnStep, held as other_holds, free}
+use Rattle.cb_core.specs.Step.{Leads, Step, TurnStep, held as other_holds, free, ordered}
 use Rattle.cb_lanes.specs.GivingBack.{unpin_event, GivesAll, Rests}
 use Rattle.cb_lanes.specs.LineGoes.{job_of}
 use Rattle.cb_lanes.specs.LineStep.{LineStep, ObjectStep, OtherStep, TurnAt, PeekStep, not_pinned}
@@ -28,6 +33,39 @@ IsObjectJob (job.Free handle) = Unit {0}
 IsObjectJob (job.Swap handle) = Unit {0}
 IsObjectJob (job.Filter handle) = Unit {0}
 IsObjectJob j = ⊥
+
+-- no such job hands an order out or takes one
+object_alone : (j : Job) → IsObjectJob j → NeedsNoOrder j
+object_alone (job.Make bytes) is = tt
+object_alone (job.Read handle) is = tt
+object_alone (job.Write handle at bytes) is = tt
+object_alone (job.Free handle) is = tt
+object_alone (job.Swap handle) is = tt
+object_alone (job.Filter handle) is = tt
+object_alone j is = absurd is
+
+-- nor does one of a line about no object
+pub line_alone : (request : Request) (j : Job) → job_of request ≡ Some j → NeedsNoOrder j
+line_alone request j e = by request e
+  where
+    is : (i : Job) → NeedsNoOrder i → Some i ≡ Some j → NeedsNoOrder j
+    is i x e = subst NeedsNoOrder (same_Some i j e) x
+
+    by : (q : Request) → job_of q ≡ Some j → NeedsNoOrder j
+    by Evict e = is job.Evict tt e
+    by Begin e = is job.Begin tt e
+    by Ship e = is job.Ship tt e
+    by Commit e = is job.Commit tt e
+    by Abort e = is job.Abort tt e
+    by Pair e = is job.Pair tt e
+    by Patch e = is job.Patch tt e
+    by Merge e = is job.Merge tt e
+    by Part e = is job.Part tt e
+    by Compact e = is job.Compact tt e
+    by Rebuild e = is job.Rebuild tt e
+    by (Crash node) e = is (job.Crash node) tt e
+    by (Join node) e = is (job.Join node) tt e
+    by q e = absurd (none-some j e)
 
 -- P is kept by each turn whose job may be, among them those on objects, by pins and their ends, and
 -- where rows given and keys drawn are counted otherwise
@@ -46,19 +84,23 @@ module _ (P : WorldState → Type 0) (May : Job → Type 0) (k : IsKeptByTurns P
   same_kept : (w new : WorldState) → new ≡ w → P w → P new
   same_kept w new same p = subst P (sym same) p
 
-  event_kept : (seat : ℕ) (j : Job) (w new : WorldState) (r : Reply) → May j
+  event_kept : (seat : ℕ) (j : Job) (w new : WorldState) (r : Reply) → May j → NeedsNoOrder j
       → Step w (Turn seat j) r new → P w → P new
-  event_kept seat j w new r may (other_holds holder off holds is same) p = same_kept w new same p
-  event_kept seat j w new r may (free none step) p = k.turn j w new r may step p
+  event_kept seat j w new r may alone (other_holds holder off holds is same) p =
+      same_kept w new same p
+  event_kept seat j w new r may alone (free none step) p = k.turn j w new r may step p
+  event_kept seat j w new r may alone (ordered keeps needs none turn seats) p =
+      absurd (needs alone)
 
   turn_kept : (side : Side) (seat : ℕ) (j : Job) (w new : WorldState) (r : Reply) → May j
-      → TurnAt j side seat w r new → P w → P new
-  turn_kept side seat j w new r may x p = let z = turn_beside j side seat w new r x in
-      k.recount z.mid new z.counts (event_kept seat j w z.mid r may z.step p)
+      → NeedsNoOrder j → TurnAt j side seat w r new → P w → P new
+  turn_kept side seat j w new r may alone x p = let z = turn_beside j side seat w new r x in
+      k.recount z.mid new z.counts (event_kept seat j w z.mid r may alone z.step p)
 
   on_object : (seat : ℕ) (j : Job) (w new : WorldState) (r : Reply) → IsObjectJob j
       → Step w (Turn seat j) r new → P w → P new
-  on_object seat j w new r is step p = event_kept seat j w new r (k.object j is) step p
+  on_object seat j w new r is step p =
+      event_kept seat j w new r (k.object j is) (object_alone j is) step p
 
   pin_kept : (seat h : ℕ) (w new : WorldState) (r : Reply) → PinLine seat h w r new → P w → P new
   pin_kept seat h w new r (at_once pin never) p = k.pin seat h w new r pin p
@@ -89,10 +131,11 @@ module _ (P : WorldState → Type 0) (May : Job → Type 0) (k : IsKeptByTurns P
 
   other_kept : (side : Side) (seat : ℕ) (handle : Option ℕ) (request : Request) (o : Option Job)
       (w new : WorldState) (r : Reply) → ((j : Job) → o ≡ Some j → May j)
+      → ((j : Job) → o ≡ Some j → NeedsNoOrder j)
       → OtherStep side seat handle request o w r new → P w → P new
-  other_kept side seat handle request (Some j) w new r may x p =
-      turn_kept side seat j w new r (may j refl) x p
-  other_kept side seat handle request None w new r may x p =
+  other_kept side seat handle request (Some j) w new r may alone x p =
+      turn_kept side seat j w new r (may j refl) (alone j refl) x p
+  other_kept side seat handle request None w new r may alone x p =
       object_kept side seat handle request w new r x p
 
   gives_kept : (seat : ℕ) (pins : List SeatPin) (replies : List Reply) (w new : WorldState)
@@ -115,7 +158,7 @@ module _ (P : WorldState → Type 0) (May : Job → Type 0) (k : IsKeptByTurns P
       on_object seat (job.Make bytes) w new r tt x p
   line_kept side seat handle Leave w new r may x p = all_kept seat w new x.1 p
   line_kept side seat handle request w new r may x p =
-      other_kept side seat handle request (job_of request) w new r may x p
+      other_kept side seat handle request (job_of request) w new r may (line_alone request) x p
 
   -- a lane that rests
   pub rests_kept : (left seat : ℕ) (w new : WorldState) → Rests left seat w new → P w → P new

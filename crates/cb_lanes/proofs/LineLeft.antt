@@ -30,10 +30,10 @@ use Rattle.cb_core.specs.declared.event.Event.TheVariants as event
 use Rattle.cb_core.specs.declared.event.Event.TheVariants.{Turn}
 use Rattle.cb_core.specs.Jobs.{IsJob, NeedsNoOrder}
 use Rattle.cb_core.specs.Pinning.{UnpinStep, not_pinned as none_given, given}
-use Rattle.cb_core.specs.Step.{Leads, Step, worn, done, held as other_holds, free}
+use Rattle.cb_core.specs.Step.{Leads, Step, worn, done, held as other_holds, free, ordered}
 use Rattle.cb_core.specs.Unavailable.{IsLost, TellsUnavailable, brought_by}
 use Rattle.cb_core.specs.Unmoved.{IsUnmoved, HasPin, KeepsPinned}
-use Rattle.cb_core.proofs.Laws.{step_pinned, step_settings, step_tells, swap_sound, touched}
+use Rattle.cb_core.proofs.Laws.{brought_only, step_pinned, step_settings, step_tells, swap_sound, touched}
 use Rattle.cb_core.proofs.Laws.{unmoved_same, unpin_step_sound}
 use Rattle.cb_lanes.specs.declared.side.Side.{Side}
 use Rattle.cb_lanes.specs.declared.side.Side.TheVariants as parities
@@ -118,6 +118,7 @@ compact_desk seat w new r (other_holds holder off holds is same) =
     ap (λ (v : WorldState). v.desk) same
 compact_desk seat w new r (free none (worn end is same)) = ap (λ (v : WorldState). v.desk) same
 compact_desk seat w new r (free none (done few works seats)) = works.0
+compact_desk seat w new r (ordered keeps off none turn seats) = absurd (off tt)
 
 -- the job may be asked for, and hands no order out and takes none
 abbrev IsAsked : Config → Job → Type 0
@@ -127,11 +128,11 @@ turn_pinned : (j : Job) (side : Side) (seat : ℕ) (w new : WorldState) (r : Rep
     → IsSoundWorld new → seat < 64 → IsAsked w.desk.settings j → TurnAt j side seat w r new
     → KeepsPinned w new
 turn_pinned job.Compact parities.Nodes seat w new r sound after lt ok x =
-    step_pinned (Turn seat job.Compact) w new r sound after (lt, ok.0, ok.1) x
+    step_pinned (Turn seat job.Compact) w new r sound after (lt, ok.0) x
 turn_pinned job.Compact parities.Compute seat w new r sound after lt ok x =
     λ k some still. unmoved_same w.desk new.desk k (x.desk ∙ compact_desk seat w x.mid r x.there)
 turn_pinned j side seat w new r sound after lt ok x =
-    step_pinned (Turn seat j) w new r sound after (lt, ok.0, ok.1) x
+    step_pinned (Turn seat j) w new r sound after (lt, ok.0) x
 
 -- ---- lines
 module _ (seat h : ℕ) (w new : WorldState) (r : Reply) (sound : IsSoundWorld w)
@@ -147,17 +148,17 @@ module _ (seat h : ℕ) (w new : WorldState) (r : Reply) (sound : IsSoundWorld w
   below_then m q step = subst (λ (c : Config). h < c.handles) (sym (step_settings w m swap q step)) below
 
   sound_then : (m : WorldState) (q : Reply) → Step w swap q m → IsSoundWorld m
-  sound_then m q step = swap_sound w m h q sound (turn_alone seat (job.Swap (record { n = h })) w m q lone step)
+  sound_then m q step = swap_sound w m h q sound (turn_alone seat (job.Swap (record { n = h })) w m q tt lone step)
 
   pin_pinned : PinLine seat h w r new → KeepsPinned w new
   pin_pinned (at_once x never) = step_pinned pin w new r sound after (lt, below) x
-  pin_pinned (stays_far away x off) = step_pinned swap w new r sound after (lt, below, tt) x
+  pin_pinned (stays_far away x off) = step_pinned swap w new r sound after (lt, below) x
   pin_pinned (swapped_in m q away x is y) = λ k some still.
       let mid = sound_then m q x in
       let pinned = pins_stay w m k sound mid
-      (event_seats seat (job.Swap (record { n = h })) w m q x) (step_settings w m swap q x) some in
+      (event_seats seat (job.Swap (record { n = h })) w m q tt x) (step_settings w m swap q x) some in
       unmoved_then k w.desk m.desk new.desk
-      (step_pinned swap w m q sound mid (lt, below, tt) x k some pinned)
+      (step_pinned swap w m q sound mid (lt, below) x k some pinned)
       (step_pinned pin m new r mid after (lt, below_then m q x) y k pinned still)
 
   none_some : {A : Type 0} (k : A) → None ≡ Some k → ⊥
@@ -171,12 +172,13 @@ module _ (seat h : ℕ) (w new : WorldState) (r : Reply) (sound : IsSoundWorld w
 
   swap_tells : (m : WorldState) (q : Reply) → IsSoundWorld m → Step w swap q m
       → TellsUnavailable w swap q
-  swap_tells m q mid step = step_tells swap w m q sound mid (lt, below, tt) step
+  swap_tells m q mid step = step_tells swap w m q sound mid (lt, below) step
 
   pin_tells : (name : List ℕ) → PinLine seat h w r new → LineTells seat (Some h) (Pin name) w r
   pin_tells name (at_once x never) =
       let t = step_tells pin w new r sound after (lt, below) x in record {
-        only = λ id l e. absurd (let z = t.only id l e in none_some z.0 z.1);
+        only = λ id l e. absurd
+            (let z = brought_only w pin r t (λ id l x. x) id l e in none_some z.0 z.1);
         each = λ k id l e room few lost. absurd (never (far_not_here seat h w new r (record {
           room = room;
           away = (subst (λ (i : ℕ). IsLost w i id l) (same_handle k e) lost).away;
@@ -184,14 +186,17 @@ module _ (seat h : ℕ) (w new : WorldState) (r : Reply) (sound : IsSoundWorld w
       }
   pin_tells name (stays_far away x off) =
       let t = swap_tells new r after x in record {
-        only = λ id l e. let z = t.only id l e in (z.0, z.1, away.room, z.2);
+        only = λ id l e.
+            let z = brought_only w swap r t (λ id l x. let f = x.1 in cc) id l e in
+            (z.0, z.1, away.room, z.2);
         each = λ k id l e room few lost. t.each k id l e (lone_other w.seats seat lone, few) lost;
       }
   pin_tells name (swapped_in m q away x is y) =
       let mid = sound_then m q x in
       let t = step_tells pin m new r mid after (lt, below_then m q x) y in
       let s = swap_tells m q mid x in record {
-        only = λ id l e. absurd (let z = t.only id l e in none_some z.0 z.1);
+        only = λ id l e. absurd
+            (let z = brought_only m pin r t (λ id l x. x) id l e in none_some z.0 z.1);
         each = λ k id l e room few lost.
             absurd (in_reply q id l (s.each k id l e (lone_other w.seats seat lone, few) lost) is);
       }
@@ -203,7 +208,7 @@ module _ (side : Side) (seat : ℕ) (w new : WorldState) (r : Reply) (sound : Is
   Ready handle = (h : ℕ) → handle ≡ Some h → h < w.desk.settings.handles
 
   turn_keeps : (j : Job) → IsAsked w.desk.settings j → Step w (Turn seat j) r new → KeepsPinned w new
-  turn_keeps j ok step = step_pinned (Turn seat j) w new r sound after (lt, ok.0, ok.1) step
+  turn_keeps j ok step = step_pinned (Turn seat j) w new r sound after (lt, ok.0) step
 
   peek_keeps : (h : ℕ) → PeekStep seat h w r new → KeepsPinned w new
   peek_keeps h (not_pinned none is same) = keeps_same w new same
@@ -306,11 +311,15 @@ module _ (side : Side) (seat : ℕ) (w new : WorldState) (r : Reply) (sound : Is
       → BringsObject w seat request → IsAsked w.desk.settings j → Step w (Turn seat j) r new
       → LineTells seat (Some h) request w r
   turn_told h request j brings may ok step =
-      let t = step_tells (Turn seat j) w new r sound after (lt, ok.0, ok.1) step in record {
-        only = λ id l e. let z = t.only id l e in (z.0, sym brings ∙ z.1, may, z.2);
+      let t = step_tells (Turn seat j) w new r sound after (lt, ok.0) step in record {
+        only = λ id l e. let z = brought_only w (Turn seat j) r t (λ id l x. no_landing x.1) id l e in
+            (z.0, sym brings ∙ z.1, may, z.2);
         each = λ k id l e room few lost.
             t.each k id l (brings ∙ e) (lone_other w.seats seat lone, few) lost;
       }
+    where
+      no_landing : j ≡ job.Land → ⊥
+      no_landing is = let f : None ≡ Some h = sym (ap brought_by is) ∙ brings in cc
 
   line_told : (handle : Option ℕ) (request : Request) → Ready handle → IsReplyOf request r
       → LineStep side seat handle request w r new → LineTells seat handle request w r

@@ -14,8 +14,9 @@ use Rattle.cb_types.specs.Requests.{name_of}
 use Rattle.cb_model.specs.Called.{handle_named}
 use Rattle.cb_world.specs.World.{IsSoundWorld, WorldState}
 use Rattle.cb_core.specs.declared.event.Event.TheVariants.{Turn}
+use Rattle.cb_core.specs.Jobs.{NeedsNoOrder}
 use Rattle.cb_core.specs.Narrow.{IsLong, IsLongMade, IsMade, IsNarrow}
-use Rattle.cb_core.specs.Step.{Step, held as other_holds, free}
+use Rattle.cb_core.specs.Step.{Step, held as other_holds, free, ordered}
 use Rattle.cb_core.proofs.Laws.{KeepsNarrow, narrow_configured, narrow_same, narrow_stays, narrow_then}
 use Rattle.cb_core.proofs.Laws.{pin_far, turn_keeps_narrow, unpin_far}
 use Rattle.cb_lanes.specs.LineGoes.{job_of}
@@ -23,6 +24,7 @@ use Rattle.cb_lanes.specs.LineStep.{LineStep, LinesLead, ObjectStep, OtherStep, 
 use Rattle.cb_lanes.specs.LineStep.{PinLine, at_once, not_pinned, shown, stays_far, swapped_in}
 use Rattle.cb_lanes.specs.declared.side.Side.{Side}
 use Rattle.cb_lanes.proofs.LineCodes.{rests_far}
+use Rattle.cb_lanes.proofs.LineKeeps.{line_alone}
 use Rattle.cb_lanes.proofs.Recounting.{IsRecounted, turn_beside}
 
 -- the line is a make of more bytes than a span of one page has in a slot, and an object was made
@@ -39,14 +41,18 @@ recounted_narrow w new same =
     subst (KeepsNarrow w.far) (sym same.far) (narrow_stays w.far _ refl refl refl refl)
 
 event_narrow : (seat : ℕ) (j : Job) (w new : WorldState) (r : Reply) → (IsLongMade j r → ⊥)
-    → Step w (Turn seat j) r new → KeepsNarrow w.far new.far
-event_narrow seat j w new r short (other_holds holder off holds is same) = same_world w new same
-event_narrow seat j w new r short (free none step) = turn_keeps_narrow w new j r short step
+    → NeedsNoOrder j → Step w (Turn seat j) r new → KeepsNarrow w.far new.far
+event_narrow seat j w new r short alone (other_holds holder off holds is same) =
+    same_world w new same
+event_narrow seat j w new r short alone (free none step) = turn_keeps_narrow w new j r short step
+event_narrow seat j w new r short alone (ordered keeps needs none turn seats) =
+    absurd (needs alone)
 
 side_narrow : (side : Side) (seat : ℕ) (j : Job) (w new : WorldState) (r : Reply)
-    → (IsLongMade j r → ⊥) → TurnAt j side seat w r new → KeepsNarrow w.far new.far
-side_narrow side seat j w new r short x = let z = turn_beside j side seat w new r x in
-    narrow_then w.far z.mid.far new.far (event_narrow seat j w z.mid r short z.step)
+    → (IsLongMade j r → ⊥) → NeedsNoOrder j → TurnAt j side seat w r new
+    → KeepsNarrow w.far new.far
+side_narrow side seat j w new r short alone x = let z = turn_beside j side seat w new r x in
+    narrow_then w.far z.mid.far new.far (event_narrow seat j w z.mid r short alone z.step)
     (recounted_narrow z.mid new z.counts)
 
 pin_narrow : (seat h : ℕ) (w new : WorldState) (r : Reply) → PinLine seat h w r new
@@ -54,10 +60,10 @@ pin_narrow : (seat h : ℕ) (w new : WorldState) (r : Reply) → PinLine seat h 
 pin_narrow seat h w new r (at_once pin never) =
     narrow_same w.far new.far (pin_far w new seat h r pin)
 pin_narrow seat h w new r (stays_far away swap off) =
-    event_narrow seat (job.Swap (record { n = h })) w new r (λ z. z) swap
+    event_narrow seat (job.Swap (record { n = h })) w new r (λ z. z) tt swap
 pin_narrow seat h w new r (swapped_in m q away swap is again) =
     narrow_then w.far m.far new.far
-    (event_narrow seat (job.Swap (record { n = h })) w m q (λ z. z) swap)
+    (event_narrow seat (job.Swap (record { n = h })) w m q (λ z. z) tt swap)
     (narrow_same m.far new.far (pin_far m new seat h r again))
 
 peek_narrow : (seat h : ℕ) (w new : WorldState) (r : Reply) → PeekStep seat h w r new
@@ -73,13 +79,13 @@ object_narrow side seat (Some h) (Peek name) w new r x = peek_narrow seat h w ne
 object_narrow side seat (Some h) (Unpin name) w new r x =
     narrow_same w.far new.far (unpin_far w new seat h r x)
 object_narrow side seat (Some h) (Read name) w new r x =
-    event_narrow seat (job.Read (record { n = h })) w new r (λ z. z) x
+    event_narrow seat (job.Read (record { n = h })) w new r (λ z. z) tt x
 object_narrow side seat (Some h) (Write name at bytes) w new r x =
-    event_narrow seat (job.Write (record { n = h }) at bytes) w new r (λ z. z) x
+    event_narrow seat (job.Write (record { n = h }) at bytes) w new r (λ z. z) tt x
 object_narrow side seat (Some h) (Free name) w new r x =
-    event_narrow seat (job.Free (record { n = h })) w new r (λ z. z) x
+    event_narrow seat (job.Free (record { n = h })) w new r (λ z. z) tt x
 object_narrow side seat (Some h) (Filter name) w new r x =
-    event_narrow seat (job.Filter (record { n = h })) w new r (λ z. z) x
+    event_narrow seat (job.Filter (record { n = h })) w new r (λ z. z) tt x
 object_narrow side seat (Some h) request w new r x = absurd x
 
 -- the job of a line about no object is no make
@@ -105,20 +111,23 @@ no_make request r x = x
 
 other_narrow : (side : Side) (seat : ℕ) (handle : Option ℕ) (request : Request) (o : Option Job)
     (w new : WorldState) (r : Reply) → (IsLongIf o r → ⊥)
+    → ((j : Job) → o ≡ Some j → NeedsNoOrder j)
     → OtherStep side seat handle request o w r new → KeepsNarrow w.far new.far
-other_narrow side seat handle request (Some j) w new r short x = side_narrow side seat j w new r short x
-other_narrow side seat handle request None w new r short x =
+other_narrow side seat handle request (Some j) w new r short alone x =
+    side_narrow side seat j w new r short (alone j refl) x
+other_narrow side seat handle request None w new r short alone x =
     object_narrow side seat handle request w new r x
 
 pub line_keeps_narrow : (side : Side) (seat : ℕ) (handle : Option ℕ) (request : Request)
     (w new : WorldState) (r : Reply) → (IsLongLine request r → ⊥)
     → LineStep side seat handle request w r new → KeepsNarrow w.far new.far
 line_keeps_narrow side seat handle (Make name bytes) w new r short x =
-    event_narrow seat (job.Make bytes) w new r short x
+    event_narrow seat (job.Make bytes) w new r short tt x
 line_keeps_narrow side seat handle Leave w new r short x =
     narrow_same w.far new.far (rests_far 0 seat w new x.1)
 line_keeps_narrow side seat handle request w new r short x =
-    other_narrow side seat handle request (job_of request) w new r (no_make request r) x
+    other_narrow side seat handle request (job_of request) w new r (no_make request r)
+    (line_alone request) x
 
 pub line_narrow : (w : WorldState) → IsSoundWorld w → (side : Side) (seat : ℕ) (handle : Option ℕ)
     (request : Request) (new : WorldState) (r : Reply) → (IsLongLine request r → ⊥)

@@ -13,9 +13,10 @@ use Rattle.cb_world.specs.World.{WorldState}
 use Rattle.cb_world.proofs.Laws.{seat_beside}
 use Rattle.cb_core.specs.declared.event.Event.TheVariants.{Turn}
 use Rattle.cb_core.specs.Holding.{NoOtherHolds}
+use Rattle.cb_core.specs.Jobs.{NeedsNoOrder}
 use Rattle.cb_core.specs.Pinning.{PinStep, scope_full, refused, taken, UnpinStep}
 use Rattle.cb_core.specs.Pinning.{not_pinned as no_pin, given}
-use Rattle.cb_core.specs.Step.{Step, TurnStep, worn, done, held as other_holds, free}
+use Rattle.cb_core.specs.Step.{Step, TurnStep, worn, done, held as other_holds, free, ordered}
 use Rattle.cb_lanes.specs.GivingBack.{Rests}
 use Rattle.cb_lanes.specs.LineStep.{LineStep}
 use Rattle.cb_lanes.specs.declared.side.Side.{Side}
@@ -40,18 +41,20 @@ pub turn_seats : (j : Job) (w new : WorldState) (r : Reply) → TurnStep j w r n
 turn_seats j w new r (worn end is same) = ap (λ (v : WorldState). v.seats) same
 turn_seats j w new r (done few works seats) = seats
 
-pub event_seats : (seat : ℕ) (j : Job) (w new : WorldState) (r : Reply) → Step w (Turn seat j) r new
-    → new.seats ≡ w.seats
-event_seats seat j w new r (other_holds holder off holds is same) =
+pub event_seats : (seat : ℕ) (j : Job) (w new : WorldState) (r : Reply) → NeedsNoOrder j
+    → Step w (Turn seat j) r new → new.seats ≡ w.seats
+event_seats seat j w new r alone (other_holds holder off holds is same) =
     ap (λ (v : WorldState). v.seats) same
-event_seats seat j w new r (free none step) = turn_seats j w new r step
+event_seats seat j w new r alone (free none step) = turn_seats j w new r step
+event_seats seat j w new r alone (ordered keeps needs none turn seats) = absurd (needs alone)
 
 -- where no seat holds the far lock, a turn takes place
-pub turn_alone : (seat : ℕ) (j : Job) (w new : WorldState) (r : Reply) → NoneHolds w.seats
-    → Step w (Turn seat j) r new → TurnStep j w r new
-turn_alone seat j w new r lone (other_holds holder off holds is same) =
+pub turn_alone : (seat : ℕ) (j : Job) (w new : WorldState) (r : Reply) → NeedsNoOrder j
+    → NoneHolds w.seats → Step w (Turn seat j) r new → TurnStep j w r new
+turn_alone seat j w new r alone lone (other_holds holder off holds is same) =
     absurd (let e = sym (lone holder) ∙ holds in cc)
-turn_alone seat j w new r lone (free none step) = step
+turn_alone seat j w new r alone lone (free none step) = step
+turn_alone seat j w new r alone lone (ordered keeps needs none turn seats) = absurd (needs alone)
 
 -- ---- lines
 

@@ -21,7 +21,7 @@ use Rattle.cb_core.specs.declared.event.Atomic.TheVariants as atomic
 use Rattle.cb_core.specs.declared.event.Event.TheVariants as event
 use Rattle.cb_core.specs.declared.event.Event.TheVariants.{Turn}
 use Rattle.cb_core.specs.Membership.{crashed, is_down}
-use Rattle.cb_core.specs.Step.{TurnStep, worn, done, held as other_holds, free}
+use Rattle.cb_core.specs.Step.{TurnStep, worn, done, held as other_holds, free, ordered}
 use Rattle.cb_core.proofs.Laws.{lead_rises, step_rises}
 use Rattle.cb_lanes.specs.GivingBack.{GivesAll, Rests, lines_by}
 use Rattle.cb_lanes.specs.LineGoes.{job_of}
@@ -126,6 +126,8 @@ line_new side seat handle (Crash node) w new r loss (other_holds holder off hold
     absurd (none-some loss (sym (ap (told_loss (Crash node)) is) ∙ e))
 line_new side seat handle (Crash node) w new r loss (free none step) e =
     crash_new node w new r loss step e
+line_new side seat handle (Crash node) w new r loss (ordered keeps off none turn seats) e =
+    absurd (off tt)
 line_new side seat handle request w new r loss x e = absurd (none-some loss e)
 
 -- ---- the lines one after another

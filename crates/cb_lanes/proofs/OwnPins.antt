@@ -143,7 +143,7 @@ module _ (side : Side) (nodes i : ℕ) (lines : List Line) (answers : List Answe
   write_by name at bytes r maker (Some h) e step =
       write_tells nodes i lines answers w new number later own name h are so_far scopes c some low comes maker e
       (ready name h e) at bytes r (same name ∙ e)
-      (turn_alone own (job.Write (record { n = h }) at bytes) w new r c.lone step)
+      (turn_alone own (job.Write (record { n = h }) at bytes) w new r tt c.lone step)
 
   free_by : (name : List ℕ) (r : Reply) → is_maker lines own name ≡ true
       → (o : Option ℕ) → number name ≡ o → LineStep side own o (Free name) w r new
@@ -151,7 +151,7 @@ module _ (side : Side) (nodes i : ℕ) (lines : List Line) (answers : List Answe
   free_by name r maker None e step = unmade_tells (named_on name (scope_of own answers)) r step.0
   free_by name r maker (Some h) e step =
       free_tells nodes i lines answers w new number later own name h are so_far scopes c some low comes maker e
-      (ready name h e) r (turn_alone own (job.Free (record { n = h })) w new r c.lone step)
+      (ready name h e) r (turn_alone own (job.Free (record { n = h })) w new r tt c.lone step)
 
   pub line_tells : (request : Request) (r : Reply) (handle : Option ℕ)
       → ((name : List ℕ) → name_of request ≡ Some name → number name ≡ handle)

@@ -340,10 +340,10 @@ pin_goes answers l name h r w new c lt below made few named (at_once pin unless)
     pin_here_goes answers l name h r w new (around answers w new c) lt below made few named pin unless
 pin_goes answers l name h r w new c lt below made few named (stays_far away swap off) =
     stays_goes answers l name h r w new c below named
-    (turn_alone l.lane.n (job.Swap (record { n = h })) w new r c.lone swap) off
+    (turn_alone l.lane.n (job.Swap (record { n = h })) w new r tt c.lone swap) off
 pin_goes answers l name h r w new c lt below made few named (swapped_in m q away swap is again) =
     swapped_goes answers l name h q r w m new c lt below made few named
-    (turn_alone l.lane.n (job.Swap (record { n = h })) w m q c.lone swap) is again
+    (turn_alone l.lane.n (job.Swap (record { n = h })) w m q tt c.lone swap) is again
 
 -- no pin changes the configuration
 pub pin_settings : (seat h : ℕ) (w new : WorldState) (r : Reply) → PinLine seat h w r new

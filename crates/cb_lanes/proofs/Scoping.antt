@@ -17,6 +17,7 @@ use Rattle.cb_types.specs.Requests.{name_of}
 use Rattle.cb_world.specs.Seats.{SeatState, idle_seat, pins_among, pins_of_seat}
 use Rattle.cb_world.specs.StillWords.{stamp_at}
 use Rattle.cb_world.specs.World.{WorldState, IsSoundWorld, word_at}
+use Rattle.cb_core.specs.Jobs.{NeedsNoOrder}
 use Rattle.cb_core.specs.Pinning.{PinStep, scope_full, refused, taken, pin_refusal, UnpinStep}
 use Rattle.cb_core.specs.Pinning.{not_pinned as unpin_refused, given}
 use Rattle.cb_core.specs.declared.event.Event.TheVariants.{Turn}
@@ -33,6 +34,7 @@ use Rattle.cb_lanes.proofs.GivingBack.{gives_all, pins_own, pins_other, given_pi
 use Rattle.cb_lanes.proofs.Filtering.{filter_counts}
 use Rattle.cb_lanes.proofs.PinLists.{AreHandlesApart, ArePinsOf, pins_length, scope_none}
 use Rattle.cb_lanes.proofs.PinLists.{scope_newest, scope_without, scope_count}
+use Rattle.cb_lanes.proofs.LineKeeps.{line_alone}
 use Rattle.cb_lanes.proofs.Lone.{event_seats, turn_alone}
 use Rattle.cb_lanes.proofs.Pinning.{in_or_refused}
 use Rattle.cb_lanes.proofs.Recounting.{turn_beside}
@@ -59,11 +61,13 @@ still_scoped number handle scope request r seat w new same are still says = reco
 
 -- a turn changes no pins
 turn_scoped : (number : List ℕ → Option ℕ) (handle : Option ℕ) (scope : Scope) (request : Request)
-    (r : Reply) (seat : ℕ) (w new : WorldState) (j : Job) → Step w (Turn seat j) r new
+    (r : Reply) (seat : ℕ) (w new : WorldState) (j : Job) → NeedsNoOrder j
+    → Step w (Turn seat j) r new
     → ArePinsOf number scope (pins_of_seat w.seats seat) → scope_after scope request r ≡ scope
     → ScopeSays handle scope request r → Scoped number handle scope request r seat w new
-turn_scoped number handle scope request r seat w new j step are still says =
-    still_scoped number handle scope request r seat w new (event_seats seat j w new r step) are still says
+turn_scoped number handle scope request r seat w new j alone step are still says =
+    still_scoped number handle scope request r seat w new (event_seats seat j w new r alone step) are
+    still says
 
 -- a line of which the scope says nothing, and that changes no seat
 seats_scoped : (number : List ℕ → Option ℕ) (handle : Option ℕ) (scope : Scope) (request : Request)
@@ -79,12 +83,13 @@ seats_scoped number handle scope request r seat w new same are still none some =
     says (Some h) = some h
 
 quiet_scoped : (number : List ℕ → Option ℕ) (handle : Option ℕ) (scope : Scope) (request : Request)
-    (r : Reply) (seat : ℕ) (w new : WorldState) (j : Job) → Step w (Turn seat j) r new
+    (r : Reply) (seat : ℕ) (w new : WorldState) (j : Job) → NeedsNoOrder j
+    → Step w (Turn seat j) r new
     → ArePinsOf number scope (pins_of_seat w.seats seat) → scope_after scope request r ≡ scope
     → ScopeSays None scope request r → ((h : ℕ) → ScopeSays (Some h) scope request r)
     → Scoped number handle scope request r seat w new
-quiet_scoped number handle scope request r seat w new j step =
-    seats_scoped number handle scope request r seat w new (event_seats seat j w new r step)
+quiet_scoped number handle scope request r seat w new j alone step =
+    seats_scoped number handle scope request r seat w new (event_seats seat j w new r alone step)
 
 -- ---- an answer that counts pins
 
@@ -235,18 +240,18 @@ pin_line_scoped answers number apart scope name h seat r w new c lt below at_nam
 pin_line_scoped answers number apart scope name h seat r w new c lt below at_name are
     (stays_far away swap off) =
     let j = job.Swap (record { n = h }) in
-    let goes = turn_alone seat j w new r c.lone swap in
+    let goes = turn_alone seat j w new r tt c.lone swap in
     let refusal = in_or_refused new.desk h r (swap_turn w new h r c.before c.then c.few below goes).ends off in
     let room = away.room in
     let long = pins_length number scope (pins_of_seat w.seats seat) are in
-    still_scoped number (Some h) scope (Pin name) r seat w new (event_seats seat j w new r swap) are
+    still_scoped number (Some h) scope (Pin name) r seat w new (event_seats seat j w new r tt swap) are
     (refusal_still scope name r refusal)
     (λ e. absurd (swap_not_full r refusal e), λ e. absurd (omega (arith, room, long, e)))
 pin_line_scoped answers number apart scope name h seat r w new c lt below at_name are
     (swapped_in m q away swap is again) =
     let j = job.Swap (record { n = h }) in
-    let seats = event_seats seat j w m q swap in
-    let z = pin_scoped number apart scope name h seat r m new (swap_sound w m h q c.before (turn_alone seat j w m q c.lone swap)) lt at_name
+    let seats = event_seats seat j w m q tt swap in
+    let z = pin_scoped number apart scope name h seat r m new (swap_sound w m h q c.before (turn_alone seat j w m q tt c.lone swap)) lt at_name
     (subst (λ (xs : List SeatState). ArePinsOf number scope (pins_of_seat xs seat)) (sym seats) are) again in
     record {
       says = z.says;
@@ -262,37 +267,37 @@ pub line_scoped : (side : Side) (answers : List Answer) (request : Request) (r :
     → ArePinsOf number scope (pins_of_seat w.seats seat) → LineStep side seat handle request w r new
     → Scoped number handle scope request r seat w new
 line_scoped side answers (Make name bytes) r w new handle number scope seat c lt apart named ready are step =
-    quiet_scoped number handle scope (Make name bytes) r seat w new (job.Make bytes) step are refl tt (λ h. tt)
+    quiet_scoped number handle scope (Make name bytes) r seat w new (job.Make bytes) tt step are refl tt (λ h. tt)
 line_scoped side answers Leave r w new handle number scope seat c lt apart named ready are step =
     leave_scoped number handle scope seat r w new c.before lt are step.0 step.1
 line_scoped side answers (Read name) r w new None number scope seat c lt apart named ready are step =
     unmade_scoped number scope (Read name) seat r w new are step.1 refl tt
 line_scoped side answers (Read name) r w new (Some h) number scope seat c lt apart named ready are step =
-    turn_scoped number (Some h) scope (Read name) r seat w new (job.Read (record { n = h })) step are refl tt
+    turn_scoped number (Some h) scope (Read name) r seat w new (job.Read (record { n = h })) tt step are refl tt
 line_scoped side answers (Write name at bytes) r w new None number scope seat c lt apart named ready are step =
     unmade_scoped number scope (Write name at bytes) seat r w new are step.1 refl tt
 line_scoped side answers (Write name at bytes) r w new (Some h) number scope seat c lt apart named ready are step =
     let j = job.Write (record { n = h }) at bytes in
-    turn_scoped number (Some h) scope (Write name at bytes) r seat w new j step are refl
+    turn_scoped number (Some h) scope (Write name at bytes) r seat w new j tt step are refl
     (pinned_says number apart scope name h seat r w (named name refl) are c.before lt (ready h refl)
     (λ count is. write_counts w new h at bytes count c.before c.few
-    (subst (λ (q : Reply). TurnStep j w q new) is (turn_alone seat j w new r c.lone step))))
+    (subst (λ (q : Reply). TurnStep j w q new) is (turn_alone seat j w new r tt c.lone step))))
 line_scoped side answers (Free name) r w new None number scope seat c lt apart named ready are step =
     unmade_scoped number scope (Free name) seat r w new are step.1 refl tt
 line_scoped side answers (Free name) r w new (Some h) number scope seat c lt apart named ready are step =
     let j = job.Free (record { n = h }) in
-    turn_scoped number (Some h) scope (Free name) r seat w new j step are refl
+    turn_scoped number (Some h) scope (Free name) r seat w new j tt step are refl
     (pinned_says number apart scope name h seat r w (named name refl) are c.before lt (ready h refl)
     (λ count is. free_counts w new h count c.before c.few
-    (subst (λ (q : Reply). TurnStep j w q new) is (turn_alone seat j w new r c.lone step))))
+    (subst (λ (q : Reply). TurnStep j w q new) is (turn_alone seat j w new r tt c.lone step))))
 line_scoped side answers (Filter name) r w new None number scope seat c lt apart named ready are step =
     unmade_scoped number scope (Filter name) seat r w new are step.1 refl tt
 line_scoped side answers (Filter name) r w new (Some h) number scope seat c lt apart named ready are step =
     let j = job.Filter (record { n = h }) in
-    turn_scoped number (Some h) scope (Filter name) r seat w new j step are refl
+    turn_scoped number (Some h) scope (Filter name) r seat w new j tt step are refl
     (pinned_says number apart scope name h seat r w (named name refl) are c.before lt (ready h refl)
     (λ count is. filter_counts w new h count c.few
-    (subst (λ (q : Reply). TurnStep j w q new) is (turn_alone seat j w new r c.lone step))))
+    (subst (λ (q : Reply). TurnStep j w q new) is (turn_alone seat j w new r tt c.lone step))))
 line_scoped side answers (Pin name) r w new None number scope seat c lt apart named ready are step =
     unmade_scoped number scope (Pin name) seat r w new are step.1 (ap (scope_after scope (Pin name)) step.0)
     step.0
@@ -310,6 +315,7 @@ line_scoped side answers (Unpin name) r w new (Some h) number scope seat c lt ap
 line_scoped side answers Compact r w new handle number scope seat c lt apart named ready are step =
     let z = turn_beside job.Compact side seat w new r step in
     seats_scoped number handle scope Compact r seat w new
-    (z.counts.seats ∙ event_seats seat job.Compact w z.mid r z.step) are refl tt (λ h. tt)
+    (z.counts.seats ∙ event_seats seat job.Compact w z.mid r tt z.step) are refl tt (λ h. tt)
 line_scoped side answers request r w new handle number scope seat c lt apart named ready are step =
-    quiet_scoped number handle scope request r seat w new _ step are refl tt (λ h. tt)
+    quiet_scoped number handle scope request r seat w new _ (line_alone request _ refl) step are refl tt
+    (λ h. tt)

@@ -20,7 +20,7 @@ use Rattle.cb_core.specs.declared.event.Atomic.TheVariants as atomic
 use Rattle.cb_core.specs.declared.event.Event.TheVariants as event
 use Rattle.cb_core.specs.declared.event.Event.TheVariants.{Turn}
 use Rattle.cb_core.specs.Jobs.{IsJob}
-use Rattle.cb_core.specs.Step.{Step, worn, done, held as other_holds, free}
+use Rattle.cb_core.specs.Step.{Step, worn, done, held as other_holds, free, ordered}
 use Rattle.cb_core.proofs.Laws.{make_turn, step_settings}
 use Rattle.cb_lanes.specs.declared.side.Side.{Side}
 use Rattle.cb_lanes.specs.GivingBack.{GivesAll}
@@ -112,6 +112,8 @@ made_below seat bytes w new h version before after (other_holds holder off holds
     absurd (let e = is in cc)
 made_below seat bytes w new h version before after (free none (worn end is same)) =
     absurd (let e = is in cc)
+made_below seat bytes w new h version before after (ordered keeps off none turn seats) =
+    absurd (off tt)
 made_below seat bytes w new h version before after (free none (done few works seats)) =
     by (make_turn w new bytes [] (answer.Made h version) before after few (done few works seats)).call
   where

@@ -10,7 +10,7 @@ use Rattle.cb_world.specs.World.{WorldState, empty_world}
 use Rattle.cb_compact.specs.CompactStep.{CompactStep}
 use Rattle.cb_core.specs.declared.event.Event.TheVariants.{Turn}
 use Rattle.cb_core.specs.Holding.{NoOtherHolds}
-use Rattle.cb_core.specs.Step.{Step, done, free, held, worn}
+use Rattle.cb_core.specs.Step.{Step, done, free, ordered, held, worn}
 use Rattle.cb_core.specs.Turned.{counted}
 use Rattle.cb_local.specs.Fetching.{far_given}
 use Rattle.cb_local.specs.LocalStep.{IsBesideNodes}
@@ -68,6 +68,7 @@ mid_is : (r : Reply) (mid : WorldState) → Step full_count (Turn 1 job.Compact)
 mid_is r mid (held holder off holds reply same) = absurd (off (alone holder holds))
 mid_is r mid (free none (worn end reply same)) = (reply, same)
 mid_is r mid (free none (done few works seats)) = absurd (omega (arith, few))
+mid_is r mid (ordered keeps off none turn seats) = absurd (off tt)
 
 another_answer : (new : WorldState) → CompactsHere 1 full_count NoPair new → ⊥
 another_answer new x = absurd (let e = (mid_is NoPair x.mid x.there).0 in cc)
@@ -130,6 +131,7 @@ uncounted x = by x.there x.beside
         absurd (let e : NoPair ≡ Held holder = reply in cc)
     by (free lone (worn end reply equal)) beside = absurd (let e : NoPair ≡ Worn = reply in cc)
     by (free lone (done few works seats)) beside = none (same beside) (found x.mid.far works.1)
+    by (ordered keeps off alone turn seats) beside = off tt
 
 -- ---- no memory
 -- the turn is counted, and at the most the rows of the widest pair were given out

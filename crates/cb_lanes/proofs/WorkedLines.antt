@@ -18,7 +18,7 @@ use Rattle.cb_world.specs.FarState.{FarState}
 use Rattle.cb_world.specs.World.{WorldState, IsSoundWorld, empty_world}
 use Rattle.cb_core.specs.Membership.{JoinTurn, joined as joined_again, is_up}
 use Rattle.cb_core.specs.declared.event.Event.TheVariants.{Turn}
-use Rattle.cb_core.specs.Step.{Step, held, free, worn, done}
+use Rattle.cb_core.specs.Step.{Step, held, free, ordered, worn, done}
 use Rattle.cb_core.specs.Turned.{counted}
 use Rattle.cb_lanes.specs.Asked.{asked, HasLineReply}
 use Rattle.cb_lanes.specs.LineGoes.{job_of, job_on}
@@ -175,13 +175,14 @@ joined = record (empty_world small) {
 
 a_join : LineStep Nodes 1 None (Join (record { n = node })) (empty_world small) (Up (record { n = node })) joined
 a_join = free (lone_other (empty_world small).seats 1 empty_lone)
-    (done (omega arith) (refl, is_up refl refl refl, λ s k. (s, k, λ h. refl, λ seats open_writes. open_writes)) refl)
+    (done (omega arith) (refl, is_up refl refl refl, λ s k. (s, k, (λ h. refl), (λ seats open_writes. open_writes), λ o kept. kept)) refl)
 
 -- one that is not counted
 uncounted : LineStep Nodes 1 None (Join (record { n = node })) (empty_world small) (Up (record { n = node }))
     (empty_world small) → ⊥
 uncounted (held holder off holds reply same) = absurd (let e = reply in cc)
 uncounted (free none (worn end reply same)) = absurd (let e = reply in cc)
+uncounted (ordered keeps off none turn seats) = off tt
 uncounted (free none (done few works seats)) = by works.1 where
   by : JoinTurn (record { n = node }) (counted (empty_world small).far (job.Join (record { n = node })))
       (Up (record { n = node })) (empty_world small).far → ⊥

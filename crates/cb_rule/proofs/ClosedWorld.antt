@@ -26,6 +26,7 @@ use Rattle.cb_world.specs.LocalSound.{LiesAt}
 use Rattle.cb_world.specs.Memory.{IsPacked, bytes_in, window, words_for}
 use Rattle.cb_world.specs.Now.{Now, broken_home, is_gone, now, now_as}
 use Rattle.cb_world.specs.Now.Now.{held, gone}
+use Rattle.cb_world.specs.Orders.{KeepsOrder}
 use Rattle.cb_world.specs.OpenWrites.{AreOpen, IsLeavingNow}
 use Rattle.cb_world.specs.Packed.{IsFreedLater, IsPackedAs}
 use Rattle.cb_world.specs.Plain.{Shows, word_at}
@@ -328,6 +329,7 @@ module _ (c : Config) (ws : List ℕ) (views : List View) (known : Shown) (es : 
       pinned = pinned;
       ongoing = ongoing;
       one = λ a b there. absurd (none_holds a there);
-      orders = λ seat. ap (λ (x : SeatState). x.order) (same_each 64 idle_seat seat);
+      orders = λ seat. subst (λ (x : SeatState). KeepsOrder t far x.order)
+          (sym (same_each 64 idle_seat seat)) tt;
       counted = stood.counted;
     }

@@ -1,6 +1,7 @@
 -- What follows from a worker's work: each of its turns has a job of that worker, and there are at
 -- least as many turns as it owes.
-use Rattle.std.proofs.Common.{◌≡◌, ℕ, ◌+◌, ◌≤◌, List, [], ◌∷◌, ◌++◌, length, Option, None, Some, refl, sym, ap, ◌∙◌, subst, arith}
+use Rattle.std.proofs.Common.{◌≡◌, ℕ, ◌+◌, ◌≤◌, List, [], ◌∷◌, ◌++◌, length, Option, None, Some}
+use Rattle.std.proofs.Common.{refl, sym, ap, ◌∙◌, subst, arith}
 use Rattle.std.proofs.lemmas.List.{length-append, length-map, map-append}
 use Rattle.std.proofs.lemmas.Option.{none-some}
 use Rattle.cb_types.specs.declared.job.Job.{Job}
@@ -10,7 +11,8 @@ use Rattle.cb_types.specs.declared.reply.Reply.TheVariants as answer
 use Rattle.cb_workers.specs.Rules.{after_batch, after_done, after_pair, end_of, first_job, next_job}
 use Rattle.cb_workers.specs.Rules.{owner}
 use Rattle.cb_record.specs.Deeds.{Deed}
-use Rattle.cb_workers.specs.Work.{AnsweredTurn, AreDue, AreJobsOf, IsCutShort, IsOnly, IsWork, deed_of}
+use Rattle.cb_workers.specs.Work.{AnsweredTurn, AreDue, AreJobsOf, IsCutShort, IsOnly, IsWork}
+use Rattle.cb_workers.specs.Work.{deed_of}
 use Rattle.cb_workers.specs.Work.{deeds_of, job_behind, lack_of}
 use Rattle.cb_workers.specs.declared.worker.Worker.{Worker}
 use Rattle.cb_workers.specs.declared.worker.Worker.TheVariants as worker

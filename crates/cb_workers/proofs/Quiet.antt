@@ -1,5 +1,6 @@
 -- A turn of a worker brings nothing but itself to the record of its pass.
-use Rattle.std.proofs.Common.{◌≡◌, ℕ, List, [], ◌∷◌, Option, None, Result, Ok, Err, IsOk, refl, ap, ◌∙◌, subst}
+use Rattle.std.proofs.Common.{◌≡◌, ℕ, List, [], ◌∷◌, Option, None, Result, Ok, Err, IsOk, refl, ap}
+use Rattle.std.proofs.Common.{◌∙◌, subst}
 use Rattle.cb_member.specs.declared.no_memory.NoMemory.{NoMemory}
 use Rattle.cb_types.specs.declared.config.Config.{Config}
 use Rattle.cb_types.specs.declared.job.Job.{Job}
@@ -15,7 +16,8 @@ use Rattle.cb_rule.specs.declared.turn.Turn.{Turn}
 use Rattle.cb_rule.specs.declared.view.View.{View}
 use Rattle.cb_record.specs.Parts.{Part, grown, nothing_more}
 use Rattle.cb_shared.proofs.Laws.{asked_alone}
-use Rattle.cb_shared.specs.Turning.{DidAs, FindsFreedAfter, JobReads, TurnBy, answer_of, freed_of, made_by_turn, object_of, turn_part, with_own}
+use Rattle.cb_shared.specs.Turning.{DidAs, FindsFreedAfter, JobReads, TurnBy, answer_of, freed_of}
+use Rattle.cb_shared.specs.Turning.{made_by_turn, object_of, turn_part, with_own}
 use Rattle.cb_workers.specs.Bodies.{AddsTurns, IsEnd, IsOwed, one_deed, turns_alone}
 
 -- what a worker's job leaves alone: it reads no object under a pin, is about no object that a pass

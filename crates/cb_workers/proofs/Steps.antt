@@ -1,5 +1,6 @@
 -- How turns come to be a worker's work.
-use Rattle.std.proofs.Common.{◌≡◌, ℕ, ◌+◌, ◌<◌, List, [], ◌∷◌, ◌++◌, length, map, Option, None, Some}
+use Rattle.std.proofs.Common.{◌≡◌, ℕ, ◌+◌, ◌<◌, List, [], ◌∷◌, ◌++◌, length, map, Option, None}
+use Rattle.std.proofs.Common.{Some}
 use Rattle.std.proofs.Common.{Result, Ok, Err, IsOk, OnErr, refl, sym, ap, ◌∙◌, subst, arith}
 use Rattle.std.proofs.lemmas.Bool.{false≢true}
 use Rattle.std.proofs.lemmas.List.{map-append}
@@ -86,7 +87,8 @@ done_order job.Install order v = tt
 done_order done order v = tt
 
 batch_order : (done : Job) → (r : Reply) → (order : Option EncodeOrder) → (v : View)
-    → owner done ≡ Some worker.Evict → HandsOver done r order v → HasOrder (after_batch done r) order v
+    → owner done ≡ Some worker.Evict → HandsOver done r order v
+    → HasOrder (after_batch done r) order v
 batch_order done (answer.Batch set) order v own hands = hands own set refl
 batch_order done answer.Done order v own hands = done_order done order v
 batch_order done (answer.Shipped position) order v own hands = tt
@@ -105,7 +107,8 @@ pair_order (answer.NodeFull node) order v = tt
 pair_order r order v = tt
 
 -- no worker begins with one
-first_none : (w : Worker) → (order : Option EncodeOrder) → (v : View) → HasOrder (first_job w) order v
+first_none : (w : Worker) → (order : Option EncodeOrder) → (v : View)
+    → HasOrder (first_job w) order v
 first_none worker.Filter order v = tt
 first_none worker.Evict order v = tt
 first_none worker.Compact order v = tt

@@ -1,6 +1,7 @@
 -- Worked examples of what the body of a worker adds to a record: a turn of the worker that evicts
 -- and the one that ends its batch; and for each part what breaks that part alone.
-use Rattle.std.proofs.Common.{◌≡◌, suc, ◌+◌, List, [], ◌∷◌, ◌++◌, length, Option, None, Some, refl, ap, ◌∙◌, lit<, arith}
+use Rattle.std.proofs.Common.{◌≡◌, suc, ◌+◌, List, [], ◌∷◌, ◌++◌, length, Option, None, Some, refl}
+use Rattle.std.proofs.Common.{ap, ◌∙◌, lit<, arith}
 use Rattle.std.proofs.lemmas.List.{length-append, length-map}
 use Rattle.cb_types.specs.declared.job.Job.{Job}
 use Rattle.cb_types.specs.declared.job.Job.TheVariants as job
@@ -49,7 +50,8 @@ abbrev pub two_turns : Shown → FarState → List Turn
 two_turns s far = turn s far job.Abort (Some answer.Done)
     ∷ turn s far job.Gather (Some (answer.Batch (record { n = 0 }))) ∷ []
 
-pub works : (s : Shown) → (far : FarState) → IsWorked 8 worker.Evict 1 (turns_alone (two_turns s far))
+pub works : (s : Shown) → (far : FarState)
+    → IsWorked 8 worker.Evict 1 (turns_alone (two_turns s far))
 works s far = record {
   done = begun ∷ [];
   ending = aborted ∷ [];
@@ -91,7 +93,8 @@ cut_turns s far = turn s far job.Abort (Some answer.Done) ∷ turn s far job.Shi
     ∷ turn s far job.Install (Some answer.Done)
     ∷ turn s far job.Gather (Some (answer.Batch (record { n = 0 }))) ∷ []
 
-pub stopped : (s : Shown) → (far : FarState) → IsStopped 8 worker.Evict 3 (turns_alone (cut_turns s far))
+pub stopped : (s : Shown) → (far : FarState)
+    → IsStopped 8 worker.Evict 3 (turns_alone (cut_turns s far))
 stopped s far = record {
   done = installed ∷ begun ∷ [];
   ending = aborted ∷ [];
@@ -129,7 +132,8 @@ some_there ds es d e =
 pub nothing_left : (due : Job) → (ending done : List AnsweredTurn) → IsOnly (end_of due) ending
     → [] ≡ deeds_of ending ++ (lack_of due ++ deeds_of done) → ⊥
 nothing_left job.Install ending done only are =
-    let all : 0 ≡ length (deeds_of ending ++ deeds_of done) = ap (λ (ds : List Deed). length ds) are in
+    let all : 0 ≡ length (deeds_of ending ++ deeds_of done) =
+    ap (λ (ds : List Deed). length ds) are in
     let parts = length-append (deeds_of ending) (deeds_of done) in
     let one : length ending ≡ 1 = ap (λ (xs : List AnsweredTurn). length xs) only.1 in
     omega (arith, all, parts, one, length-map ending deed_of)

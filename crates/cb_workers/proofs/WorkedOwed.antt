@@ -34,7 +34,8 @@ of_none = (refl, refl, refl, refl, refl, refl, refl)
 
 -- ---- which turns a worker may owe
 owed : IsOwed 8 job.Gather × IsOwed 8 job.Install × IsOwed 8 job.Ship × IsOwed 8 job.Commit
-    × IsOwed 8 job.Abort × IsOwed 8 job.Pair × IsOwed 8 job.Patch × IsOwed 8 job.Part × IsOwed 8 job.Rebuild
+    × IsOwed 8 job.Abort × IsOwed 8 job.Pair × IsOwed 8 job.Patch × IsOwed 8 job.Part
+    × IsOwed 8 job.Rebuild
 owed = (tt, tt, tt, tt, tt, tt, tt, tt, tt)
 
 no_begin_is_owed : IsOwed 8 job.Begin → ⊥
@@ -63,7 +64,8 @@ no_gather_ends : IsEnd job.Gather → ⊥
 no_gather_ends is = is
 
 ends_of_others : (end_of job.Gather ≡ None) × (end_of (job.Make []) ≡ None)
-    × (end_of job.Evict ≡ None) × (end_of job.Compact ≡ None) × (end_of (job.Swap (record { n = 2 })) ≡ None)
+    × (end_of job.Evict ≡ None) × (end_of job.Compact ≡ None)
+    × (end_of (job.Swap (record { n = 2 })) ≡ None)
 ends_of_others = (refl, refl, refl, refl, refl)
 
 -- a turn that was refused begins the next batch, or the next pair

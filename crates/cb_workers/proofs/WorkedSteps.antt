@@ -1,6 +1,7 @@
 -- Worked examples of the parts of a worker's work, and of the work as what a pass adds to its
 -- record: what meets each definition, and what breaks one part alone.
-use Rattle.std.proofs.Common.{◌≡◌, ℕ, suc, ◌+◌, ◌<◌, List, [], ◌∷◌, ◌++◌, length, map, Option, None, Some, refl, sym, ap, ◌∙◌, subst, lit<, arith}
+use Rattle.std.proofs.Common.{◌≡◌, ℕ, suc, ◌+◌, ◌<◌, List, [], ◌∷◌, ◌++◌, length, map, Option, None}
+use Rattle.std.proofs.Common.{Some, refl, sym, ap, ◌∙◌, subst, lit<, arith}
 use Rattle.std.proofs.lemmas.List.{length-append, length-map}
 use Rattle.cb_types.specs.declared.job.Job.{Job}
 use Rattle.cb_types.specs.declared.job.Job.TheVariants as job
@@ -16,11 +17,14 @@ use Rattle.cb_record.specs.Parts.{Grows, grown, nothing_more}
 use Rattle.cb_shared.specs.declared.pass.Pass.{Pass}
 use Rattle.cb_shared.specs.declared.runtime.Shared.{Shared}
 use Rattle.cb_shared.specs.Passes.{IsPassOf}
-use Rattle.cb_workers.specs.Bodies.{AddsTurns, Cuts, EndsBegun, HasMade, IsStopped, IsWorked, Lacks, Steps, WorkerStops, WorkerWorks, one_deed, turns_alone}
+use Rattle.cb_workers.specs.Bodies.{AddsTurns, Cuts, EndsBegun, HasMade, IsStopped, IsWorked, Lacks}
+use Rattle.cb_workers.specs.Bodies.{Steps, WorkerStops, WorkerWorks, one_deed, turns_alone}
 use Rattle.cb_workers.specs.Rules.{after_visit, next_visit, visit, visited}
-use Rattle.cb_workers.specs.Work.{AnsweredTurn, AreDue, IsOnly, deed_of, deeds_of, job_behind, lack_of}
+use Rattle.cb_workers.specs.Work.{AnsweredTurn, AreDue, IsOnly, deed_of, deeds_of, job_behind}
+use Rattle.cb_workers.specs.Work.{lack_of}
 use Rattle.cb_workers.specs.declared.worker.Worker.TheVariants as worker
-use Rattle.cb_workers.proofs.WorkedBodies.{aborted, begun, cut_turns, deeds_in, nothing_left, stopped}
+use Rattle.cb_workers.proofs.WorkedBodies.{aborted, begun, cut_turns, deeds_in, nothing_left}
+use Rattle.cb_workers.proofs.WorkedBodies.{stopped}
 use Rattle.cb_workers.proofs.WorkedBodies.{turn, two_turns, works}
 
 -- ---- the filter's handles

@@ -127,7 +127,7 @@ HasOrder due order v = Unit {0}
 abbrev pub TellsNoBatch : Reply → Type 0
 TellsNoBatch reply = (set : SetId) → reply ≡ answer.Batch set → ⊥
 
--- of the jobs of the worker that evicts, one that is answered that a batch began puts its order at hand
+-- a job of the worker that evicts puts an order at hand where it is answered that a batch began
 abbrev pub HandsOver : Job → Reply → Option EncodeOrder → View → Type 0
 HandsOver due reply order v = owner due ≡ Some worker.Evict
     → (set : SetId) → reply ≡ answer.Batch set → IsAtHand order v

@@ -61,8 +61,8 @@ abbrev pub lack_of : Job → List Deed
 lack_of job.Install = []
 lack_of due = lacked due ∷ []
 
--- A worker made fewer turns, each with the job that was due. For the next one that was due there was
--- no memory, and what it had begun was ended then.
+-- A worker made fewer turns, each with the job that was due. For the next one that was due there
+-- was no memory, and what it had begun was ended then.
 pub record IsCutShort (handles : ℕ) (w : Worker) (turns : ℕ) (done ending : List AnsweredTurn)
     (deeds : List Deed) : Type 0 where
   pub fewer : length done < turns

@@ -33,8 +33,9 @@ pub fn filter_body<R: Wait, G: Gate>(
     worker_body(rt, alloc, shared, pass, Worker::Filter, turns, gate)
 }
 
-/// Lets batches of spans leave local memory, a step a turn. A batch that is leaving behind the last
-/// turn is aborted.
+/// Lets batches of spans leave local memory, a step a turn. The parities of a batch are made
+/// between two turns, outside of the far lock. A batch that is leaving behind the last turn is
+/// aborted.
 pub fn evict_body<R: Wait, G: Gate>(
     rt: &R,
     alloc: Global,
@@ -83,8 +84,8 @@ pub fn rebuild_body<R: Wait, G: Gate>(
     worker_body(rt, alloc, shared, pass, Worker::Rebuild, turns, gate)
 }
 
-/// Makes a worker's turns. Where there is no memory for one, what was begun is ended, so that no
-/// other pass waits for it, and the pass comes back.
+/// Makes a worker's turns. Where there is no memory for one, or for the parities that one is to
+/// install, what was begun is ended, so that no other pass waits for it, and the pass comes back.
 pub fn worker_body<R: Wait, G: Gate>(
     rt: &R,
     alloc: Global,

@@ -38,7 +38,7 @@ pub use Rattle.cb_world.proofs.NodeJoin.{claimed_stay, local_stays, node_crash_s
 pub use Rattle.cb_world.proofs.NowKept.{brought_now, now_kept, put_away_now}
 pub use Rattle.cb_world.proofs.NowOthers.{contents_beside, near_lies}
 pub use Rattle.cb_world.proofs.NowSame.{bits, empty_now, empty_value, far_object, near_now, near_object, now_by_words, now_same}
-pub use Rattle.cb_world.proofs.OpenKept.{leaving_claimed, open_here, open_kept, open_same, open_word, orders_kept, pins_hold, pins_leave, seat_beside}
+pub use Rattle.cb_world.proofs.OpenKept.{leaving_claimed, open_here, open_kept, open_same, open_word, pins_hold, pins_leave, seat_beside}
 pub use Rattle.cb_world.proofs.Packed.{contents_packed, packed_write}
 pub use Rattle.cb_world.proofs.Packing.{below_packed, same_memory}
 pub use Rattle.cb_world.proofs.Patching.{join_is_merged, parity_step, patched_more}
@@ -73,6 +73,7 @@ pub use Rattle.cb_world.proofs.Whole.{added_whole, begun_whole, committed_whole,
 pub use Rattle.cb_world.proofs.Windows.{length_put, put_at as put_at-windows, put_else, set_put, window_at, window_put, window_same}
 pub use Rattle.cb_world.proofs.WorkedWord.{at, is_word, node, only_word, row, row_byte, row_long, rows, with_two_rows}
 pub use Rattle.cb_world.proofs.Worlds.{empty_world_sound}
+pub use Rattle.cb_world.proofs.OrdersKept.{beside_orders, known_orders, order_put, order_then, orders_kept, orders_then, same_orders}
 pub use Rattle.cb_world.proofs.OrdersLeft.{decode_left, encode_left, orders_left, orders_stay}
 pub use Rattle.cb_world.proofs.LeftWords.{alike_leaves_words, left_leaves_words, parted_leaves_words, stepped_leaves_words}
 pub use Rattle.cb_world.proofs.WordsLeft.{KeepsSets, added_keeps_sets, committed_keeps_sets, crash_leaves_words, join_leaves_words, merged_keeps_sets, row_put_leaves_words, same_keeps_sets, sets_leave_words, words_left_twice, words_stay}

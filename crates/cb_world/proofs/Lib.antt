@@ -44,6 +44,7 @@ pub mod Stepping
 pub mod Patching
 pub mod Committed
 pub mod JoinNow
+pub mod OrdersKept
 pub mod OrdersLeft
 pub mod WordsLeft
 pub mod LeftWords

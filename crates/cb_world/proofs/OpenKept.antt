@@ -17,7 +17,7 @@ use Rattle.cb_world.specs.Plain.{Words, Plain}
 use Rattle.cb_world.specs.Played.{after, played}
 use Rattle.cb_world.specs.declared.seats.Pin.{Pin}
 use Rattle.cb_world.specs.Pinned.{with_word}
-use Rattle.cb_world.specs.Seats.{SeatState, OpenWriteState, IsClaimAt, AtMostOneHolds, KeepNoOrder, idle_seat, seat_at, claims_of_seat, with_pins}
+use Rattle.cb_world.specs.Seats.{SeatState, OpenWriteState, IsClaimAt, AtMostOneHolds, idle_seat, seat_at, claims_of_seat, with_pins}
 use Rattle.cb_world.specs.Shown.{Fits, object_at, never}
 use Rattle.cb_world.specs.Sound.{Sound, IsLeaving}
 use Rattle.cb_world.specs.StillWords.{contents_at}
@@ -321,12 +321,6 @@ pins_hold seats seat pins one a b held other = one a b (sym (same a) ∙ held) (
     same : (k : ℕ) → (seat_at (with_pins seats seat pins) k).holds ≡ (seat_at seats k).holds
     same k = seat_beside (λ (x : SeatState). x.holds) seats seat
         (record (seat_at seats seat) { pins = pins }) refl k
-
--- a seat that is changed elsewhere keeps no order
-pub orders_kept : (seats : List SeatState) (seat : ℕ) (new : SeatState)
-    → new.order ≡ (seat_at seats seat).order → KeepNoOrder seats → KeepNoOrder (set seats seat new)
-orders_kept seats seat new same none k =
-    seat_beside (λ (x : SeatState). x.order) seats seat new same k ∙ none k
 
 -- where no seat has an open write and no word is Moving
 pub none_open : (desk : Words) (far : FarState) (seats : List SeatState)

@@ -15,6 +15,7 @@ use Rattle.cb_world.specs.Codes.{IsCodeOf}
 use Rattle.cb_world.specs.declared.seats.Pin.{Pin}
 use Rattle.cb_world.specs.Empty.{empty_words, empty_shown, empty_far}
 use Rattle.cb_world.specs.Packed.{IsFreedLater, IsPackedAs}
+use Rattle.cb_world.specs.Orders.{KeepsOrder}
 use Rattle.cb_world.specs.Shown.{never}
 use Rattle.cb_world.specs.Seats.{SeatState, Holds, idle_seat, pins_among, all_pins_on}
 use Rattle.cb_world.specs.World.{IsKnown, ArePinned, IsSoundWorld, empty_world, word_at}
@@ -95,7 +96,8 @@ empty_world_sound c ok = record {
       (λ seat. ap (λ (x : SeatState). x.claims) (idle_at seat 64))
       (λ h below moved. still c h moved);
   one = λ a b held. absurd (none_holds a held);
-  orders = λ seat. ap (λ (x : SeatState). x.order) (idle_at seat 64);
+  orders = λ seat. subst (λ (x : SeatState). KeepsOrder (empty_shown 1 c) (empty_far 1 c) x.order)
+      (sym (idle_at seat 64)) tt;
   counted = record {
     kinds = length-replicate {A = ℕ} 23 0;
     jobs = sum_by-replicate (λ (n : ℕ). n) 23 0;

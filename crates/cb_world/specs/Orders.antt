@@ -11,6 +11,7 @@ use Rattle.cb_world.specs.declared.shown.Shown.{Shown}
 use Rattle.cb_world.specs.FarSound.{rows_in}
 use Rattle.cb_world.specs.FarState.{FarState}
 use Rattle.cb_world.specs.Leaving.{LeavingState}
+use Rattle.cb_world.specs.Seats.{SeatState, order_of}
 use Rattle.cb_world.specs.Sets.{set_in}
 use Rattle.cb_world.specs.SetWord.{IsWordOf, is_broken}
 
@@ -48,6 +49,10 @@ IsOrderKept s far (Decode o) = IsDecodeKept far o
 abbrev pub KeepsOrder : Shown → FarState → Option Kept → Type 0
 KeepsOrder s far None = Unit {0}
 KeepsOrder s far (Some o) = IsOrderKept s far o
+
+-- and of what each seat keeps
+abbrev pub AreOrdersKept : Shown → FarState → List SeatState → Type 0
+AreOrdersKept s far seats = (seat : ℕ) → KeepsOrder s far (order_of seats seat)
 
 -- every order that was kept there is kept here
 abbrev pub LeavesOrders : Shown → FarState → Shown → FarState → Type 0

@@ -56,10 +56,6 @@ Holds seats seat = (seat_at seats seat).holds ≡ true
 abbrev pub AtMostOneHolds : List SeatState → Type 0
 AtMostOneHolds seats = (a b : ℕ) → Holds seats a → Holds seats b → a ≡ b
 
--- no seat keeps an order
-abbrev pub KeepNoOrder : List SeatState → Type 0
-KeepNoOrder seats = (seat : ℕ) → (seat_at seats seat).order ≡ None
-
 -- the order that a seat keeps, if it keeps one
 abbrev pub order_of : List SeatState → ℕ → Option Kept
 order_of seats seat = (seat_at seats seat).order

@@ -13,9 +13,10 @@ pub use Rattle.cb_world.specs.Plain.{word_at}
 use Rattle.cb_world.specs.Empty.{empty_words, empty_far}
 use Rattle.cb_world.specs.Codes.{HaveCodes, IsCodeOf}
 use Rattle.cb_world.specs.FarState.{FarState}
+use Rattle.cb_world.specs.Orders.{AreOrdersKept}
 use Rattle.cb_world.specs.Packed.{ArePacked, AreFreedLater}
 use Rattle.cb_world.specs.Pairs.{HoldsNoPair}
-use Rattle.cb_world.specs.Seats.{SeatState, AtMostOneHolds, KeepNoOrder, idle_seat, all_pins_on}
+use Rattle.cb_world.specs.Seats.{SeatState, AtMostOneHolds, idle_seat, all_pins_on}
 use Rattle.cb_world.specs.Sound.{Sound}
 use Rattle.cb_world.specs.OpenWrites.{AreOpen}
 
@@ -86,5 +87,5 @@ pub record IsSoundWorld (w : WorldState) : Type 0 where
   pub pinned : ArePinned w.desk w.seats
   pub ongoing : AreOpen w.desk w.far w.seats
   pub one : AtMostOneHolds w.seats
-  pub orders : KeepNoOrder w.seats
+  pub orders : AreOrdersKept shown w.far w.seats
   pub counted : AreCounted w.far

@@ -8,7 +8,7 @@ use Rattle.cb_world.specs.FarState.{FarState}
 use Rattle.cb_world.specs.Sound.{Sound}
 use Rattle.cb_world.specs.World.{WorldState, IsSoundWorld}
 use Rattle.cb_world.specs.declared.shown.Shown.{Shown}
-use Rattle.cb_world.proofs.Laws.{codes_stay, have_codes, none_again}
+use Rattle.cb_world.proofs.Laws.{alike_leaves_words, codes_stay, have_codes, none_again, orders_left, orders_then}
 use Rattle.cb_scrub_world.specs.Scrub.{MayScrub, with_nodes}
 use Rattle.cb_scrub_world.specs.Spoilt.{IsSoundAgain, IsSpoilt}
 use Rattle.cb_scrub_world.proofs.Laws.{byte_is_spoilt, sound_may_scrub}
@@ -74,7 +74,11 @@ module _ (w : WorldState) (new : FarState) (sound : IsSoundWorld w)
       moving = sound.ongoing.moving;
     };
     one = sound.one;
-    orders = sound.orders;
+    orders = orders_then sound.shown sound.shown w.far was w.seats
+        (orders_left sound.shown sound.shown w.far was sound.known.sound
+        (subst (Sound sound.shown) far_again.as_was far_again.sound)
+        (alike_leaves_words w.far was refl refl refl refl (λ id p shard of. refl))
+        (λ b at below. refl)) sound.orders;
     counted = record {
       kinds = sound.counted.kinds;
       jobs = sound.counted.jobs;

@@ -29,9 +29,10 @@ use Rattle.cb_world.specs.Empty.{empty_far, empty_shown}
 use Rattle.cb_world.specs.FarState.{FarState, span_in}
 use Rattle.cb_world.specs.LocalSound.{AreFrames, AreKnown, ArePlaced, HasSlot, IsStamped, LiesAt, LiesOver, NamesObject}
 use Rattle.cb_world.specs.Memory.{IsPacked, memory_byte, window, words_for}
+use Rattle.cb_world.specs.Orders.{AreOrdersKept, KeepsOrder}
 use Rattle.cb_world.specs.Packed.{AreFreedLater, ArePacked, IsFreedLater, IsPackedAs}
 use Rattle.cb_world.specs.Plain.{Words, word_at}
-use Rattle.cb_world.specs.Seats.{IsClaimAt, KeepNoOrder, OpenWriteState, SeatState, all_pins_on, idle_seat, pins_among}
+use Rattle.cb_world.specs.Seats.{IsClaimAt, OpenWriteState, SeatState, all_pins_on, idle_seat, pins_among}
 use Rattle.cb_world.specs.Shown.{Fits, never, object_at, version_at}
 use Rattle.cb_world.specs.Sound.{Sound}
 use Rattle.cb_world.specs.StillDesk.{window_length}
@@ -183,12 +184,13 @@ still w calm (suc h) moved = let e : word.Empty ≡ word.Moving = moved in cc
 no_note : (n : ℕ) → None ≡ Some n → ⊥
 no_note n e = cc
 
--- such a world is sound where all is known of its desk, and no seat keeps an order
+-- such a world is sound where all is known of its desk, and the order of every seat is kept
 sound_with : (w v : ℕ) (memory : List ℕ) (free : Bool) (span : Option Contents) (order : Option Kept)
     (s : Shown) → pins_of w ≡ 0 → (state_of w ≡ word.Moving → ⊥)
-    → IsKnown (desk w v memory) (made_one free span) s → KeepNoOrder (seats order)
+    → IsKnown (desk w v memory) (made_one free span) s
+    → AreOrdersKept s (made_one free span) (seats order)
     → IsSoundWorld (world w v memory free span order)
-sound_with w v memory free span order s none calm known unordered = record {
+sound_with w v memory free span order s none calm known kept = record {
   config = accepted;
   configured = record {
     frames = refl;
@@ -208,7 +210,7 @@ sound_with w v memory free span order s none calm known unordered = record {
     moving = λ h below moved. absurd (still w calm h moved);
   };
   one = λ a b held other. absurd (held_not _ (none_holds order a 64) held);
-  orders = unordered;
+  orders = kept;
   counted = record {
     kinds = length-replicate {A = ℕ} 23 0;
     jobs = sum_by-replicate (λ (n : ℕ). n) 23 0;
@@ -419,13 +421,14 @@ known_if_packed memory sized packed = record {
 abbrev here_world : ℕ → Option Kept → WorldState
 here_world last order = world calm 1 (memory_with last) false (Some span) order
 
--- so its world is sound, if only the object is packed, and no seat keeps an order
+-- so its world is sound, if only the object is packed, and the order of every seat is kept
 sound_if_packed : (last : ℕ) (order : Option Kept)
-    → ArePacked (desk calm 1 (memory_with last)) (here (memory_with last)) → KeepNoOrder (seats order)
+    → ArePacked (desk calm 1 (memory_with last)) (here (memory_with last))
+    → AreOrdersKept (here (memory_with last)) (made_one false (Some span)) (seats order)
     → IsSoundWorld (here_world last order)
-sound_if_packed last order packed unordered =
+sound_if_packed last order packed kept =
     sound_with calm 1 (memory_with last) false (Some span) order (here (memory_with last)) refl (λ moved. let e : word.Here ≡ word.Moving = moved in cc)
-    (known_if_packed (memory_with last) refl packed) unordered
+    (known_if_packed (memory_with last) refl packed) kept
 
 -- it is with a zero behind the object
 last_byte : memory_byte (window (memory_with 0) 0 128) 1023 ≡ 0
@@ -439,17 +442,17 @@ zero_packed zero below = λ here p past inside.
     subst (λ (q : ℕ). memory_byte (window (memory_with 0) 0 128) q ≡ 0) e last_byte
 zero_packed (suc h) below = absurd (omega (arith, below))
 
-none_kept : KeepNoOrder (seats None)
-none_kept = λ seat. by seat 64
+none_kept : (s : Shown) (far : FarState) → AreOrdersKept s far (seats None)
+none_kept s far = λ seat. by seat 64
   where
-    by : (seat n : ℕ) → (get_or (replicate n (keeping None)) seat idle_seat).order ≡ None
-    by zero zero = refl
-    by zero (suc n) = refl
-    by (suc seat) zero = refl
+    by : (seat n : ℕ) → KeepsOrder s far (get_or (replicate n (keeping None)) seat idle_seat).order
+    by zero zero = tt
+    by zero (suc n) = tt
+    by (suc seat) zero = tt
     by (suc seat) (suc n) = by seat n
 
 zero_behind : IsSoundWorld (here_world 0 None)
-zero_behind = sound_if_packed 0 None zero_packed none_kept
+zero_behind = sound_if_packed 0 None zero_packed (none_kept _ _)
 
 -- and it is not with the byte 0b behind it, which is in the highest byte of that word
 abbrev eleven : ℕ
@@ -479,17 +482,19 @@ byte_behind x = refused (object_at x.shown 0) (x.known.shows.fit 0 (lit< tt))
     refused (is.Here len place) fit p = at_end len place fit.1 fit.2 (p refl)
     refused (is.Claimed len place v words) fit p = let e : word.Here ≡ word.Moving = fit.4 in cc
 
--- ---- an order in every seat, beside the object with a zero behind it: the world is sound, if only no
--- seat keeps one
+-- ---- an order in every seat, beside the object with a zero behind it: the world is sound, if only the
+-- order is kept, and one that has no rows is not
 abbrev encoding : Kept
 encoding = work.Encode (record { set = 3; k = 1; r = 1; rows = [] })
 
-sound_without_orders : (order : Option Kept) → KeepNoOrder (seats order)
+sound_with_orders : (order : Option Kept)
+    → AreOrdersKept (here (memory_with 0)) (made_one false (Some span)) (seats order)
     → IsSoundWorld (here_world 0 order)
-sound_without_orders order unordered = sound_if_packed 0 order zero_packed unordered
+sound_with_orders order kept = sound_if_packed 0 order zero_packed kept
 
-orders_kept : IsSoundWorld (here_world 0 (Some encoding)) → ⊥
-orders_kept x = let e : Some encoding ≡ None = x.orders 0 in cc
+-- no set has the order's number
+order_not_drawn : IsSoundWorld (here_world 0 (Some encoding)) → ⊥
+order_not_drawn x = let n : 3 < 0 = (x.orders 0).drawn in omega (arith, n)
 
 -- ---- makes give the version 1: an object that was made and freed, at the version 1 or 2
 abbrev zeros : List ℕ
@@ -604,7 +609,7 @@ sound_if_later v some later = sound_with 0 v zeros true None None (freed_at v) r
           (λ batch there. absurd (none_some batch there));
       packed = packed;
       freed = later;
-    }) none_kept
+    }) (none_kept _ _)
   where
     fit : (h : ℕ) → h < 1 → Fits (object_at (freed_at v) h) (word_at (desk 0 v zeros) h)
     fit zero below = refl

@@ -18,9 +18,11 @@ pub(crate) enum Deed {
     Join(u8),
 }
 
-/// What a second pass does between the two turns of an order: turns on objects, each with what it
-/// is to tell.
-pub(crate) type Between = [Option<(usize, Deed, Told)>; 2];
+/// A turn on the object with this number, and what it is to tell.
+pub(crate) type Made = (usize, Deed, Told);
+
+/// What a second pass does between the two turns of an order.
+pub(crate) type Between = (Option<Made>, Option<Made>);
 
 /// A call on an object.
 #[derive(Clone, Copy)]

@@ -1,5 +1,5 @@
 //! Orders that a pass runs between two turns, while a second pass makes turns.
-ghost use Rattle.std.specs.Prelude.{◌≡◌, Some, Ok, IfOk, IfSome};
+ghost use Rattle.std.specs.Prelude.{◌≡◌, ℕ, Some, Ok, IfOk, IfSome};
 ghost use Rattle.cb_types.specs.declared.order.Kept.TheVariants.{Encode, Decode};
 ghost use Rattle.cb_types.specs.declared.reply.Reply.TheVariants as answer;
 ghost use Rattle.cb_types.specs.Orders.{IsDecodable, IsEncodable};
@@ -8,7 +8,7 @@ ghost use Rattle.cb_swapin.specs.declared.fetching.Fetching.TheVariants as fetch
 ghost use Rattle.cb_shared.specs.Passes.{record_of};
 ghost use Rattle.cb_world_tests.specs.Callers.{IsCaller, IsKnownAmong};
 
-use crate::asking::{Between, Call, Deed};
+use crate::asking::{Between, Call, Made};
 use crate::called::turn_on;
 use crate::told::{Told, told_by, told_of};
 use cb_core::{Fetching, Gathered};
@@ -25,7 +25,7 @@ fn is_made<R: Wait>(
     shared: &Shared,
     objects: &[Handle],
     second: &mut Pass,
-    made: Option<(usize, Deed, Told)>,
+    made: Option<Made>,
 ) -> Result<bool, NoMemory>
     requires caller { IsCaller shared.now objects.now second.old }
     ensures caller { IsCaller shared.now objects.now second.new }
@@ -52,8 +52,8 @@ fn are_made<R: Wait>(
     requires caller { IsCaller shared.now objects.now second.old }
     ensures caller { IsCaller shared.now objects.now second.new }
 {
-    let is_early = is_made(rt, alloc, shared, objects, second, between[0])?;
-    let is_late = is_made(rt, alloc, shared, objects, second, between[1])?;
+    let is_early = is_made(rt, alloc, shared, objects, second, between.0)?;
+    let is_late = is_made(rt, alloc, shared, objects, second, between.1)?;
     Ok(is_early && is_late)
 }
 

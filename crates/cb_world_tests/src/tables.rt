@@ -110,7 +110,7 @@ static READS: [Line; 2] = [
 ];
 
 /// An order, between whose turns a second pass makes none.
-const ALONE: By = By::Between([None, None]);
+const ALONE: By = By::Between((None, None));
 
 /// The rows of a batch are put one after another.
 const FIRST: Line = (0, By::Itself, Call::Turn(Deed::Ship), 0, Told::Shipped(0));
@@ -133,19 +133,19 @@ static BATCH: [Line; 7] = [
 ];
 
 /// A second pass gives the batch up.
-const ABORTED: Between = [Some((0, Deed::Abort, Told::Done)), None];
+const ABORTED: Between = (Some((0, Deed::Abort, Told::Done)), None);
 
 /// And begins the next one.
-const BEGUN_ANEW: Between = [
+const BEGUN_ANEW: Between = (
     Some((0, Deed::Abort, Told::Done)),
     Some((0, Deed::Begin, Told::Batch(2))),
-];
+);
 
 /// It makes turns that leave the batch as it is.
-const FILTERS: Between = [
+const FILTERS: Between = (
     Some((0, Deed::Filter, Told::Later)),
     Some((0, Deed::Rebuild, Told::Whole)),
-];
+);
 
 /// The order of a batch that was given up is not installed, nor where another one is leaving; where
 /// other turns were made, it is.
@@ -175,23 +175,23 @@ static FETCH: [Line; 1] = [(0, By::Itself, Call::Fetch, 0, Told::Fetched)];
 static LAND: [Line; 1] = [(0, ALONE, Call::Land, 0, Told::Swapped)];
 
 /// So, where a second pass makes the row again too.
-const REBUILT: Between = [
+const REBUILT: Between = (
     Some((0, Deed::Rebuild, Told::Whole)),
     Some((1, Deed::Filter, Told::Stays)),
-];
+);
 
 static REBUILD: [Line; 1] = [(0, By::Between(REBUILT), Call::Land, 0, Told::Swapped)];
 
 /// But not where it frees both objects, with which their set is gone.
-const FREED: Between = [
+const FREED: Between = (
     Some((1, Deed::Free, Told::Version(2))),
     Some((0, Deed::Free, Told::Version(2))),
-];
+);
 
 static FREES: [Line; 1] = [(0, By::Between(FREED), Call::Land, 0, Told::Changed(0))];
 
 /// Nor where a third node crashes.
-const CRASHED: Between = [Some((0, Deed::Crash(2), Told::Epoch(3))), None];
+const CRASHED: Between = (Some((0, Deed::Crash(2), Told::Epoch(3))), None);
 
 static LOSES: [Line; 1] = [(0, By::Between(CRASHED), Call::Land, 0, Told::Lost)];
 

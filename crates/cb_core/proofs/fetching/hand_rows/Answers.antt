@@ -1,5 +1,4 @@
-use Rattle.std.proofs.Common.{refl, subst}
-use Rattle.cb_types.specs.declared.reply.Reply.{Reply}
+use Rattle.std.proofs.Common.{refl}
 use Rattle.cb_core.specs.Ordered.FetchRun.{not_far, was_far}
 use Rattle.cb_core.proofs.Composing.{finds_as, holding}
 use Rattle.cb_core.proofs.OrderTurns.{lack_map, ok_map}

@@ -1,7 +1,6 @@
 use Rattle.std.proofs.Common.{refl, sym, subst}
 use Rattle.cb_types.specs.declared.job.Job.TheVariants.{Gather}
 use Rattle.cb_types.specs.Jobs.{job_index}
-use Rattle.cb_types.specs.declared.reply.Reply.TheVariants as answer
 use Rattle.cb_world.specs.Counts.{with_turn}
 use Rattle.cb_world.specs.World.{IsConfigured}
 use Rattle.cb_world.proofs.Laws.{recounted}

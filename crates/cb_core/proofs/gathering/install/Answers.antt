@@ -1,7 +1,4 @@
-use Rattle.std.proofs.Common.{◌≡◌, Option, subst}
 use Rattle.cb_types.specs.declared.job.Job.TheVariants.{Install}
-use Rattle.cb_types.specs.declared.order.Kept.{Kept}
-use Rattle.cb_evict.specs.InstallRule.{kept_behind, order_done}
 use Rattle.cb_core.proofs.Counting.{counted_sound}
 use Rattle.cb_core.proofs.OrdersCounted.{counted_kept}
 use Rattle.cb_core.proofs.OrderTurns.{install_leaves, install_refused, install_turned, install_worn}

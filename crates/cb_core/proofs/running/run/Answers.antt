@@ -8,7 +8,7 @@ use Rattle.cb_core.proofs.RunLegal.{run_legal, run_from_empty, empty_stands}
 use Rattle.cb_core.proofs.Runs.{going_more, going_all, going_stops, going_ends, only_leads, of_error, event_at}
 use Rattle.cb_core.proofs.StepFixed.{only_run}
 use Rattle.cb_core.proofs.Stopping.{prefix_ends, prefix_stops}
-use Rattle.cb_core.proofs.Unavailables.{leads_telling}
+use Rattle.cb_core.proofs.EventTells.{leads_telling}
 use Rattle.cb_core.proofs.running.run.Goals as goal
 
 pub step-requires-clause-event : goal.step-requires-clause-event

@@ -8,7 +8,7 @@ use Rattle.cb_core.specs.Unavailable.{TellsUnavailable}
 use Rattle.cb_core.proofs.Composing.{err_map, if_map}
 use Rattle.cb_core.proofs.StepFixed.{only_step}
 use Rattle.cb_core.proofs.Stopping.{stop_leaves}
-use Rattle.cb_core.proofs.Unavailables.{seat_tells}
+use Rattle.cb_core.proofs.EventTells.{seat_tells, step_tells}
 use Rattle.cb_core.proofs.stepping.step.Goals as goal
 
 pub returns-in-Step-clause-fixes : goal.returns-in-Step-clause-fixes
@@ -28,6 +28,16 @@ returns-in-Turn-clause-fixes c =
     (if_map (λ reply. IsOnlyStep w e reply c.seat_turn.new.world)
     (λ reply. Step w e reply c.seat_turn.new.world) c.seat_turn.result c.seat_turn.ensures.step
     (λ reply step. only_step w c.seat_turn.new.world e reply c.requires.sound step))
+
+pub returns-in-Step-clause-unavailable : goal.returns-in-Step-clause-unavailable
+returns-in-Step-clause-unavailable c =
+    let w = c.args.world.now in let e = event.Step c.in-Step.seat c.in-Step.atomic in
+    subst (λ (e : Event). IfOk c.atomic_step.result (λ reply. TellsUnavailable w e reply))
+    (sym c.in-Step.is)
+    (if_map (λ reply. TellsUnavailable w e reply)
+    (λ reply. Step w e reply c.atomic_step.new.world) c.atomic_step.result c.atomic_step.ensures.step
+    (λ reply step. step_tells e w c.atomic_step.new.world reply c.requires.sound
+    c.atomic_step.ensures.sound (rw c.in-Step.is at c.requires.event) step))
 
 pub returns-in-Turn-clause-unavailable : goal.returns-in-Turn-clause-unavailable
 returns-in-Turn-clause-unavailable c =

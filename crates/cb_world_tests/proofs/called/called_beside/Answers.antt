@@ -11,8 +11,8 @@ returns-in-Pinned-clause-second g c = caller_keeps c.args.shared.now c.args.obje
     c.words_under-behind.new.pass c.unpin.new.pass c.words_under-behind.ensures.caller
     c.unpin.ensures.of (unpin_keeps c.in-Pinned.pin.handle.n _ _ c.unpin.ensures.unpinned)
 
-pub returns-in_default-pin : goal.returns-in_default-pin
-returns-in_default-pin g c = record {
+pub returns-in_default : goal.returns-in_default
+returns-in_default g c = record {
   caller = c.requires.caller;
   second = caller_keeps c.args.shared.now c.args.objects.now c.args.second.now c.pin.new.pass
       c.requires.second c.pin.ensures.of (pin_keeps c.args.h.n c.pin.result _ _ c.pin.ensures.pin);
