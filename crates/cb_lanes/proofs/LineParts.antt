@@ -273,17 +273,19 @@ lack_last c j r v d lack x = absurd lack
 
 bring_backs : (c : Config) (h : ℕ) (q : Request) (r : Reply) (v : View) (d : Part) → IsByBringing h q
     → AnswersBy c (Brings h) r v d → Backs d (told_as (Some h) q r ∷ [])
-bring_backs c h q r v d by x = turn_backs c x.job (Some h) q r v d x.ends.1 (record {
+bring_backs c h q r v d by x = turn_backs c x.job (Some h) q r v d t (record {
   enters = λ es wrote. subst (EntersAt (Some h) q r) (sym (brings_none h x.job r es x.of wrote))
       (by.enters (again_in d.turns) r lack);
   no_pin = by.no_pin (again_in d.turns) r lack;
   turned = subst (λ (l : List Deed). IsSublist l (record { job = x.job; reply = Some r } ∷ []))
       (sym (by.turned r)) (beside [] _ [] ended);
   happens = brings_idly h x.job r x.of ∙ sym (by.happens r);
-}) (by.needs _ r (again_in d.turns) lack
-    (its_bringing c (own_job (Some h) q) h x.job r v d x.of x.ends.1
-    (lack_last c x.job r v d lack x.ends.1)))
+}) (by.needs (turn_part t.turn t.more t.within t.later) r (again_in d.turns) lack
+    (its_bringing c (own_job (Some h) q) h x.job r v d x.of t (lack_last c x.job r v d lack t)))
   where
+    t : TurnAdds c x.job (Ok r) v d
+    t = x.ends.1
+
     lack : IsLack (again_in d.turns) r
     lack = brings_lack c h r v d x
 

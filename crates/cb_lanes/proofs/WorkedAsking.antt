@@ -17,11 +17,12 @@ use Rattle.cb_rule.specs.Own.{IsAlone}
 use Rattle.cb_rule.specs.Steps.{IsNewest, blank, look_at, with_freed_seen, with_look, with_pin}
 use Rattle.cb_record.specs.Parts.{Part, grown, nothing_more, sum}
 use Rattle.cb_shared.specs.declared.answers.WriteAnswer.TheVariants as place
-use Rattle.cb_shared.specs.Calls.{AtThis, Brings, FoundFar, IsInVain, IsUnanswered}
+use Rattle.cb_shared.specs.Calls.{AtThis, Brings, FoundFar, IsAnswerTo, IsInVain, IsUnanswered}
+use Rattle.cb_shared.specs.Calls.{again_in}
 use Rattle.cb_shared.specs.Reading.{looked, looked_freed}
 use Rattle.cb_shared.specs.Turning.{TurnAdds, with_own}
 use Rattle.cb_shared.proofs.Laws.{read_lacks, so_far, vain_look}
-use Rattle.cb_lanes.proofs.AskedTurns.{brings_lack}
+use Rattle.cb_lanes.proofs.AskedTurns.{brings_lack, each_brings}
 use Rattle.cb_lanes.specs.LineGoes.{Calls, Pins}
 use Rattle.cb_lanes.specs.Passing.{CallGives, IsPinnedOnce, PinEnds, PinGoes, PinTries, PinsAtLast}
 use Rattle.cb_lanes.specs.Passing.{goes_in}
@@ -206,9 +207,12 @@ brings : (j : Job) → Brings 1 j → (d : Part) → TurnAdds two j (Ok answer.W
     → PinEnds two 1 answer.Worn far (grown d far)
 brings j of d adds = (
   d,
-  record { away = (refl, refl); turned = record { job = j; of = of; ends = (tt, adds) } },
+  record { away = (refl, refl); turned = record { job = j; of = of; ends = (lacks d, adds) } },
   refl,
 )
+  where
+    lacks : (d : Part) → IsAnswerTo (again_in d.turns) j answer.Worn
+    lacks d = each_brings (λ (k : Job). IsAnswerTo (again_in d.turns) k answer.Worn) 1 j tt tt tt of
 
 ends_refused : (d : Part) → TurnAdds two (job.Fetch one) (Ok answer.Worn) far d
     → PinEnds two 1 answer.Worn far (grown d far)
