@@ -22,14 +22,15 @@ use Rattle.cb_rule.specs.OneHistory.{IsOneHistory}
 use Rattle.cb_rule.specs.TriesAgain.{tries_again}
 use Rattle.cb_map_text.specs.Plain.{Plain, needs_object, objects}
 use Rattle.cb_map_text.specs.declared.command.FarCommand.{FarCommand}
-use Rattle.cb_shared.specs.Turning.{Did, DidAs, made_by_turn}
+use Rattle.cb_shared.specs.Turning.{Did, DidAs, DidBy, made_by_turn}
 use Rattle.cb_core.specs.Jobs.{NeedsNoOrder}
 use Rattle.cb_shared.proofs.Laws.{asked_alone, makes_full}
 use Rattle.cb_farmap.specs.Commands.{HasOneHistory, IsMake, IsOnObject, IsToldByTurn, made_by_all}
 use Rattle.cb_app.specs.Mapped.{HasTurn, IsCause}
 use Rattle.cb_app.specs.Telling.{AreOfOtherNodes}
 use Rattle.cb_app.proofs.CrashesTold.{IsLoss, lost_told, room_told}
-use Rattle.cb_app.proofs.FramesTold.{IsShort, frames_taken, make_counted, make_lacks, read_lacks, swap_lacks, write_lacks}
+use Rattle.cb_app.proofs.FramesTold.{IsShort, fetch_lacks, frames_taken, land_lacks, make_counted}
+use Rattle.cb_app.proofs.FramesTold.{make_lacks, read_lacks, swap_lacks, write_lacks}
 use Rattle.cb_app.proofs.MadeStays.{made_by}
 use Rattle.cb_app.proofs.MadeTurns.{adds, few_made, made_before, made_in}
 use Rattle.cb_app.proofs.NarrowTurns.{found_narrow}
@@ -79,6 +80,8 @@ WroteAll v w = (e : Entry) → Has e v.written → Has e w.written
 
 on_more : (v w : View) → WroteAll v w → (j : Job) → IsOnObject v j → IsOnObject w j
 on_more v w all (job.Swap h) (e, there, is) = (e, all e there, is)
+on_more v w all (job.Fetch h) (e, there, is) = (e, all e there, is)
+on_more v w all job.Land (h, (e, there, is)) = (h, (e, all e there, is))
 on_more v w all (job.Read h) (e, there, is) = (e, all e there, is)
 on_more v w all (job.Write h at bytes) (e, there, is) = (e, all e there, is)
 on_more v w all j is = absurd is
@@ -88,14 +91,6 @@ for_more v w all j (inl is) = inl is
 for_more v w all j (inr is) = inr (on_more v w all j is)
 
 -- ---- one turn of a closed record all of whose turns are for objects
--- a job that makes an object, or is on one, hands no order out and takes none
-for_alone : (v : View) (j : Job) → IsForObject v j → NeedsNoOrder j
-for_alone v job.Gather is = elim is [ inl x ↦ absurd x | inr x ↦ absurd x ]
-for_alone v job.Install is = elim is [ inl x ↦ absurd x | inr x ↦ absurd x ]
-for_alone v (job.Fetch handle) is = elim is [ inl x ↦ absurd x | inr x ↦ absurd x ]
-for_alone v job.Land is = elim is [ inl x ↦ absurd x | inr x ↦ absurd x ]
-for_alone v j is = tt
-
 module _ (c : Config) (ok : IsAccepted c) (v : View) (w : WorldState) (closed : IsClosed Did 1 c v w)
     (few : length v.written ≤ 320000)
     (jobs_are : (t : Turn) → Has t v.turns → IsForObject v t.job) where
@@ -110,6 +105,13 @@ module _ (c : Config) (ok : IsAccepted c) (v : View) (w : WorldState) (closed : 
         → DidAs c j (Some r) t.start t.acts t.took t.gave
     did j r alone asked told =
         asked_alone c t j (Some r) alone asked told (one.did t (v, (0, refl), there))
+
+    -- so with the order that its seat keeps
+    did_by : (j : Job) (r : Reply) → t.job ≡ j → t.reply ≡ Some r
+        → DidBy c j t.order (Some r) t.keeps t.start t.acts t.took t.gave
+    did_by j r asked told = subst (λ (o : Option Reply). DidBy c j t.order o t.keeps t.start t.acts
+        t.took t.gave) told (subst (λ (k : Job). DidBy c k t.order t.reply t.keeps t.start t.acts
+        t.took t.gave) asked (one.did t (v, (0, refl), there)))
 
     stood : Stood c t.start t.took
     stood = one.sound t (v, (0, refl), there)
@@ -133,6 +135,8 @@ module _ (c : Config) (ok : IsAccepted c) (v : View) (w : WorldState) (closed : 
         by : (j : Job) → t.job ≡ j → IsForObject v j → 2 ^ 40 ≤ count
         by (job.Make bytes) e x = writes_none (job.Make bytes) e tt
         by (job.Swap h) e x = writes_none (job.Swap h) e tt
+        by (job.Fetch h) e x = writes_none (job.Fetch h) e tt
+        by job.Land e x = writes_none job.Land e tt
         by (job.Read h) e x = writes_none (job.Read h) e tt
         by (job.Write h at bytes) e x =
             wrote_worn c v w closed few t there h.n at bytes e is
@@ -156,6 +160,10 @@ module _ (c : Config) (ok : IsAccepted c) (v : View) (w : WorldState) (closed : 
         by (job.Make bytes) e (inr x) = absurd x
         by (job.Swap h) e x = swap_lacks c t.start t.acts t.took t.gave frames loose nodes h
             narrow (did (job.Swap h) _ tt e is)
+        by (job.Fetch h) e x = absurd (fetch_lacks c t.start t.acts t.took t.gave frames loose
+            nodes h t.order t.keeps (did_by (job.Fetch h) _ e is))
+        by job.Land e x = land_lacks c t.start t.acts t.took t.gave frames loose nodes t.order
+            t.keeps narrow (did_by job.Land _ e is)
         by (job.Read h) e x = read_lacks c t.start t.acts t.took t.gave frames loose nodes h
             narrow (did (job.Read h) _ tt e is)
         by (job.Write h at bytes) e x = write_lacks c t.start t.acts t.took t.gave frames loose
@@ -301,7 +309,7 @@ module _ (c : Config) (ok : IsAccepted c) (v : View) (w : WorldState) (closed : 
 
     pub refused_so : IsCause c v w s a r
     refused_so = by (turn_want c t.start t.acts t.took t.gave u (tries_again t) t.job r for_object told.answers
-        told.lacks (did t in_v t.job r (for_alone u t.job for_object) refl told.reply_is))
+        told.lacks (λ alone. did t in_v t.job r alone refl told.reply_is))
       where
         at : (q : Reply) → r ≡ q → IsCause c v w s a q → IsCause c v w s a r
         at q e x = subst (IsCause c v w s a) (sym e) x

@@ -7,12 +7,14 @@ use Rattle.cb_ptr.specs.declared.word.State.{State}
 use Rattle.cb_ptr.specs.declared.word.State.TheVariants as word
 use Rattle.cb_ptr.specs.Word.{pins_of, state_of}
 use Rattle.cb_types.specs.declared.config.Config.{Config}
+use Rattle.cb_types.specs.declared.handle.SetId.{SetId}
 use Rattle.cb_types.specs.declared.job.Job.{Job}
 use Rattle.cb_types.specs.declared.job.Job.TheVariants as job
 use Rattle.cb_types.specs.declared.order.Kept.{Kept}
 use Rattle.cb_types.specs.declared.order.Kept.TheVariants.{Decode, Encode}
 use Rattle.cb_types.specs.declared.reply.Reply.{Reply}
 use Rattle.cb_types.specs.declared.reply.Reply.TheVariants as answer
+use Rattle.cb_member.specs.declared.names.Loss.{Loss}
 use Rattle.cb_member.specs.declared.names.NodeId.{NodeId}
 use Rattle.cb_member.specs.Membership.{next_epoch}
 use Rattle.cb_world.specs.declared.event.Event.{Event}
@@ -101,19 +103,20 @@ brings_rule : {rows : SetState → ℕ} (id p : ℕ) (far new : FarState) (r : R
 brings_rule id p far new r es x = subst Unworn (sym x.reply)
     (by_answer Unworn far id x.set (λ broken. refl) (λ fine free. refl) (λ f fine free. refl))
 
-unfetched : (far : FarState) (id : ℕ) (set : SetState) → Unworn (unfetched_answer far id set)
-unfetched far id set = by (is_broken far.members set)
+-- rows that are fetched are handed out, or too many are lost, or the object's own is not
+pub fetch_told : (P : Reply → Type 0) → ((id : SetId) (p : ℕ) → P (answer.Fetched id p))
+    → ((id : SetId) (losses : List Loss) → P (answer.Unavailable id losses)) → P answer.Direct
+    → (far new : FarState) (id p : ℕ) (set : SetState) (g : Fetching) → FetchFar far new id p set g
+    → P (fetching_reply g)
+fetch_told P rows gone near far new id p set (Order o) x = rows (record { n = o.set }) o.position
+fetch_told P rows gone near far new id p set (Answer r) x =
+    subst P (sym x.0) (by (is_broken far.members set))
   where
-    by : (b : Bool) → Unworn (if b
+    by : (b : Bool) → P (if b
         then answer.Unavailable (record { n = id }) (lost far.members set.shards)
         else answer.Direct)
-    by true = refl
-    by false = refl
-
-fetch_far : (far new : FarState) (id p : ℕ) (set : SetState) (g : Fetching)
-    → FetchFar far new id p set g → Unworn (fetching_reply g)
-fetch_far far new id p set (Order o) x = refl
-fetch_far far new id p set (Answer r) x = off r (unfetched_answer far id set) (unfetched far id set) x.0
+    by true = gone (record { n = id }) (lost far.members set.shards)
+    by false = near
 
 land_rule : (order : Option Kept) (far new : FarState) (r : Reply) (es : List Event)
     → LandRule order far new r es → Unworn r
@@ -230,7 +233,8 @@ module _ {D : Type 0} (run : D → List Event → D → Type 0) (shows : D → S
       → FetchesBy (desk_orders run shows c) h order a r keeps b → Unworn r
   fetches h order keeps a b r (was_near x never same) = finds h a b r x
   fetches h order keeps a b r (was_away m g find rows is same) = off r (fetching_reply g)
-      (fetch_far m.far b.far rows.0.set rows.0.position rows.3.set g rows.3.state) is
+      (fetch_told Unworn (λ id p. refl) (λ id losses. refl) refl m.far b.far rows.0.set
+      rows.0.position rows.3.set g rows.3.state) is
 
   lands : (order : Option Kept) (a b : Hold) (r : Reply)
       → WithRoom c.frames (Lands run shows order) (WinsRoom run shows c) most_evictions a r b

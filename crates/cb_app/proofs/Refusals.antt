@@ -13,6 +13,7 @@ use Rattle.cb_types.specs.Table.{IsReplyOf}
 use Rattle.cb_world.specs.declared.event.Event.{Event}
 use Rattle.cb_world.specs.declared.shown.Shown.{Shown}
 use Rattle.cb_world.specs.FarState.{FarState}
+use Rattle.cb_core.specs.Jobs.{NeedsNoOrder}
 use Rattle.cb_rule.specs.declared.view.View.{View}
 use Rattle.cb_shared.specs.Calls.{IsAnswer, IsAnswerTo, IsLack, TellsWhatIs}
 use Rattle.cb_shared.specs.Turning.{DidAs, ReadsByPin, slate_run, slate_shows}
@@ -74,16 +75,19 @@ here_again again r x is = by (subst (IsAnswer again) is x)
 -- so of a turn that makes an object, or is on one
 module _ (c : Config) (start : Shown) (es : List Event) (took gave : FarState) (v : View) where
   pub turn_want : (again : Bool) (j : Job) (r : Reply) → IsMake j ⊎ IsOnObject v j
-      → IsAnswerTo again j r → (IsOutOfPlace j r → ⊥) → DidAs c j (Some r) start es took gave → Want j r
+      → IsAnswerTo again j r → (IsOutOfPlace j r → ⊥)
+      → (NeedsNoOrder j → DidAs c j (Some r) start es took gave) → Want j r
   turn_want again (job.Make bytes) r (inl is) answers off did = make_want bytes r is
       (turned_so slate_run slate_shows c ReadsByPin (job.Make bytes) (line.Make [] bytes) r _ _
-      (λ does. room_for slate_run slate_shows c [] bytes _ _ r does) tt did) off
+      (λ does. room_for slate_run slate_shows c [] bytes _ _ r does) tt (did tt)) off
   turn_want again (job.Swap h) r is answers off did = lack_want again (job.Swap h) r answers
+  turn_want again (job.Fetch h) r is answers off did = lack_want again (job.Fetch h) r answers
+  turn_want again job.Land r is answers off did = lack_want again job.Land r answers
   turn_want again (job.Read h) r is answers off did = read_want again h r answers off
   turn_want again (job.Write h at bytes) r is answers off did = write_want again h at bytes r
       (turned_so slate_run slate_shows c ReadsByPin (job.Write h at bytes) (line.Write [] at bytes) r
       _ _ (λ does. write_where slate_run slate_shows c [] bytes h.n at _ _ r
-      (here_again again r answers) does) tt did) answers off
+      (here_again again r answers) does) tt (did tt)) answers off
   turn_want again (job.Make bytes) r (inr is) answers off did = absurd is
   turn_want again j r (inl is) answers off did = absurd is
   turn_want again j r (inr is) answers off did = absurd is

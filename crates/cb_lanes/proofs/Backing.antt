@@ -25,8 +25,7 @@ use Rattle.cb_record.specs.Needs.{IsJobFor, IsTurnFor, Meets, need_of}
 use Rattle.cb_record.specs.Parts.{Grows, Part, grown, nothing_more, sum}
 use Rattle.cb_record.specs.Told.{Told}
 use Rattle.cb_record.proofs.Laws.{backs_sum, grown-nothing_more, grown-sum, idle_backs}
-use Rattle.cb_shared.specs.Calls.{EndsAtLast, IsInVain, again_in, the_handle}
-use Rattle.cb_shared.specs.Reading.{looked}
+use Rattle.cb_shared.specs.Calls.{Brings, EndsAtLast, IsInVain, again_in}
 use Rattle.cb_shared.specs.Turning.{TurnAdds, turn_part}
 use Rattle.cb_shared.proofs.Laws.{known_grown, part_again}
 
@@ -84,17 +83,10 @@ vain_backs on j d x = idle_backs d (ap (λ (z : Part). z.written) x.part)
     ∙ idle_turns x.turns x.idle)
 
 -- tries that came to nothing stand before what answers the line
-pub behind_vain : (before last d : Part) (t : Told) → d ≡ sum before last → Backs before []
-    → Backs last (t ∷ []) → Backs d (t ∷ [])
-behind_vain before last d t is vain b =
-    subst (λ (z : Part). Backs z (t ∷ [])) (sym is) (backs_sum before last [] (t ∷ []) vain b)
-
 pub ends_back : (on : ℕ → Type 0) (j : Turn → Type 0) (P : View → Part → Type 0) (v : View) (d : Part) (t : Told)
     → (x : EndsAtLast on j P v d) → Backs x.last (t ∷ []) → Backs d (t ∷ [])
-ends_back on j P v d t x b = behind_vain x.before x.last d t x.part (vain_backs on j x.before x.in_vain) b
-
-pub look_idle : (h word : ℕ) → Backs (looked h word) []
-look_idle h word = idle_backs (looked h word) refl refl
+ends_back on j P v d t x b = subst (λ (z : Part). Backs z (t ∷ [])) (sym x.part)
+    (backs_sum x.before x.last [] (t ∷ []) (vain_backs on j x.before x.in_vain) b)
 
 -- ---- an answer by a turn
 -- what a line needs to know of the turns of a job that answer it
@@ -143,11 +135,14 @@ its_turn c own h j r v d is x last = inl (
   last_turn x.turn r x.reply_is last,
 )
 
-pub its_swap : (c : Config) (own : Option Job) (h : ℕ) (r : Reply) (v : View) (d : Part)
-    → (x : TurnAdds c (job.Swap (the_handle h)) (Ok r) v d) → IsLast x.turn r
+pub its_bringing : (c : Config) (own : Option Job) (h : ℕ) (j : Job) (r : Reply) (v : View) (d : Part)
+    → Brings h j → (x : TurnAdds c j (Ok r) v d) → IsLast x.turn r
     → HasOne (IsTurnFor own (Some h) r) (x.turn ∷ [])
-its_swap c own h r v d x last =
-    inl (x.reply_is, inr (inl x.job_is), last_turn x.turn r x.reply_is last)
+its_bringing c own h j r v d brings x last = inl (
+  x.reply_is,
+  inr (subst (Brings h) (sym x.job_is) brings),
+  last_turn x.turn r x.reply_is last,
+)
 
 -- a turn that answers its call is not
 pub is_last : (c : Config) (j : Job) (r : Reply) (v : View) (d : Part)

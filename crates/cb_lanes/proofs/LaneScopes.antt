@@ -27,8 +27,8 @@ use Rattle.cb_record.specs.Parts.{Part, grown}
 use Rattle.cb_script.specs.declared.script.Line.{Line}
 use Rattle.cb_shared.specs.declared.answers.WriteAnswer.{WriteAnswer}
 use Rattle.cb_shared.specs.declared.answers.WriteAnswer.TheVariants as place
-use Rattle.cb_shared.specs.Calls.{SaysAs, WriteCallEnds, WriteFinds}
-use Rattle.cb_shared.specs.Reading.{looked}
+use Rattle.cb_shared.specs.Calls.{IsLack, SaysAs, WriteCallEnds, WriteFinds, again_in, the_handle}
+use Rattle.cb_lanes.proofs.AskedTurns.{OwnOrLack, brings_lack, write_own}
 use Rattle.cb_shared.specs.Turning.{PinsTold}
 use Rattle.cb_lanes.specs.declared.body.Named.{Named}
 use Rattle.cb_lanes.specs.Asked.{asked}
@@ -256,8 +256,12 @@ module _ (c : Config) where
   ends_pinned : (h at : ℕ) (bytes : List ℕ) (r : Reply) (v : View) (d : Part)
       → WriteCallEnds c h at bytes r v d → PinnedSays (pins_on h v) r
   ends_pinned h at bytes r v d (inl (a, says, x)) = here_pinned h at bytes a r v d says x
-  ends_pinned h at bytes r v d (inr x) =
-      told_pinned h r (grown (looked h x.word) v) x.turned.1.pins
+  ends_pinned h at bytes r v d (inr x) = by (write_own c h at bytes r v d x)
+    where
+      by : OwnOrLack c (job.Write (the_handle h) at bytes) h r v d → PinnedSays (pins_on h v) r
+      by (inl y) = told_pinned h r v y.1.pins
+      by (inr y) = λ count told. absurd (subst (IsLack (again_in d.turns)) told
+          (brings_lack c h r v d y))
 
   write_pinned : (h at : ℕ) (bytes : List ℕ) (r : Reply) (v w : View)
       → CallGives c (job.Write (record { n = h }) at bytes) v r w → PinnedSays (pins_on h v) r

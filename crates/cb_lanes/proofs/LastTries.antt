@@ -18,6 +18,7 @@ use Rattle.cb_shared.specs.Calls.{TurnGives, WriteAnswers, WriteCallEnds, again_
 use Rattle.cb_shared.specs.declared.answers.WriteAnswer.{WriteAnswer}
 use Rattle.cb_shared.specs.declared.answers.WriteAnswer.TheVariants as place
 use Rattle.cb_shared.proofs.Laws.{read_lacks}
+use Rattle.cb_lanes.proofs.AskedTurns.{brings_lack, write_told}
 use Rattle.cb_lanes.specs.declared.body.Named.{Named}
 use Rattle.cb_lanes.specs.Asked.{HasLineReply}
 use Rattle.cb_lanes.specs.Bodies.{LinesGo, handle_behind}
@@ -67,13 +68,14 @@ module _ (c : Config) where
   write_ends : (h at : ℕ) (bytes : List ℕ) (r : Reply) (v : View) (d : Part)
       → WriteCallEnds c h at bytes r v d → EndsTries r
   write_ends h at bytes r v d (inl (a, says, x)) = said_ends a r says
-  write_ends h at bytes r v d (inr x) = answer_ends (again_in x.later.turns) r x.turned.0
+  write_ends h at bytes r v d (inr x) =
+      answer_ends (again_in d.turns) r (write_told c h at bytes r v d x)
 
   pin_ends : (h : ℕ) (r : Reply) (v w : View) → PinEnds c h r v w → EndsTries r
   pin_ends h (answer.Version version) v w x = tt
   pin_ends h answer.Freed v w x = tt
   pin_ends h answer.ScopeFull v w x = tt
-  pin_ends h r v w x = lack_ends (again_in x.1.later.turns) r x.1.turned.0
+  pin_ends h r v w x = lack_ends (again_in x.0.turns) r (brings_lack c h r v x.0 x.1.turned)
 
   pin_goes : (h : ℕ) (r : Reply) (v w : View) → PinGoes c h v r w → EndsTries r
   pin_goes h answer.ScopeFull v w x = tt

@@ -40,6 +40,7 @@ pub mod Eases
 pub mod LinesFixed
 pub mod LossOrder
 pub mod WorkedGoes
+mod AskedTurns
 mod Backing
 pub mod LineParts
 pub mod LinesBack

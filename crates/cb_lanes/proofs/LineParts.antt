@@ -36,11 +36,13 @@ use Rattle.cb_record.specs.Backs.{Backs, EntersAt, happened_at, pins_at, turn_at
 use Rattle.cb_record.specs.Deeds.{Deed, deed, happened, happening}
 use Rattle.cb_record.specs.Lists.{HasOne, IsSublist, beside, both, ended}
 use Rattle.cb_record.specs.Needs.Need.{AFreed}
-use Rattle.cb_record.specs.Needs.{FindsEmpty, IsFreedAs, Meets, need_of, own_job, peek_at, IsReadAs}
+use Rattle.cb_record.specs.Needs.{FindsEmpty, IsFreedAs, IsReadAs, IsTurnFor, Meets, need_of}
+use Rattle.cb_record.specs.Needs.{own_job, peek_at}
 use Rattle.cb_record.specs.Parts.{Part, grown, nothing_more, sum}
 use Rattle.cb_record.specs.Told.{Told}
 use Rattle.cb_record.proofs.Laws.{backs_sum, grown-nothing_more, has_one_left, has_one_right}
-use Rattle.cb_shared.specs.Calls.{AsksFor, AtThis, IsAnswer, IsAnswerTo, IsLack, ReadCallEnds}
+use Rattle.cb_shared.specs.Calls.{AnswersBy, AtThis, Brings, IsAnswer, IsAnswerTo, IsLack}
+use Rattle.cb_shared.specs.Calls.{ReadCallEnds}
 use Rattle.cb_shared.specs.Calls.{ReadGives, again_in}
 use Rattle.cb_shared.specs.Calls.{ReadsInPlace, TurnGives, WriteAnswers, WriteCallEnds, WriteFinds}
 use Rattle.cb_shared.specs.Calls.{SaysAs, the_handle, worn_once, written_once}
@@ -55,8 +57,10 @@ use Rattle.cb_lanes.specs.Names.{IsOnObject}
 use Rattle.cb_lanes.specs.LineGoes.{CallGoes, LineGoes, job_of}
 use Rattle.cb_lanes.specs.Passing.{CallGives, IsNewestPin, IsNotPinned, LeaveGoes, PeekGoes}
 use Rattle.cb_lanes.specs.Passing.{PinEnds, PinGoes, PinsAtLast, UnpinGoes, goes_in, peeks_of}
-use Rattle.cb_lanes.proofs.Backing.{vain_backs, behind_vain, ends_back, look_idle, IsByTurn}
-use Rattle.cb_lanes.proofs.Backing.{IsLast, is_last, turn_backs, its_turn, its_swap, still_backs}
+use Rattle.cb_lanes.proofs.AskedTurns.{OwnOrLack, brings_idly, brings_lack, brings_none, read_own}
+use Rattle.cb_lanes.proofs.AskedTurns.{write_own}
+use Rattle.cb_lanes.proofs.Backing.{vain_backs, ends_back, IsByTurn}
+use Rattle.cb_lanes.proofs.Backing.{IsLast, is_last, turn_backs, its_bringing, its_turn, still_backs}
 use Rattle.cb_lanes.proofs.LineReplies.{filter_reply, line_reply}
 pub use Rattle.cb_lanes.proofs.Backing.{Adds, adds_by, adds_grown, adds_pins, adds_none, adds_sum}
 pub use Rattle.cb_lanes.proofs.Backing.{adds_knows, one_backs, told_as, LineAdds}
@@ -249,35 +253,45 @@ unmade_line q v w r is same on = (
     by (Filter name) on = still_backs None (Filter name) _ refl tt refl refl refl
     by q on = absurd on
 
--- ---- a look that found the object far, and a turn that can't bring it in
-look_behind : (h word : ℕ) (later d : Part) (t : Told) → d ≡ sum (looked h word) later
-    → Backs later (t ∷ []) → Backs d (t ∷ [])
-look_behind h word later d t is b = behind_vain (looked h word) later d t is (look_idle h word) b
-
--- what a line needs of a swap that is its answer
-record IsBySwap (h : ℕ) (q : Request) : Type 0 where
-  pub enters : (r : Reply) → EntersAt (Some h) q r []
+-- ---- a turn that can't bring the object of a line in
+-- what a line needs of such a turn
+record IsByBringing (h : ℕ) (q : Request) : Type 0 where
+  pub enters : (again : Bool) (r : Reply) → IsLack again r → EntersAt (Some h) q r []
   pub turned : (r : Reply) → turn_at (Some h) q r ≡ []
   pub happens : (r : Reply) → happened_at q r ≡ []
   pub no_pin : (again : Bool) (r : Reply) → IsLack again r → pins_at q r ≡ 0
-  pub needs : (c : Config) (r : Reply) (v : View) (d : Part)
-      → (x : TurnAdds c (job.Swap (the_handle h)) (Ok r) v d) → IsLack (again_in d.turns) r
-      → Meets (turn_part x.turn x.more x.within x.later) (need_of (Some h) q r)
+  pub needs : (d : Part) (r : Reply) (again : Bool) → IsLack again r
+      → HasOne (IsTurnFor (own_job (Some h) q) (Some h) r) d.turns → Meets d (need_of (Some h) q r)
 
-swap_backs : (c : Config) (h : ℕ) (q : Request) (r : Reply) (v : View) (d : Part) → IsBySwap h q
-    → AsksFor c (job.Swap (the_handle h)) r h v d → Backs d (told_as (Some h) q r ∷ [])
-swap_backs c h q r v d by x = look_behind h x.word x.later d (told_as (Some h) q r) x.part
-    (turn_backs c (job.Swap (the_handle h)) (Some h) q r _ x.later x.turned.1 (record {
-      enters = λ es none. subst (EntersAt (Some h) q r) (sym none) (by.enters r);
-      no_pin = by.no_pin (again_in x.later.turns) r x.turned.0;
-      turned = subst (λ (l : List Deed). IsSublist l (record { job = job.Swap (the_handle h); reply = Some r } ∷ []))
-          (sym (by.turned r)) (beside [] _ [] ended);
-      happens = sym (by.happens r);
-    }) (by.needs c r _ x.later x.turned.1 x.turned.0))
+-- it is one for the line, which is not made again
+lack_last : (c : Config) (j : Job) (r : Reply) (v : View) (d : Part) → IsLack (again_in d.turns) r
+    → (x : TurnAdds c j (Ok r) v d) → IsLast x.turn r
+lack_last c j (answer.Unavailable s l) v d lack x = refl
+lack_last c j (answer.NoRoom f l n) v d lack x = is_last c j (answer.NoRoom f l n) v d x lack
+lack_last c j answer.Worn v d lack x = refl
+lack_last c j r v d lack x = absurd lack
 
-read_by_swap : (h : ℕ) (name : List ℕ) → IsBySwap h (Read name)
-read_by_swap h name = record {
-  enters = λ r. refl;
+bring_backs : (c : Config) (h : ℕ) (q : Request) (r : Reply) (v : View) (d : Part) → IsByBringing h q
+    → AnswersBy c (Brings h) r v d → Backs d (told_as (Some h) q r ∷ [])
+bring_backs c h q r v d by x = turn_backs c x.job (Some h) q r v d t (record {
+  enters = λ es wrote. subst (EntersAt (Some h) q r) (sym (brings_none h x.job r es x.of wrote))
+      (by.enters (again_in d.turns) r lack);
+  no_pin = by.no_pin (again_in d.turns) r lack;
+  turned = subst (λ (l : List Deed). IsSublist l (record { job = x.job; reply = Some r } ∷ []))
+      (sym (by.turned r)) (beside [] _ [] ended);
+  happens = brings_idly h x.job r x.of ∙ sym (by.happens r);
+}) (by.needs (turn_part t.turn t.more t.within t.later) r (again_in d.turns) lack
+    (its_bringing c (own_job (Some h) q) h x.job r v d x.of t (lack_last c x.job r v d lack t)))
+  where
+    t : TurnAdds c x.job (Ok r) v d
+    t = x.ends.1
+
+    lack : IsLack (again_in d.turns) r
+    lack = brings_lack c h r v d x
+
+read_by_bringing : (h : ℕ) (name : List ℕ) → IsByBringing h (Read name)
+read_by_bringing h name = record {
+  enters = λ again r lack. refl;
   turned = λ r. refl;
   happens = λ r. refl;
   no_pin = no_pin;
@@ -288,18 +302,17 @@ read_by_swap h name = record {
     no_pin again (answer.Bytes version bytes) lack = absurd lack
     no_pin again r lack = refl
 
-    needs : (c : Config) (r : Reply) (v : View) (d : Part)
-        → (x : TurnAdds c (job.Swap (the_handle h)) (Ok r) v d) → IsLack (again_in d.turns) r
-        → Meets (turn_part x.turn x.more x.within x.later) (need_of (Some h) (Read name) r)
-    needs c (answer.Unavailable s l) v d x lack = its_swap c _ h _ v d x refl
-    needs c (answer.NoRoom f l n) v d x lack = its_swap c _ h _ v d x
-        (is_last c (job.Swap (the_handle h)) _ v d x lack)
-    needs c answer.Worn v d x lack = its_swap c _ h _ v d x refl
-    needs c r v d x lack = absurd lack
+    needs : (d : Part) (r : Reply) (again : Bool) → IsLack again r
+        → HasOne (IsTurnFor (own_job (Some h) (Read name)) (Some h) r) d.turns
+        → Meets d (need_of (Some h) (Read name) r)
+    needs d (answer.Unavailable s l) again lack one = one
+    needs d (answer.NoRoom f l n) again lack one = one
+    needs d answer.Worn again lack one = one
+    needs d r again lack one = absurd lack
 
-pin_by_swap : (h : ℕ) (name : List ℕ) → IsBySwap h (Pin name)
-pin_by_swap h name = record {
-  enters = λ r. refl;
+pin_by_bringing : (h : ℕ) (name : List ℕ) → IsByBringing h (Pin name)
+pin_by_bringing h name = record {
+  enters = λ again r lack. refl;
   turned = λ r. refl;
   happens = λ r. refl;
   no_pin = no_pin;
@@ -310,14 +323,37 @@ pin_by_swap h name = record {
     no_pin again (answer.Version version) lack = absurd lack
     no_pin again r lack = refl
 
-    needs : (c : Config) (r : Reply) (v : View) (d : Part)
-        → (x : TurnAdds c (job.Swap (the_handle h)) (Ok r) v d) → IsLack (again_in d.turns) r
-        → Meets (turn_part x.turn x.more x.within x.later) (need_of (Some h) (Pin name) r)
-    needs c (answer.Unavailable s l) v d x lack = its_swap c _ h _ v d x refl
-    needs c (answer.NoRoom f l n) v d x lack = its_swap c _ h _ v d x
-        (is_last c (job.Swap (the_handle h)) _ v d x lack)
-    needs c answer.Worn v d x lack = its_swap c _ h _ v d x refl
-    needs c r v d x lack = absurd lack
+    needs : (d : Part) (r : Reply) (again : Bool) → IsLack again r
+        → HasOne (IsTurnFor (own_job (Some h) (Pin name)) (Some h) r) d.turns
+        → Meets d (need_of (Some h) (Pin name) r)
+    needs d (answer.Unavailable s l) again lack one = one
+    needs d (answer.NoRoom f l n) again lack one = one
+    needs d answer.Worn again lack one = one
+    needs d r again lack one = absurd lack
+
+write_by_bringing : (h at : ℕ) (name bytes : List ℕ) → IsByBringing h (Write name at bytes)
+write_by_bringing h at name bytes = record {
+  enters = enters;
+  turned = λ r. refl;
+  happens = λ r. refl;
+  no_pin = λ again r lack. refl;
+  needs = needs;
+}
+  where
+    enters : (again : Bool) (r : Reply) → IsLack again r
+        → EntersAt (Some h) (Write name at bytes) r []
+    enters again (answer.Unavailable s l) lack = refl
+    enters again (answer.NoRoom f l n) lack = refl
+    enters again answer.Worn lack = refl
+    enters again r lack = absurd lack
+
+    needs : (d : Part) (r : Reply) (again : Bool) → IsLack again r
+        → HasOne (IsTurnFor (own_job (Some h) (Write name at bytes)) (Some h) r) d.turns
+        → Meets d (need_of (Some h) (Write name at bytes) r)
+    needs d (answer.Unavailable s l) again lack one = one
+    needs d (answer.NoRoom f l n) again lack one = one
+    needs d answer.Worn again lack one = inr one
+    needs d r again lack one = absurd lack
 
 -- ---- a look that found the object freed
 freed_backs : (h : ℕ) (q : Request) (version word : ℕ) → EntersAt (Some h) q answer.Freed []
@@ -424,12 +460,11 @@ read_turn c h name r v d (inr a) x = absurd a
 read_ends : (c : Config) (h : ℕ) (name : List ℕ) (r : Reply) (v : View) (d : Part)
     → ReadCallEnds c h r v d → Backs d (told_as (Some h) (Read name) r ∷ [])
 read_ends c h name r v d (inl x) = in_place_backs h name r v d x
-read_ends c h name r v d (inr (j, inl is, x)) = swap_backs c h (Read name) r v d
-    (read_by_swap h name) (subst (λ (k : Job). AsksFor c k r h v d) is x)
-read_ends c h name r v d (inr (j, inr is, x)) =
-    let y = subst (λ (k : Job). AsksFor c k r h v d) is x in
-    look_behind h y.word y.later d (told_as (Some h) (Read name) r) y.part
-    (read_turn c h name r _ y.later y.turned.0 y.turned.1)
+read_ends c h name r v d (inr x) = by (read_own c h r v d x)
+  where
+    by : OwnOrLack c (job.Read (the_handle h)) h r v d → Backs d (told_as (Some h) (Read name) r ∷ [])
+    by (inl y) = read_turn c h name r v d y.0 y.1
+    by (inr y) = bring_backs c h (Read name) r v d (read_by_bringing h name) y
 
 read_line : (c : Config) (h : ℕ) (name : List ℕ) (r : Reply) (v w : View) → ReadGives c h r v w
     → LineAdds v w (told_as (Some h) (Read name) r)
@@ -450,7 +485,7 @@ write_needs c h at name bytes (answer.Range len) v d x a =
 write_needs c h at name bytes answer.Freed v d x a =
     freed_turn h x.turn x.more x.within x.later (freed_last h _ x.later x.finds)
 write_needs c h at name bytes answer.Worn v d x a =
-    inr (inl (x.reply_is, ap (λ (z : Job). Some z) (sym x.job_is)))
+    inr (its_turn c _ (Some h) _ _ v d refl x refl)
 write_needs c h at name bytes (answer.Full n) v d x a = its_turn c _ (Some h) _ _ v d refl x refl
 write_needs c h at name bytes (answer.NoRoom f l n) v d x a = its_turn c _ (Some h) _ _ v d refl x
     (room_last c (job.Write (the_handle h) at bytes) f l n v d x a)
@@ -509,10 +544,16 @@ write_here h at name bytes (place.Raced saw other) r v d says x = absurd says
 write_ends : (c : Config) (h at : ℕ) (name bytes : List ℕ) (r : Reply) (v : View) (d : Part)
     → WriteCallEnds c h at bytes r v d → Backs d (told_as (Some h) (Write name at bytes) r ∷ [])
 write_ends c h at name bytes r v d (inl (a, says, x)) = write_here h at name bytes a r v d says x
-write_ends c h at name bytes r v d (inr x) =
-    look_behind h x.word x.later d (told_as (Some h) (Write name at bytes) r) x.part
-    (turn_backs c _ (Some h) _ r _ x.later x.turned.1 (write_by h at name bytes r)
-    (write_needs c h at name bytes r _ x.later x.turned.1 x.turned.0))
+write_ends c h at name bytes r v d (inr x) = by (write_own c h at bytes r v d x)
+  where
+    work : Job
+    work = job.Write (the_handle h) at bytes
+
+    by : OwnOrLack c work h r v d → Backs d (told_as (Some h) (Write name at bytes) r ∷ [])
+    by (inl y) = turn_backs c work (Some h) (Write name at bytes) r v d y.1
+        (write_by h at name bytes r) (write_needs c h at name bytes r v d y.1 y.0)
+    by (inr y) =
+        bring_backs c h (Write name at bytes) r v d (write_by_bringing h at name bytes) y
 
 write_line : (c : Config) (h at : ℕ) (name bytes : List ℕ) (r : Reply) (v w : View)
     → WriteAnswers c h at bytes r v w → LineAdds v w (told_as (Some h) (Write name at bytes) r)
@@ -616,7 +657,7 @@ pin_ends c h name answer.Freed v w x = (
 )
 pin_ends c h name answer.ScopeFull v w x = absurd x
 pin_ends c h name r v w x =
-    (x.0, adds_grown v w x.0 x.2, swap_backs c h (Pin name) r v x.0 (pin_by_swap h name) x.1)
+    (x.0, adds_grown v w x.0 x.2, bring_backs c h (Pin name) r v x.0 (pin_by_bringing h name) x.1.turned)
 
 pin_at_last : (c : Config) (h : ℕ) (name : List ℕ) (r : Reply) (v w : View)
     → PinsAtLast c h r v w → LineAdds v w (told_as (Some h) (Pin name) r)

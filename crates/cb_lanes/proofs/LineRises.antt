@@ -2,24 +2,25 @@
 use Rattle.std.proofs.Common.{◌≡◌, ℕ, Bool, List, Option, Some, Ok, inl, inr, sym, subst, arith}
 use Rattle.std.proofs.lemmas.Option.{same_Some}
 use Rattle.cb_types.specs.declared.config.Config.{Config}
-use Rattle.cb_types.specs.declared.job.Job.{Job}
 use Rattle.cb_types.specs.declared.job.Job.TheVariants as job
 use Rattle.cb_types.specs.declared.reply.Reply.{Reply}
 use Rattle.cb_types.specs.declared.reply.Reply.TheVariants as answer
 use Rattle.cb_types.specs.declared.request.Request.{Request}
 use Rattle.cb_types.specs.declared.request.Request.TheVariants.{Make, Read, Write, Free, Pin, Peek}
 use Rattle.cb_types.specs.declared.request.Request.TheVariants.{Unpin, Filter}
+use Rattle.cb_world.specs.declared.event.Event.{Event as Acted}
 use Rattle.cb_rule.specs.declared.view.View.{View}
 use Rattle.cb_rule.specs.Steps.{with_look}
 use Rattle.cb_model.specs.Event.{Event, event_of}
 use Rattle.cb_model.specs.Legal.{IsNotBelow}
 use Rattle.cb_record.specs.Parts.{Part, grown}
 use Rattle.cb_record.specs.Rises.{HasVersion}
-use Rattle.cb_shared.specs.Calls.{AsksFor, ReadCallEnds, ReadGives, the_handle}
-use Rattle.cb_shared.specs.Reading.{IsReadHere, looked}
+use Rattle.cb_shared.specs.Calls.{ReadCallEnds, ReadGives, the_handle}
+use Rattle.cb_shared.specs.Reading.{IsReadHere}
 use Rattle.cb_shared.specs.Turning.{JobReads}
 use Rattle.cb_lanes.specs.LineGoes.{CallGoes, Calls, LineGoes, Peeks}
 use Rattle.cb_lanes.specs.Passing.{IsPinnedOnce, PinGoes, goes_in}
+use Rattle.cb_lanes.proofs.AskedTurns.{OwnOrLack, brings_lack, read_own}
 use Rattle.cb_lanes.proofs.LineParts.{about, make_handle}
 use Rattle.cb_lanes.proofs.LineVersions.{by_line}
 use Rattle.cb_lanes.proofs.PinsRead.{has_grown}
@@ -45,22 +46,18 @@ here_least h version bytes u d here = newest_above h version (with_look h here.w
 read_least : (c : Config) (h version : ℕ) (bytes : List ℕ) (u : View) (d : Part)
     → ReadCallEnds c h (answer.Bytes version bytes) u d → IsAtLeast u h version
 read_least c h version bytes u d (inl here) = here_least h version bytes u d here
-read_least c h version bytes u d (inr (j, inl is, x)) =
-    absurd (subst (λ (k : Job). AsksFor c k (answer.Bytes version bytes) h u d) is x).turned.0
-read_least c h version bytes u d (inr (j, inr is, x)) = by y.turned.1.reads
+read_least c h version bytes u d (inr x) = by (read_own c h (answer.Bytes version bytes) u d x)
   where
-    y : AsksFor c (job.Read (the_handle h)) (answer.Bytes version bytes) h u d
-    y = subst (λ (k : Job). AsksFor c k (answer.Bytes version bytes) h u d) is x
+    least : (es : List Acted) (within : Part) → JobReads (job.Read (the_handle h)) es
+        (Ok (answer.Bytes version bytes)) u within → IsAtLeast u h version
+    least es within (inl z) = absurd z.1
+    least es within (inr z) = λ n freed has. here_least h version bytes (grown z.before u) z.last
+        z.finds n freed (has_grown z.before u h n freed has)
 
-    m : View
-    m = grown (looked h y.word) u
-
-    by : JobReads (job.Read (the_handle h)) y.turned.1.turn.acts
-        (Ok (answer.Bytes version bytes)) m y.turned.1.within
+    by : OwnOrLack c (job.Read (the_handle h)) h (answer.Bytes version bytes) u d
         → IsAtLeast u h version
-    by (inl z) = absurd z.1
-    by (inr z) = λ n freed has. here_least h version bytes (grown z.before m) z.last z.finds n freed
-        (has_grown z.before m h n freed (has_grown (looked h y.word) u h n freed has))
+    by (inl y) = least y.1.turn.acts y.1.within y.1.reads
+    by (inr y) = absurd (brings_lack c h (answer.Bytes version bytes) u d y)
 
 read_higher : (c : Config) (h : ℕ) (name : List ℕ) (r : Reply) (v w : View) → ReadGives c h r v w
     → IsHigher v h (event_of (Read name) r)

@@ -31,6 +31,7 @@ use Rattle.cb_record.specs.Upheld.{IsSeenLong}
 use Rattle.cb_record.proofs.Laws.{has_left}
 use Rattle.cb_shared.specs.Calls.{IsAnswer, IsLack, ReadCallEnds, ReadGives, SaysAs, WriteCallEnds}
 use Rattle.cb_shared.specs.Calls.{again_in}
+use Rattle.cb_lanes.proofs.AskedTurns.{brings_lack, write_told}
 use Rattle.cb_shared.specs.declared.answers.WriteAnswer.{WriteAnswer}
 use Rattle.cb_shared.specs.declared.answers.WriteAnswer.TheVariants as place
 use Rattle.cb_shared.proofs.Laws.{read_lacks}
@@ -238,14 +239,16 @@ not_read c h r v d x is = not_lack (again_in d.turns) r (read_lacks c h r v d (�
 not_written : (c : Config) (h at : ℕ) (bytes : List ℕ) (r : Reply) (v : View) (d : Part)
     → WriteCallEnds c h at bytes r v d → r ≢ answer.Unmade
 not_written c h at bytes r v d (inl (a, says, x)) is = not_said a r says is
-not_written c h at bytes r v d (inr x) is = not_told (again_in x.later.turns) r x.turned.0 is
+not_written c h at bytes r v d (inr x) is =
+    not_told (again_in d.turns) r (write_told c h at bytes r v d x) is
 
 not_pinned : (c : Config) (h : ℕ) (r : Reply) (v w : View) → PinEnds c h r v w
     → r ≢ answer.Unmade
 not_pinned c h (answer.Version version) v w x is = absurd cc
 not_pinned c h answer.Freed v w x is = absurd cc
 not_pinned c h answer.ScopeFull v w x is = absurd cc
-not_pinned c h r v w x is = not_lack (again_in x.1.later.turns) r x.1.turned.0 is
+not_pinned c h r v w x is =
+    not_lack (again_in x.0.turns) r (brings_lack c h r v x.0 x.1.turned) is
 
 not_pin : (c : Config) (h : ℕ) (r : Reply) (v w : View) → PinGoes c h v r w → r ≢ answer.Unmade
 not_pin c h answer.ScopeFull v w x is = absurd cc

@@ -35,8 +35,9 @@ use Rattle.cb_record.specs.Parts.{Part, grown}
 use Rattle.cb_record.proofs.Laws.{has_left, has_right}
 use Rattle.cb_shared.specs.declared.answers.WriteAnswer.{WriteAnswer}
 use Rattle.cb_shared.specs.declared.answers.WriteAnswer.TheVariants as place
-use Rattle.cb_shared.specs.Calls.{SaysAs, WriteAnswers, WriteCallEnds, WriteFinds, the_handle}
-use Rattle.cb_shared.specs.Reading.{looked}
+use Rattle.cb_shared.specs.Calls.{IsLack, SaysAs, WriteAnswers, WriteCallEnds, WriteFinds, again_in}
+use Rattle.cb_shared.specs.Calls.{the_handle}
+use Rattle.cb_lanes.proofs.AskedTurns.{OwnOrLack, brings_lack, write_own}
 use Rattle.cb_shared.proofs.Laws.{asked_alone}
 use Rattle.cb_shared.specs.Turning.{DidAs, ReadsByPin, Slate, TurnAdds, held_by, slate_run}
 use Rattle.cb_shared.specs.Turning.{slate_shows}
@@ -248,14 +249,22 @@ module _ (h at : ℕ) (bytes : List ℕ) (r : Reply) (of_word : IsOfWord r) wher
   place_saw u d m more place.Moving says x = absurd says
   place_saw u d m more (place.Raced saw other) says x = absurd says
 
+  -- why an object can't be brought in says nothing of its word
+  lack_word : (again : Bool) (q : Reply) → IsLack again q → IsOfWord q → ⊥
+  lack_word again (answer.Unavailable set lost) lack is = is
+  lack_word again (answer.NoRoom frames loose nodes) lack is = is
+  lack_word again answer.Worn lack is = is
+  lack_word again q lack is = absurd lack
+
   ends_saw : (c : Config) (u : View) (d : Part) (m : View)
       → ((l : Look) → Has l d.looks → Has l m.looks) → ((t : Turn) → Has t d.turns → Has t m.turns)
       → WriteCallEnds c h at bytes r u d → SawWord m
   ends_saw c u d m looks turns (inl x) = place_saw u d m looks x.0 x.1 x.2
-  ends_saw c u d m looks turns (inr x) =
-      turn_saw c (grown (looked h x.word) u) x.later m x.turned.1
-      (λ t has. turns t (subst (λ (p : Part). Has t p.turns) (sym x.part)
-      (has_left t x.later.turns [] has)))
+  ends_saw c u d m looks turns (inr x) = by (write_own c h at bytes r u d x)
+    where
+      by : OwnOrLack c (job.Write (the_handle h) at bytes) h r u d → SawWord m
+      by (inl y) = turn_saw c u d m y.1 turns
+      by (inr y) = absurd (not_so r refl (lack_word (again_in d.turns) r (brings_lack c h r u d y)))
 
   pub saw_write : (c : Config) (v m : View) → WriteAnswers c h at bytes r v m → SawWord m
   saw_write c v m (d, x, is) = ends_saw c (grown x.before v) x.last m

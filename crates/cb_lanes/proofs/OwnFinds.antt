@@ -6,6 +6,7 @@ use Rattle.cb_types.specs.declared.job.Job.{Job}
 use Rattle.cb_types.specs.declared.job.Job.TheVariants as job
 use Rattle.cb_types.specs.declared.reply.Reply.TheVariants as answer
 use Rattle.cb_world.specs.declared.entry.Entry.{Entry}
+use Rattle.cb_world.specs.declared.event.Event.{Event}
 use Rattle.cb_rule.specs.declared.turn.Turn.{Turn}
 use Rattle.cb_rule.specs.declared.view.Stand.{Stand}
 use Rattle.cb_rule.specs.declared.view.View.{View}
@@ -17,13 +18,14 @@ use Rattle.cb_record.proofs.Laws.{has_left, has_right}
 use Rattle.cb_shared.specs.declared.answers.WriteAnswer.{WriteAnswer}
 use Rattle.cb_shared.specs.declared.answers.WriteAnswer.TheVariants as place
 use Rattle.cb_shared.specs.declared.reading.ReadAnswer.TheVariants as found
-use Rattle.cb_shared.specs.Calls.{AsksFor, AtNone, AtThis, IsInVain, ReadCallEnds, ReadGives}
+use Rattle.cb_shared.specs.Calls.{AtNone, AtThis, IsInVain, ReadCallEnds, ReadGives}
 use Rattle.cb_shared.specs.Calls.{SaysAs, TurnGives, WriteAnswers, WriteCallEnds, WriteFinds}
 use Rattle.cb_shared.specs.Calls.{the_handle}
-use Rattle.cb_shared.specs.Reading.{FindsGone, IsReadHere, looked}
-use Rattle.cb_shared.specs.Turning.{FindsAtLast, FindsFreedAfter, JobReads, made_by_turn, object_of}
-use Rattle.cb_shared.specs.Turning.{turn_part, with_own}
+use Rattle.cb_shared.specs.Reading.{FindsGone, IsReadHere}
+use Rattle.cb_shared.specs.Turning.{FindsAtLast, FindsFreedAfter, JobReads, TurnAdds, made_by_turn}
+use Rattle.cb_shared.specs.Turning.{object_of, turn_part, with_own}
 use Rattle.cb_lanes.specs.Passing.{IsPinnedOnce, PinGoes}
+use Rattle.cb_lanes.proofs.AskedTurns.{OwnOrLack, brings_lack, read_own, write_own}
 
 -- a state of the record with these entries and own handles, by which the version was the newest
 pub record SawNewest (h version : ℕ) (v : View) : Type 0 where
@@ -116,21 +118,19 @@ call_freed h v w d before last part seen z = record {
 }
 
 -- ---- a read
--- a turn of a look behind, whose freed entry was read
+-- a turn whose freed entry was read
 asks_gone : (c : Config) (j : Job) (h : ℕ) (v : View) (before last : Part) → before.written ≡ []
-    → object_of j ≡ Some h → (x : AsksFor c j answer.Freed h (grown before v) last)
-    → x.turned.1.more ≡ [] → SawGone h v last
+    → object_of j ≡ Some h → (x : TurnAdds c j (Ok answer.Freed) (grown before v) last)
+    → x.more ≡ [] → SawGone h v last
 asks_gone c j h v before last none on x wrote =
-    let t = x.turned.1 in
-    let u = grown (looked h x.word) (grown before v) in
+    let u = grown before v in
     let finds = subst (λ (o : Option ℕ). FindsFreedAfter o (with_own (made_by_turn j (Some answer.Freed))
-    (grown (turn_part t.turn t.more t.within nothing_more) u)) t.later) on t.finds in
-    let z = turn_gone h u x.later t.turn (made_by_turn j (Some answer.Freed)) t.more t.within t.later
-    wrote finds t.part in (
+    (grown (turn_part x.turn x.more x.within nothing_more) u)) x.later) on x.finds in
+    let z = turn_gone h u last x.turn (made_by_turn j (Some answer.Freed)) x.more x.within x.later
+    wrote finds x.part in (
       z.0,
       saw_before h z.0 u v (ap (λ (l : List _). l ++ v.written) none) refl (λ k has. has) z.1,
-      subst (λ (y : Part). Has (freed_seen h z.0) y.seen) (sym x.part)
-          (has_left (freed_seen h z.0) x.later.seen [] z.2),
+      z.2,
     )
 
 -- the version that a read under a pin found, behind parts that wrote nothing
@@ -151,23 +151,23 @@ read_saw : (c : Config) (h version : ℕ) (bytes : List ℕ) (v : View) (before 
 read_saw c h version bytes v before last none (inl here) =
     here_saw h version bytes v (grown before v) last (ap (λ (l : List _). l ++ v.written) none) refl
     (λ k has. has) here
-read_saw c h version bytes v before last none (inr (j, inl is, x)) =
-    absurd (subst (λ (k : Job). AsksFor c k (answer.Bytes version bytes) h (grown before v) last) is x).turned.0
-read_saw c h version bytes v before last none (inr (j, inr is, x)) = by y.turned.1.reads
+read_saw c h version bytes v before last none (inr x) =
+    by (read_own c h (answer.Bytes version bytes) u last x)
   where
-    y : AsksFor c (job.Read (the_handle h)) (answer.Bytes version bytes) h (grown before v) last
-    y = subst (λ (k : Job). AsksFor c k (answer.Bytes version bytes) h (grown before v) last) is x
-
     u : View
-    u = grown (looked h y.word) (grown before v)
+    u = grown before v
 
-    by : JobReads (job.Read (the_handle h)) y.turned.1.turn.acts
-        (Ok (answer.Bytes version bytes)) u y.turned.1.within
-        → SawNewest h version v
-    by (inl z) = absurd z.1
-    by (inr z) = here_saw h version bytes v (grown z.before u) z.last
+    seen : (es : List Event) (d : Part) → JobReads (job.Read (the_handle h)) es
+        (Ok (answer.Bytes version bytes)) u d → SawNewest h version v
+    seen es d (inl z) = absurd z.1
+    seen es d (inr z) = here_saw h version bytes v (grown z.before u) z.last
         (ap (λ (q : Part). q.written ++ u.written) z.lost.part
         ∙ ap (λ (l : List _). l ++ v.written) none) refl (λ k has. has) z.finds
+
+    by : OwnOrLack c (job.Read (the_handle h)) h (answer.Bytes version bytes) u last
+        → SawNewest h version v
+    by (inl y) = seen y.1.turn.acts y.1.within y.1.reads
+    by (inr y) = absurd (brings_lack c h (answer.Bytes version bytes) u last y)
 
 pub saw_read : (c : Config) (h version : ℕ) (bytes : List ℕ) (v w : View)
     → ReadGives c h (answer.Bytes version bytes) v w → SawNewest h version v
@@ -177,11 +177,11 @@ saw_read c h version bytes v w (d, x, is) = read_saw c h version bytes v x.befor
 read_gone : (c : Config) (h : ℕ) (v : View) (before last : Part) → before.written ≡ []
     → ReadCallEnds c h answer.Freed (grown before v) last → SawGone h v last
 read_gone c h v before last none (inl x) = gone_saw h v before last none x
-read_gone c h v before last none (inr (j, inl is, x)) =
-    absurd (subst (λ (k : Job). AsksFor c k answer.Freed h (grown before v) last) is x).turned.0
-read_gone c h v before last none (inr (j, inr is, x)) =
-    let y = subst (λ (k : Job). AsksFor c k answer.Freed h (grown before v) last) is x in
-    asks_gone c (job.Read (the_handle h)) h v before last none refl y y.turned.1.wrote
+read_gone c h v before last none (inr x) = by (read_own c h answer.Freed (grown before v) last x)
+  where
+    by : OwnOrLack c (job.Read (the_handle h)) h answer.Freed (grown before v) last → SawGone h v last
+    by (inl y) = asks_gone c (job.Read (the_handle h)) h v before last none refl y.1 y.1.wrote
+    by (inr y) = absurd (brings_lack c h answer.Freed (grown before v) last y)
 
 pub freed_read : (c : Config) (h : ℕ) (v w : View) → ReadGives c h answer.Freed v w → SawFreed h v w
 freed_read c h v w (d, x, is) = call_freed h v w d x.before x.last x.part
@@ -203,8 +203,15 @@ write_ends : (c : Config) (h at : ℕ) (bytes : List ℕ) (v : View) (before las
     → SawGone h v last
 write_ends c h at bytes v before last none (inl x) =
     gone_saw h v before last none (place_gone h at bytes (grown before v) last x.0 x.1 x.2)
-write_ends c h at bytes v before last none (inr x) = asks_gone c
-    (job.Write (the_handle h) at bytes) h v before last none refl x x.turned.1.wrote
+write_ends c h at bytes v before last none (inr x) =
+    by (write_own c h at bytes answer.Freed (grown before v) last x)
+  where
+    work : Job
+    work = job.Write (the_handle h) at bytes
+
+    by : OwnOrLack c work h answer.Freed (grown before v) last → SawGone h v last
+    by (inl y) = asks_gone c work h v before last none refl y.1 y.1.wrote
+    by (inr y) = absurd (brings_lack c h answer.Freed (grown before v) last y)
 
 pub freed_write : (c : Config) (h at : ℕ) (bytes : List ℕ) (v w : View)
     → WriteAnswers c h at bytes answer.Freed v w → SawFreed h v w
@@ -215,17 +222,9 @@ freed_write c h at bytes v w (d, x, is) = call_freed h v w d x.before x.last x.p
 -- ---- a free
 pub freed_free : (c : Config) (h : ℕ) (v w : View)
     → TurnGives c (job.Free (the_handle h)) answer.Freed v w → SawFreed h v w
-freed_free c h v w (d, x, is) =
-    let t = x.ends_so.1 in
-    let z = turn_gone h (grown x.before v) x.last t.turn [] t.more t.within t.later t.wrote t.finds
-    t.part in
-    call_freed h v w d x.before x.last x.part (ap (λ (z : View). z.seen) is) (
-      z.0,
-      saw_before h z.0 (grown x.before v) v
-          (ap (λ (l : List _). l ++ v.written) (vain_written AtNone _ x.before x.in_vain)) refl
-          (λ k has. has) z.1,
-      z.2,
-    )
+freed_free c h v w (d, x, is) = call_freed h v w d x.before x.last x.part
+    (ap (λ (z : View). z.seen) is) (asks_gone c (job.Free (the_handle h)) h v x.before x.last
+    (vain_written AtNone _ x.before x.in_vain) refl x.ends_so.1 x.ends_so.1.wrote)
 
 -- ---- a pin
 pub saw_pin : (c : Config) (h version : ℕ) (v w : View) → PinGoes c h v (answer.Version version) w

@@ -36,6 +36,7 @@ use Rattle.cb_lanes.specs.KeepsOwn.{KeepsOwn, last_in}
 use Rattle.cb_lanes.specs.LineGoes.{Calls}
 use Rattle.cb_lanes.specs.Passing.{PeekGoes, PinGoes, UnpinGoes}
 use Rattle.cb_lanes.specs.Scopes.{named_on, newest_on, without_newest}
+use Rattle.cb_lanes.proofs.AskedTurns.{brings_lack}
 use Rattle.cb_lanes.proofs.LineParts.{LineAdds, told_as}
 use Rattle.cb_lanes.proofs.OwnObjects.{last_hit}
 use Rattle.cb_lanes.proofs.OwnSays.{OwnAt, comes_next, free_one, free_reply, goes_own, peek_reply}
@@ -286,7 +287,7 @@ module _ (c : Config) (lines : List Line) (lane : ℕ) (named : Option (List ℕ
         moves (answer.NoRoom f l n) x adds room = absurd (true≢false room)
         moves (answer.Unavailable s l) x adds room = absurd (true≢false room)
         moves answer.Worn x adds room = absurd (true≢false room)
-        moves r x adds room = absurd x.1.ends_so.1.turned.0
+        moves r x adds room = let e = x.1.ends_so in absurd (brings_lack c h r _ e.0 e.1.turned)
 
     -- a peek
     pub own_peek : (r : Reply) → PeekGoes h v r m → LineAdds v m (told_as (Some h) (Peek p) r) → Comes (Peek p) r

@@ -36,6 +36,7 @@ use Rattle.cb_shared.specs.declared.answers.WriteAnswer.{WriteAnswer}
 use Rattle.cb_shared.specs.declared.answers.WriteAnswer.TheVariants as place
 use Rattle.cb_shared.specs.Calls.{ReadGives, SaysAs, TurnGives, WriteAnswers, the_handle}
 use Rattle.cb_shared.specs.Calls.{IsAnswerTo, again_in}
+use Rattle.cb_lanes.proofs.AskedTurns.{brings_lack, write_told}
 use Rattle.cb_shared.proofs.Laws.{read_lacks}
 use Rattle.cb_lanes.specs.Alone.{change_alone, free_alone, peek_alone, pin_alone, pin_object}
 use Rattle.cb_lanes.specs.Alone.{read_alone, unpin_alone, write_alone}
@@ -212,7 +213,7 @@ module _ (mine : ℕ → Type 0) (h : ℕ) (x : Entry) (v m all : View) (at_ : O
       → ((again : Bool) → IsAnswerTo again (job.Write (the_handle h) at bytes) r → ⊥) → WriteAnswers c h at bytes r v m → ⊥
   odd_write c at bytes r odd never (d, y, is) = elim y.ends_so [
     | inl z ↦ odd_says z.0 r odd z.1
-    | inr z ↦ never (again_in z.later.turns) z.turned.0
+    | inr z ↦ never (again_in y.last.turns) (write_told c h at bytes r _ y.last z)
   ]
 
   -- one is written behind the object's last entry
@@ -366,7 +367,7 @@ module _ (mine : ℕ → Type 0) (h : ℕ) (x : Entry) (v m all : View) (at_ : O
   pin_reply c (answer.NoRoom f l n) y room = absurd (true≢false room)
   pin_reply c (answer.Unavailable s l) y room = absurd (true≢false room)
   pin_reply c answer.Worn y room = absurd (true≢false room)
-  pin_reply c r y room = absurd y.1.ends_so.1.turned.0
+  pin_reply c r y room = let e = y.1.ends_so in absurd (brings_lack c h r _ e.0 e.1.turned)
 
 -- ---- a peek and an unpin
 peek_none : (o : Object) → peek_alone (Some o) None ≡ answer.NotPinned

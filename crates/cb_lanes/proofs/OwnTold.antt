@@ -1,5 +1,5 @@
 -- What a call tells of an object that is its pass's own, from what its last try tells.
-use Rattle.std.proofs.Common.{ℕ, List, [], ◌∷◌, Ok, inl, inr, sym, subst}
+use Rattle.std.proofs.Common.{ℕ, Bool, List, [], ◌∷◌, Ok, inl, inr, sym, subst}
 use Rattle.cb_types.specs.declared.config.Config.{Config}
 use Rattle.cb_types.specs.declared.job.Job.{Job}
 use Rattle.cb_types.specs.declared.job.Job.TheVariants as job
@@ -9,11 +9,12 @@ use Rattle.cb_rule.specs.declared.turn.Turn.{Turn}
 use Rattle.cb_rule.specs.declared.view.Look.{Look}
 use Rattle.cb_rule.specs.declared.view.View.{View}
 use Rattle.cb_rule.specs.Lists.{Has}
-use Rattle.cb_rule.specs.Steps.{look_at}
 use Rattle.cb_record.specs.Parts.{Part, grown, nothing_more}
 use Rattle.cb_shared.specs.declared.answers.WriteAnswer.{WriteAnswer}
 use Rattle.cb_shared.specs.declared.answers.WriteAnswer.TheVariants as place
-use Rattle.cb_shared.specs.Calls.{IsInVain, SaysAs, WriteCallEnds, WriteFinds, the_handle}
+use Rattle.cb_shared.specs.Calls.{IsInVain, IsLack, SaysAs, WriteCallEnds, WriteFinds, again_in}
+use Rattle.cb_shared.specs.Calls.{the_handle}
+use Rattle.cb_lanes.proofs.AskedTurns.{OwnOrLack, brings_lack, write_own}
 use Rattle.cb_shared.specs.Turning.{TurnAdds}
 use Rattle.cb_lanes.specs.LineGoes.{Ask, Calls}
 use Rattle.cb_lanes.specs.Passing.{goes_in}
@@ -77,11 +78,23 @@ module _ (c : Config) where
   turn_tells (job.Free handle) r u d x = λ own. tt
   turn_tells j r u d x = tt
 
+  -- why an object can't be brought in says nothing of its pins
+  lack_tells : (again : Bool) (h at : ℕ) (bytes : List ℕ) (r : Reply) (u : View) → IsLack again r
+      → TellsOwn (Calls (job.Write (the_handle h) at bytes)) u r
+  lack_tells again h at bytes (answer.Version version) u lack = absurd lack
+  lack_tells again h at bytes (answer.Pinned count) u lack = absurd lack
+  lack_tells again h at bytes (answer.Range len) u lack = absurd lack
+  lack_tells again h at bytes r u lack = λ own. tt
+
   ends_tell : (h at : ℕ) (bytes : List ℕ) (r : Reply) (u : View) (d : Part) → WriteCallEnds c h at bytes r u d
       → TellsOwn (Calls (job.Write (the_handle h) at bytes)) u r
   ends_tell h at bytes r u d (inl x) = here_tells h at bytes x.0 r u d x.1 x.2
-  ends_tell h at bytes r u d (inr x) = still (Calls (job.Write (the_handle h) at bytes)) r u
-      (look_at h x.word ∷ []) [] (turn_tells (job.Write (the_handle h) at bytes) r _ x.later x.turned.1)
+  ends_tell h at bytes r u d (inr x) = by (write_own c h at bytes r u d x)
+    where
+      by : OwnOrLack c (job.Write (the_handle h) at bytes) h r u d
+          → TellsOwn (Calls (job.Write (the_handle h) at bytes)) u r
+      by (inl y) = turn_tells (job.Write (the_handle h) at bytes) r u d y.1
+      by (inr y) = lack_tells (again_in d.turns) h at bytes r u (brings_lack c h r u d y)
 
   pub ask_tells : (ask : Ask) (v : View) (r : Reply) (w : View) → goes_in c ask v r w → TellsOwn ask v r
   ask_tells (Calls (job.Write handle at bytes)) v r w (d, x, is) =

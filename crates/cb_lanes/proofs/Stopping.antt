@@ -20,7 +20,7 @@ use Rattle.cb_rule.specs.Lists.{Each}
 use Rattle.cb_rule.specs.Steps.{look_at, with_look}
 use Rattle.cb_record.specs.Deeds.{deed, happened, happening}
 use Rattle.cb_record.specs.Parts.{Grows, Part, grown, nothing_more}
-use Rattle.cb_shared.specs.Calls.{AtNone, AtThis, IsInVain, StopsInVain, the_handle}
+use Rattle.cb_shared.specs.Calls.{AtNone, AtThis, Brings, IsInVain, StopsBy, StopsInVain}
 use Rattle.cb_shared.specs.Joining.{unpinned_all}
 use Rattle.cb_shared.specs.Pinning.{LooksOnce}
 use Rattle.cb_shared.specs.Turning.{JobReads, TurnAdds, TurnBy, made_by_turn, turn_part, with_own}
@@ -66,11 +66,11 @@ other_stops c j v w (Err e) m r k f x = (e, x)
 -- ---- a pin
 pub brings_not : {T : Type 0} (c : Config) (h : ℕ) (v m w : View) (result : Result T NoMemory)
     → LooksOnce h v m (λ n. state_of n ≡ state.Far)
-    → OnErr result (TurnLacks c (job.Swap (the_handle h)) m w) → OnErr result (BringsNot c h v w)
+    → OnErr result (StopsBy AtNone (Brings h) m w) → OnErr result (BringsNot c h v w)
 brings_not c h v m w result (n, far, left) x = err_then result _ _ (λ lacks. record {
   word = n;
   away = far;
-  lacks = subst (λ (z : View). TurnLacks c (job.Swap (the_handle h)) z w) left lacks;
+  lacks = subst (λ (z : View). StopsBy AtNone (Brings h) z w) left lacks;
 }) x
 
 -- ---- a line of a lane with more beside its record is one of the record
@@ -184,7 +184,7 @@ idle_pin : (c : Config) (h : ℕ) (v w : View) → PinStops c h v w → AddsIdly
 idle_pin c h v w x = idle_both v x.between w
     (idle_vain (AtThis h) _ x.in_vain.0 v x.between x.in_vain.1 x.in_vain.2)
     (idle_both x.between (with_look h x.lacks.word x.between) w (idle_look h x.lacks.word x.between)
-    (idle_turn c (job.Swap (the_handle h)) (with_look h x.lacks.word x.between) w x.lacks.lacks))
+    (idle_stops AtNone _ _ (with_look h x.lacks.word x.between) w x.lacks.lacks))
 
 idle_ask : (c : Config) (ask : Ask) (v w : View) → stops_in c ask v w → AddsIdly v w
 idle_ask c (Calls j) v w x = idle_call c j v w x

@@ -13,10 +13,11 @@ use Rattle.cb_rule.proofs.Laws.{each_has}
 use Rattle.cb_record.specs.Parts.{Part, grown}
 use Rattle.cb_record.specs.Rises.{HasAllOf, HasVersion}
 use Rattle.cb_record.proofs.Laws.{has_right}
-use Rattle.cb_shared.specs.Calls.{IsWrittenOnce, SaysAs, WriteCallEnds, WriteFinds, the_handle}
+use Rattle.cb_shared.specs.Calls.{IsLack, IsWrittenOnce, SaysAs, WriteCallEnds, WriteFinds}
+use Rattle.cb_shared.specs.Calls.{again_in, the_handle}
 use Rattle.cb_shared.specs.declared.answers.WriteAnswer.{WriteAnswer}
 use Rattle.cb_shared.specs.declared.answers.WriteAnswer.TheVariants as place
-use Rattle.cb_shared.specs.Reading.{looked}
+use Rattle.cb_lanes.proofs.AskedTurns.{OwnOrLack, brings_lack, write_own}
 use Rattle.cb_shared.specs.Turning.{TurnAdds}
 use Rattle.cb_lanes.specs.LineGoes.{Ask, Calls, Peeks}
 use Rattle.cb_lanes.specs.Passing.{PeekGoes, goes_in}
@@ -99,13 +100,21 @@ here_new h at bytes place.NotHere r v d says x = absurd says
 here_new h at bytes place.Moving r v d says x = absurd says
 here_new h at bytes (place.Raced saw other) r v d says x = absurd says
 
+-- why an object can't be brought in tells no version
+lack_new : (again : Bool) (h at : ℕ) (bytes : List ℕ) (r : Reply) (v : View) → IsLack again r
+    → TellsNew (Calls (job.Write (the_handle h) at bytes)) v r
+lack_new again h at bytes (answer.Version version) v lack = absurd lack
+lack_new again h at bytes r v lack = tt
+
 ends_new : (c : Config) (h at : ℕ) (bytes : List ℕ) (r : Reply) (v : View) (d : Part)
     → WriteCallEnds c h at bytes r v d → TellsNew (Calls (job.Write (the_handle h) at bytes)) v r
 ends_new c h at bytes r v d (inl x) = here_new h at bytes x.0 r v d x.1 x.2
-ends_new c h at bytes r v d (inr x) =
-    tells_less (Calls (job.Write (the_handle h) at bytes)) r v (grown (looked h x.word) v)
-    (has_grown (looked h x.word) v)
-    (turn_new c (grown (looked h x.word) v) x.later (job.Write (the_handle h) at bytes) r x.turned.1)
+ends_new c h at bytes r v d (inr x) = by (write_own c h at bytes r v d x)
+  where
+    by : OwnOrLack c (job.Write (the_handle h) at bytes) h r v d
+        → TellsNew (Calls (job.Write (the_handle h) at bytes)) v r
+    by (inl y) = turn_new c v d (job.Write (the_handle h) at bytes) r y.1
+    by (inr y) = lack_new (again_in d.turns) h at bytes r v (brings_lack c h r v d y)
 
 -- ---- a peek
 peek_new : (h : ℕ) (r : Reply) (v w : View) → PeekGoes h v r w → TellsNew (Peeks h) v r

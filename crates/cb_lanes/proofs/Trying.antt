@@ -14,40 +14,47 @@ use Rattle.cb_ptr.specs.Word.{pins_of, state_of}
 use Rattle.cb_rule.specs.declared.turn.Turn.{Turn}
 use Rattle.cb_rule.specs.declared.view.View.{View}
 use Rattle.cb_rule.specs.Steps.{look_at}
-use Rattle.cb_record.specs.Parts.{Grows, Part}
+use Rattle.cb_record.specs.Parts.{Grows, Part, grown}
 use Rattle.cb_shared.specs.declared.answers.PinAnswer.{PinAnswer}
 use Rattle.cb_shared.specs.declared.answers.PinAnswer.TheVariants as found
 use Rattle.cb_shared.specs.declared.pass.Pin.{Pin}
-use Rattle.cb_shared.specs.Calls.{AsksFor, AtNone, AtThis, IsUnanswered, StopsInVain, TurnTries}
-use Rattle.cb_shared.specs.Calls.{the_handle}
-use Rattle.cb_shared.specs.Pinning.{FindsFreed, IsPinnedHere, LooksOnce, PinGives}
+use Rattle.cb_shared.specs.Calls.{AsksFor, AtNone, AtThis, Brings, IsLack, IsUnanswered, StopsBy}
+use Rattle.cb_shared.specs.Calls.{StopsInVain, TriesBy, again_in}
+use Rattle.cb_shared.specs.Pinning.{IsPinnedHere, LooksOnce, PinGives}
 use Rattle.cb_shared.specs.Reading.{looked, looked_twice}
 use Rattle.cb_shared.specs.Turning.{TurnBy}
-use Rattle.cb_shared.proofs.Laws.{look_asks, look_part, look_tries, one_of_three, tries_then}
-use Rattle.cb_shared.proofs.Laws.{tries_wider, twice_part, vain_look}
+use Rattle.cb_shared.proofs.Laws.{far_at_last, far_tries, grown_sum, look_part, one_of_three}
+use Rattle.cb_shared.proofs.Laws.{so_far, tries_then, tries_wider, twice_part, vain_look}
+use Rattle.cb_lanes.proofs.AskedTurns.{brings_lack}
 use Rattle.cb_lanes.specs.Passing.{CallGives, IsPinnedOnce, PinEnds, PinGoes, PinTries, PinsAtLast}
 use Rattle.cb_lanes.specs.Passing.{PinsInVain}
 
-abbrev vain : Config → ℕ → Turn → Type 0
-vain c h t = IsUnanswered (job.Swap (the_handle h)) t
+abbrev vain : ℕ → Turn → Type 0
+vain h t = IsUnanswered (Brings h) t
 
-pub pinned_once : (h : ℕ) (p : Pin) (version : ℕ) (v w : View) → version ≡ p.version
-    → IsPinnedHere h p v w → IsPinnedOnce h version v w
-pinned_once h p version v w is x = subst (λ (n : ℕ). IsPinnedOnce h n v w) (sym is) (record {
-  word = x.word;
-  words = x.words;
-  here = x.here;
-  newest = x.newest;
-  left = x.left;
-})
+-- the first try ends so
+at_once : (c : Config) (h : ℕ) (r : Reply) (v w : View) → PinEnds c h r v w → PinsAtLast c h r v w
+at_once c h r v w x = record { between = v; in_vain = so_far (AtThis h) (vain h) v; ends_so = x }
+
+pub pinned_once : (c : Config) (h : ℕ) (p : Pin) (version : ℕ) (v w : View) → version ≡ p.version
+    → IsPinnedHere h p v w → PinTries c h (Some (answer.Version version)) v w
+pinned_once c h p version v w is x = at_once c h (answer.Version version) v w
+    (subst (λ (n : ℕ). IsPinnedOnce h n v w) (sym is) (record {
+      word = x.word;
+      words = x.words;
+      here = x.here;
+      newest = x.newest;
+      left = x.left;
+    }))
 
 pub was_pinned : (h : ℕ) (a : PinAnswer) (p : Pin) (v w : View) → a ≡ found.Pinned p
     → PinGives h a v w → IsPinnedHere h p v w
 was_pinned h a p v w is x = subst (λ (z : PinAnswer). PinGives h z v w) is x
 
-pub was_freed : (h : ℕ) (a : PinAnswer) (v w : View) → a ≡ found.Freed → PinGives h a v w
-    → FindsFreed h v w
-was_freed h a v w is x = subst (λ (z : PinAnswer). PinGives h z v w) is x
+pub was_freed : (c : Config) (h : ℕ) (a : PinAnswer) (v w : View) → a ≡ found.Freed
+    → PinGives h a v w → PinTries c h (Some answer.Freed) v w
+was_freed c h a v w is x =
+    at_once c h answer.Freed v w (subst (λ (z : PinAnswer). PinGives h z v w) is x)
 
 pub was_far : (h : ℕ) (a : PinAnswer) (v w : View) → a ≡ found.NotHere → PinGives h a v w
     → LooksOnce h v w (λ n. state_of n ≡ state.Far)
@@ -68,7 +75,7 @@ is_hindered a =
 looked_once : (c : Config) (h : ℕ) (P : ℕ → Type 0) (v w : View) → LooksOnce h v w P
     → PinsInVain c h v w
 looked_once c h P v w (n, is, left) =
-    (looked h n, vain_look h n (vain c h), left ∙ look_part h n v)
+    (looked h n, vain_look h n (vain h), left ∙ look_part h n v)
 
 pub was_hindered : (c : Config) (h : ℕ) (a : PinAnswer) (v w : View) → IsHindered a
     → PinGives h a v w → PinsInVain c h v w
@@ -92,37 +99,55 @@ was_hindered c h (found.Raced saw other) v w is x = (
   x.1 ∙ twice_part h saw other v,
 )
 
-asked_pin : (c : Config) (h : ℕ) (r : Reply) (v w : View) (d : Part)
-    → AsksFor c (job.Swap (the_handle h)) r h v d → Grows v d w → PinEnds c h r v w
-asked_pin c h (answer.Version version) v w d x grew = absurd x.turned.0
-asked_pin c h answer.Freed v w d x grew = absurd x.turned.0
-asked_pin c h answer.ScopeFull v w d x grew = absurd x.turned.0
-asked_pin c h r v w d x grew = (d, x, grew)
+-- a turn that can't bring it in tells why, and nothing else
+asked_pin : (c : Config) (h : ℕ) (r : Reply) (v w : View) (d : Part) → AsksFor c (Brings h) r h v d
+    → IsLack (again_in d.turns) r → Grows v d w → PinEnds c h r v w
+asked_pin c h (answer.Version version) v w d x lack grew = absurd lack
+asked_pin c h answer.Freed v w d x lack grew = absurd lack
+asked_pin c h answer.ScopeFull v w d x lack grew = absurd lack
+asked_pin c h r v w d x lack grew = (d, x, grew)
 
--- a look that found the object far, and a turn
+-- a look that found the object far, and such turns
 pub brought : (c : Config) (h : ℕ) (o : Option Reply) (v m w : View)
-    → LooksOnce h v m (λ n. state_of n ≡ state.Far) → TurnTries c (job.Swap (the_handle h)) o m w
+    → LooksOnce h v m (λ n. state_of n ≡ state.Far) → TriesBy c AtNone (Brings h) o m w
     → PinTries c h o v w
-brought c h None v m w (n, far, left) x = look_tries h n (vain c h) v m w (looked h n) refl
-    (left ∙ look_part h n v)
-    (tries_wider AtNone (AtThis h) (vain c h) (vain c h) (λ k none. absurd none) (λ t z. z) m w x)
-brought c h (Some r) v m w (n, far, left) (e, ends, next) =
-    let z = look_asks c h n (job.Swap (the_handle h)) r v m w (looked h n) e refl far
-    (left ∙ look_part h n v) ends refl next in asked_pin c h r v w z.0 z.1 z.2
+brought c h None v m w (n, far, left) x = far_tries h (Brings h) v m w
+    (n, far, left ∙ look_part h n v) (tries_wider AtNone (AtThis h) (vain h) (vain h)
+    (λ k none. absurd none) (λ t z. z) m w x)
+brought c h (Some r) v m w (n, far, left) x =
+    let z = far_at_last c h (Brings h) r (AsksFor c (Brings h) r h) (λ u d y. y) v m w
+    (n, far, left ∙ look_part h n v) x in
+    let e = z.1 in record {
+      between = grown e.before v;
+      in_vain = (e.before, e.in_vain, refl);
+      ends_so = asked_pin c h r (grown e.before v) w e.last e.ends_so (brings_lack c h r _ e.last
+          e.ends_so.turned) (z.2 ∙ ap (λ (d : Part). grown d v) e.part
+          ∙ sym (grown_sum e.before e.last v));
+    }
+
+-- and they leave the pins as they are, whatever their outcome
+pub bring_leaves : (c : Config) (h : ℕ) (v w : View) (result : Result (Option Reply) NoMemory)
+    → IfOk result (λ o. TriesBy c AtNone (Brings h) o v w)
+    → OnErr result (StopsBy AtNone (Brings h) v w) → w.pins ≡ v.pins
+bring_leaves c h v w (Ok None) x y = ap (λ (z : View). z.pins) x.2
+bring_leaves c h v w (Ok (Some r)) x y = ap (λ (z : View). z.pins) x.2
+bring_leaves c h v w (Err e) x y =
+    ap (λ (z : View). z.pins) y.left ∙ ap (λ (z : View). z.pins) y.tries.2
 
 -- ---- the loop round the tries
 pub pin_again : (c : Config) (h : ℕ) (o : Option Reply) (v m w : View) → o ≡ None
     → PinsInVain c h v m → PinTries c h o m w → PinsInVain c h v w
-pin_again c h o v m w is x y = tries_then (AtThis h) (vain c h) v m w x
+pin_again c h o v m w is x y = tries_then (AtThis h) (vain h) v m w x
     (subst (λ (z : Option Reply). PinTries c h z m w) is y)
 
 pub pinned_at_last : (c : Config) (h : ℕ) (o : Option Reply) (r : Reply) (v m w : View)
     → o ≡ Some r → PinsInVain c h v m → PinTries c h o m w → PinsAtLast c h r v w
-pinned_at_last c h o r v m w is x y = record {
-  between = m;
-  in_vain = x;
-  ends_so = subst (λ (z : Option Reply). PinTries c h z m w) is y;
-}
+pinned_at_last c h o r v m w is x y =
+    let z : PinsAtLast c h r m w = subst (λ (q : Option Reply). PinTries c h q m w) is y in record {
+      between = z.between;
+      in_vain = tries_then (AtThis h) (vain h) v m z.between x z.in_vain;
+      ends_so = z.ends_so;
+    }
 
 pub vain_pins : (c : Config) (h : ℕ) (v w : View) → PinsInVain c h v w → w.pins ≡ v.pins
 vain_pins c h v w x = ap (λ (z : View). z.pins) x.2

@@ -1,8 +1,9 @@
 -- Worked calls and pins of a pass: what meets each definition, and what breaks one of its parts alone.
 use Rattle.std.proofs.Common.{◌≡◌, ℕ, ◌+◌, List, [], ◌∷◌, ◌++◌, length, length-append, None, Some}
-use Rattle.std.proofs.Common.{Ok, inl, refl, ap, ◌∙◌, lit<, arith, ⊎_elim}
+use Rattle.std.proofs.Common.{Ok, inl, inr, refl, ap, ◌∙◌, lit<, arith, ⊎_elim}
 use Rattle.std.proofs.lemmas.Bool.{eqb-false}
 use Rattle.cb_types.specs.declared.handle.Handle.{Handle}
+use Rattle.cb_types.specs.declared.job.Job.{Job}
 use Rattle.cb_types.specs.declared.job.Job.TheVariants as job
 use Rattle.cb_types.specs.declared.reply.Reply.TheVariants as answer
 use Rattle.cb_ptr.specs.Word.{state_number, state_of}
@@ -16,10 +17,12 @@ use Rattle.cb_rule.specs.Own.{IsAlone}
 use Rattle.cb_rule.specs.Steps.{IsNewest, blank, look_at, with_freed_seen, with_look, with_pin}
 use Rattle.cb_record.specs.Parts.{Part, grown, nothing_more, sum}
 use Rattle.cb_shared.specs.declared.answers.WriteAnswer.TheVariants as place
-use Rattle.cb_shared.specs.Calls.{IsInVain}
+use Rattle.cb_shared.specs.Calls.{AtThis, Brings, FoundFar, IsAnswerTo, IsInVain, IsUnanswered}
+use Rattle.cb_shared.specs.Calls.{again_in}
 use Rattle.cb_shared.specs.Reading.{looked, looked_freed}
 use Rattle.cb_shared.specs.Turning.{TurnAdds, with_own}
-use Rattle.cb_shared.proofs.Laws.{read_lacks}
+use Rattle.cb_shared.proofs.Laws.{read_lacks, so_far, vain_look}
+use Rattle.cb_lanes.proofs.AskedTurns.{brings_lack, each_brings}
 use Rattle.cb_lanes.specs.LineGoes.{Calls, Pins}
 use Rattle.cb_lanes.specs.Passing.{CallGives, IsPinnedOnce, PinEnds, PinGoes, PinTries, PinsAtLast}
 use Rattle.cb_lanes.specs.Passing.{goes_in}
@@ -196,25 +199,69 @@ ends_unread x = eqb-false 0 1 refl (ap (λ (v : View). length v.seen) x.4)
 ends_full : PinEnds two 1 answer.ScopeFull part part → ⊥
 ends_full x = x
 
-ends_refused : (d : Part) → TurnAdds two (job.Swap one) (Ok answer.Worn) (grown (looked 1 away) part) d
-    → PinEnds two 1 answer.Worn part (grown (sum (looked 1 away) d) part)
-ends_refused d adds = (
-  sum (looked 1 away) d,
-  record { word = away; later = d; away = refl; turned = (tt, adds); part = refl },
+-- a turn of each of the three jobs that bring it in, behind a look that found it far
+abbrev far : View
+far = with_look 1 away part
+
+brings : (j : Job) → Brings 1 j → (d : Part) → TurnAdds two j (Ok answer.Worn) far d
+    → PinEnds two 1 answer.Worn far (grown d far)
+brings j of d adds = (
+  d,
+  record { away = (refl, refl); turned = record { job = j; of = of; ends = (lacks d, adds) } },
   refl,
 )
+  where
+    lacks : (d : Part) → IsAnswerTo (again_in d.turns) j answer.Worn
+    lacks d = each_brings (λ (k : Job). IsAnswerTo (again_in d.turns) k answer.Worn) 1 j tt tt tt of
 
+ends_refused : (d : Part) → TurnAdds two (job.Fetch one) (Ok answer.Worn) far d
+    → PinEnds two 1 answer.Worn far (grown d far)
+ends_refused d adds = brings (job.Fetch one) (inr (inl refl)) d adds
+
+ends_unlanded : (d : Part) → TurnAdds two job.Land (Ok answer.Worn) far d
+    → PinEnds two 1 answer.Worn far (grown d far)
+ends_unlanded d adds = brings job.Land (inr (inr refl)) d adds
+
+ends_unswapped : (d : Part) → TurnAdds two (job.Swap one) (Ok answer.Worn) far d
+    → PinEnds two 1 answer.Worn far (grown d far)
+ends_unswapped d adds = brings (job.Swap one) (inl refl) d adds
+
+-- a fetch that handed out an order, or was told that the row is at hand, ends no pin
 ends_moving : (v w : View) → PinEnds two 1 answer.Moving v w → ⊥
-ends_moving v w (d, asks, is) = asks.turned.0
+ends_moving v w (d, asks, is) = brings_lack two 1 answer.Moving v d asks.turned
 
-ends_unlooked : PinEnds two 1 answer.Worn part part → ⊥
-ends_unlooked (d, asks, is) =
-    let none : 0 ≡ length (d.looks ++ []) = ap (λ (v : View). length v.looks) is in
-    let some : length d.looks ≡ length (asks.later.looks ++ look_at 1 asks.word ∷ []) =
-    ap (λ (e : Part). length e.looks) asks.part in
-    let total = length-append d.looks [] in
-    let last = length-append asks.later.looks (look_at 1 asks.word ∷ []) in
-    omega (arith, none, some, total, last)
+ends_fetched : (v w : View) → PinEnds two 1 (answer.Fetched (record { n = 2 }) 0) v w → ⊥
+ends_fetched v w (d, asks, is) =
+    brings_lack two 1 (answer.Fetched (record { n = 2 }) 0) v d asks.turned
+
+ends_direct : (v w : View) → PinEnds two 1 answer.Direct v w → ⊥
+ends_direct v w (d, asks, is) = brings_lack two 1 answer.Direct v d asks.turned
+
+-- it was not looked at
+ends_unlooked : (w : View) → PinEnds two 1 answer.Worn part w → ⊥
+ends_unlooked w (d, asks, is) = asks.away
+
+-- or was found being moved, or the newest look was at another object
+ends_found_moving : (w : View) → PinEnds two 1 answer.Worn (with_look 1 moving part) w → ⊥
+ends_found_moving w (d, asks, is) = eqb-false 3 1 refl (ap state_number asks.away.1)
+
+ends_elsewhere : (w : View) → PinEnds two 1 answer.Worn (with_look 0 away far) w → ⊥
+ends_elsewhere w (d, asks, is) = eqb-false 0 1 refl asks.away.0
+
+-- the turn was one of another object, or of another job
+not_for_1 : Brings 1 (job.Fetch (record { n = 0 })) → ⊥
+not_for_1 (inl e) = cc
+not_for_1 (inr (inl e)) = eqb-false 0 1 refl (ap fetched_one e)
+  where
+    fetched_one : Job → ℕ
+    fetched_one (job.Fetch handle) = handle.n
+    fetched_one j = 1
+not_for_1 (inr (inr e)) = cc
+
+not_by_a_read : Brings 1 (job.Read one) → ⊥
+not_by_a_read (inl e) = cc
+not_by_a_read (inr (inl e)) = cc
+not_by_a_read (inr (inr e)) = cc
 
 -- ---- a pin after a look that found its object being moved
 abbrev late : View
@@ -290,7 +337,29 @@ pin_goes = (lit< tt, at_last)
 
 -- ---- one try of a pin
 tries_and_pins : PinTries two 1 (Some (answer.Version 3)) part (taken calm 3 part)
-tries_and_pins = pinned
+tries_and_pins = record {
+  between = part;
+  in_vain = so_far (AtThis 1) (IsUnanswered (Brings 1)) part;
+  ends_so = pinned;
+}
+
+-- a look that found it far, and a turn that was told that its row can't be made
+tries_and_lacks : (d : Part) → TurnAdds two (job.Fetch one) (Ok answer.Worn) far d
+    → PinTries two 1 (Some answer.Worn) part (grown d far)
+tries_and_lacks d adds = record {
+  between = far;
+  in_vain = (looked 1 away, vain_look 1 away (IsUnanswered (Brings 1)), refl);
+  ends_so = ends_refused d adds;
+}
+
+-- and where nothing was looked at
+lacks_unlooked : PinTries two 1 (Some answer.Worn) part part → ⊥
+lacks_unlooked x = by x.between.looks (ap (λ (v : View). length v.looks) x.ends_so.2
+    ∙ length-append x.ends_so.0.looks x.between.looks) x.ends_so.1.away
+  where
+    by : (ls : List Look) → 0 ≡ length x.ends_so.0.looks + length ls → FoundFar 1 ls → ⊥
+    by [] e away = away
+    by (l ∷ ls) e away = omega (arith, e)
 
 pins_in_vain : PinTries two 1 None part (taken calm 3 part) → ⊥
 pins_in_vain (d, x, is) = eqb-false 1 0 refl (ap (λ (v : View). v.ever) is

@@ -1,28 +1,37 @@
 -- Worked lanes that found no memory: what meets each definition, and what breaks one of its parts
 -- alone.
-use Rattle.std.proofs.Common.{◌≡◌, ◌≢◌, ℕ, List, [], ◌∷◌, length, Option, None, Some, inl}
-use Rattle.std.proofs.Common.{inr, refl, sym, ap, ◌∙◌, subst}
+use Rattle.std.proofs.Common.{◌≡◌, ◌≢◌, ℕ, ◌<◌, List, [], ◌∷◌, ◌++◌, length, length-append, Option}
+use Rattle.std.proofs.Common.{None, Some, inl, inr, refl, sym, ap, ◌∙◌, subst, lit≤, arith}
 use Rattle.std.proofs.lemmas.Bool.{eqb-false}
 use Rattle.std.proofs.lemmas.List.{append-nil}
 use Rattle.cb_types.specs.declared.answer.Answer.{Answer}
 use Rattle.cb_types.specs.declared.request.Request.{Request}
-use Rattle.cb_types.specs.declared.request.Request.TheVariants.{Evict, Leave, Peek, Read}
+use Rattle.cb_types.specs.declared.job.Job.{Job}
+use Rattle.cb_types.specs.declared.job.Job.TheVariants as job
+use Rattle.cb_types.specs.declared.request.Request.TheVariants.{Evict, Leave, Peek, Pin, Read}
 use Rattle.cb_types.specs.declared.reply.Reply.{Reply}
 use Rattle.cb_types.specs.declared.reply.Reply.TheVariants as answer
 use Rattle.cb_script.specs.declared.script.Line.{Line}
+use Rattle.cb_ptr.specs.Word.{state_number, state_of}
+use Rattle.cb_world.specs.declared.entry.Entry.{Entry}
 use Rattle.cb_rule.specs.declared.turn.Turn.{Turn}
 use Rattle.cb_rule.specs.declared.view.View.{View}
 use Rattle.cb_rule.specs.Lists.{Each}
-use Rattle.cb_rule.specs.Steps.{blank, with_look}
-use Rattle.cb_record.specs.Deeds.{Deed, deed, happened}
+use Rattle.cb_rule.specs.Steps.{blank, look_at, with_look}
+use Rattle.cb_rule.specs.TriesAgain.{tries_again}
+use Rattle.cb_record.specs.Deeds.{Deed, deed, happened, happening}
+use Rattle.cb_record.specs.Parts.{Part, grown, nothing_more}
+use Rattle.cb_shared.specs.Calls.{AtNone, AtThis, Brings, IsAnswerTo, IsInVain, IsUnanswered}
+use Rattle.cb_shared.specs.Calls.{the_handle}
+use Rattle.cb_shared.proofs.Laws.{grown_nothing, so_far}
 use Rattle.cb_shared.specs.Joining.{unpinned_all}
 use Rattle.cb_shared.specs.Recalls.{Recalls}
 use Rattle.cb_lanes.specs.LaneStops.{AddsIdly, LaneStops, LinesStop}
 use Rattle.cb_lanes.specs.LineGoes.{Leaves, Peeks}
 use Rattle.cb_lanes.specs.Scoped.{AreOneToOne, IsMadeAs}
-use Rattle.cb_lanes.specs.Stopping.{AskStops, LineStops, stops_in}
+use Rattle.cb_lanes.specs.Stopping.{AskStops, BringsNot, LineStops, PinStops, stops_in}
 use Rattle.cb_lanes.proofs.LaneStopping.{lane_stops}
-use Rattle.cb_lanes.proofs.Stopping.{idle_next}
+use Rattle.cb_lanes.proofs.Stopping.{idle_line, idle_next}
 use Rattle.cb_lanes.proofs.WorkedBodies.{part}
 use Rattle.cb_lanes.proofs.WorkedPassing.{pinning, two}
 
@@ -106,6 +115,106 @@ an_object : (t : Turn) (d : Deed) → happened (deed t) ≡ d ∷ []
     → AddsIdly (blank two) (record (blank two) { turns = t ∷ [] }) → ⊥
 an_object t d made x = some_deed d [] (sym made ∙ a_turn_of_them t x.turns []
     (ap (λ (v : View). v.turns) x.grows ∙ append-nil x.turns) x.idle)
+
+-- ---- a pin whose object is far
+abbrev away : ℕ
+away = 65537
+
+abbrev far : View
+far = with_look 1 away (blank two)
+
+abbrev turned : Turn → Part
+turned t = record nothing_more { turns = t ∷ [] }
+
+-- a fetch found no memory
+no_memory : (t : Turn) → t.job ≡ job.Fetch (the_handle 1) → t.reply ≡ None
+    → BringsNot two 1 (blank two) (grown (turned t) far)
+no_memory t is none = record {
+  word = away;
+  away = refl;
+  lacks = record {
+    between = far;
+    last = turned t;
+    tries = so_far AtNone (IsUnanswered (Brings 1)) far;
+    lacks = record {
+      looks = [];
+      turns = t ∷ [];
+      at = tt;
+      of = ((inr (inl is), none), tt);
+      idle = ((λ i. happening (is i) (none i)), tt);
+      part = refl;
+    };
+    one = lit≤ tt;
+    left = refl;
+  };
+}
+
+-- or there was none for the row, behind a fetch that handed out its order
+no_memory_for_a_row : (t : Turn) → t.job ≡ job.Fetch (the_handle 1)
+    → t.reply ≡ Some (answer.Fetched (record { n = 3 }) 0)
+    → BringsNot two 1 (blank two) (grown (turned t) far)
+no_memory_for_a_row t is told = record {
+  word = away;
+  away = refl;
+  lacks = record {
+    between = grown (turned t) far;
+    last = nothing_more;
+    tries = (turned t, fetched, refl);
+    lacks = record { looks = []; turns = []; at = tt; of = tt; idle = tt; part = refl };
+    one = lit≤ tt;
+    left = grown_nothing (grown (turned t) far);
+  };
+}
+  where
+    fetched : IsInVain AtNone (IsUnanswered (Brings 1)) (turned t)
+    fetched = record {
+      looks = [];
+      turns = t ∷ [];
+      at = tt;
+      of = ((inr (inl is), (answer.Fetched (record { n = 3 }) 0, told, no_answer)), tt);
+      idle = ((λ i. happening (is i) (told i)), tt);
+      part = refl;
+    }
+      where
+        no_answer : IsAnswerTo (tries_again t) t.job (answer.Fetched (record { n = 3 }) 0) → ⊥
+        no_answer x = subst (λ (j : Job). IsAnswerTo (tries_again t) j
+            (answer.Fetched (record { n = 3 }) 0)) is x
+
+found_here : (w : View) → (x : BringsNot two 1 (blank two) w) → x.word ≡ 2684420098 → ⊥
+found_here w x is = eqb-false 1 2 refl
+    (ap state_number (sym x.away ∙ ap (λ (n : ℕ). state_of n) is))
+
+looks_more : (v w : View) → BringsNot two 1 v w → looks_in v < looks_in w
+looks_more v w x =
+    let y = x.lacks in
+    let first : looks_in w ≡ length (y.last.looks ++ y.between.looks) = ap looks_in y.left in
+    let then : looks_in y.between ≡ length (y.tries.0.looks ++ look_at 1 x.word ∷ v.looks) =
+    ap looks_in y.tries.2 in
+    let both = length-append y.last.looks y.between.looks in
+    let all = length-append y.tries.0.looks (look_at 1 x.word ∷ v.looks) in
+    omega (arith, first, then, both, all)
+
+unlooked : BringsNot two 1 (blank two) (blank two) → ⊥
+unlooked x = let less = looks_more (blank two) (blank two) x in omega (arith, less)
+
+-- behind looks and turns that came to nothing
+stops_a_pin : (t : Turn) → t.job ≡ job.Fetch (the_handle 1) → t.reply ≡ None
+    → PinStops two 1 (blank two) (grown (turned t) far)
+stops_a_pin t is none = record {
+  between = blank two;
+  in_vain = so_far (AtThis 1) (IsUnanswered (Brings 1)) (blank two);
+  lacks = no_memory t is none;
+}
+
+stops_without_a_look : PinStops two 1 (blank two) (blank two) → ⊥
+stops_without_a_look x = let less = looks_more x.between (blank two) x.lacks in omega (arith, less)
+
+-- behind an entry
+stops_behind_an_entry : (w : View) (e : Entry) → w.written ≡ e ∷ []
+    → PinStops two 1 (blank two) w → ⊥
+stops_behind_an_entry w e is x = one_zero (ap (λ (es : List Entry). length es)
+    (sym is ∙ ap (λ (v : View). v.written)
+    (idle_line two (Some 1) (Pin a) (blank two) w (inr x)).grows))
 
 -- ---- the line behind those that were answered
 abbrev lines : List Line

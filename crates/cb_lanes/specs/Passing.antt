@@ -18,8 +18,8 @@ use Rattle.cb_rule.specs.Seats.{pins_on}
 use Rattle.cb_rule.specs.Steps.{IsNewest, with_look, with_pin, without_pin}
 use Rattle.cb_record.specs.Parts.{Grows, Part}
 use Rattle.cb_shared.specs.declared.pass.Pin.{Pin}
-use Rattle.cb_shared.specs.Calls.{AsksFor, AtThis, IsUnanswered, ReadGives, TriesInVain, TurnGives}
-use Rattle.cb_shared.specs.Calls.{WriteAnswers, the_handle}
+use Rattle.cb_shared.specs.Calls.{AsksFor, AtThis, Brings, IsUnanswered, ReadGives, TriesInVain}
+use Rattle.cb_shared.specs.Calls.{TurnGives, WriteAnswers}
 use Rattle.cb_shared.specs.Joining.{unpinned_all}
 use Rattle.cb_shared.specs.Pinning.{FindsFreed}
 use Rattle.cb_shared.specs.Turning.{TurnBy}
@@ -43,16 +43,16 @@ pub record IsPinnedOnce (h version : ℕ) (v w : View) : Type 0 where
   pub left : w ≡ with_pin h word version words (with_look h word v)
 
 -- The last try of a pin: it takes the pin, or a look finds the object freed, or a turn can't bring
--- it in.
+-- in one that the newest look found far.
 abbrev pub PinEnds : Config → ℕ → Reply → View → View → Type 0
 PinEnds c h (answer.Version version) v w = IsPinnedOnce h version v w
 PinEnds c h answer.Freed v w = FindsFreed h v w
 PinEnds c h answer.ScopeFull v w = ⊥
-PinEnds c h r v w = (d : Part) × AsksFor c (job.Swap (the_handle h)) r h v d × Grows v d w
+PinEnds c h r v w = (d : Part) × AsksFor c (Brings h) r h v d × Grows v d w
 
 -- tries of a pin that came to nothing: turns that bring the object in, and looks at it
 abbrev pub PinsInVain : Config → ℕ → View → View → Type 0
-PinsInVain c h v w = TriesInVain (AtThis h) (IsUnanswered (job.Swap (the_handle h))) v w
+PinsInVain c h v w = TriesInVain (AtThis h) (IsUnanswered (Brings h)) v w
 
 -- tries that came to nothing, and then one that ends so
 pub record PinsAtLast (c : Config) (h : ℕ) (r : Reply) (v w : View) : Type 0 where
@@ -126,9 +126,9 @@ goes_in c (Peeks h) v r w = PeekGoes h v r w
 goes_in c (Unpins h) v r w = UnpinGoes h v r w
 goes_in c Leaves v r w = LeaveGoes v r w
 
--- ---- one try of a pin
+-- ---- one pin, and where the object is far turns that bring it in
 abbrev pub PinTries : Config → ℕ → Option Reply → View → View → Type 0
-PinTries c h (Some r) v w = PinEnds c h r v w
+PinTries c h (Some r) v w = PinsAtLast c h r v w
 PinTries c h None v w = PinsInVain c h v w
 
 -- ---- the pins that a lane keeps beside its pass

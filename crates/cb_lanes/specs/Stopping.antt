@@ -10,7 +10,7 @@ use Rattle.cb_types.specs.declared.reply.Reply.TheVariants as answer
 use Rattle.cb_types.specs.declared.request.Request.{Request}
 use Rattle.cb_rule.specs.declared.view.View.{View}
 use Rattle.cb_rule.specs.Steps.{with_look}
-use Rattle.cb_shared.specs.Calls.{ReadStops, TurnStops, WriteStops, the_handle}
+use Rattle.cb_shared.specs.Calls.{AtNone, Brings, ReadStops, StopsBy, TurnStops, WriteStops}
 use Rattle.cb_shared.specs.Turning.{TurnBy}
 use Rattle.cb_lanes.specs.LineGoes.{Ask, Calls, Goes, Leaves, LineGoes, ObjectGoes, Peeks, Pins}
 use Rattle.cb_lanes.specs.LineGoes.{Unpins}
@@ -20,11 +20,11 @@ use Rattle.cb_lanes.specs.Passing.{PinsInVain}
 abbrev pub TurnLacks : Config → Job → View → View → Type 0
 TurnLacks c j v w = (e : NoMemory) × TurnBy c j (Err e) v w
 
--- a look that found the object far, and a turn that was to bring it in and found no memory
+-- a look that found the object far, and turns that were to bring it in, where there was no memory
 pub record BringsNot (c : Config) (h : ℕ) (v w : View) : Type 0 where
   pub word : ℕ
   pub away : state_of word ≡ state.Far
-  pub lacks : TurnLacks c (job.Swap (the_handle h)) (with_look h word v) w
+  pub lacks : StopsBy AtNone (Brings h) (with_look h word v) w
 
 -- a pin: tries that came to nothing, and then one that ends so
 pub record PinStops (c : Config) (h : ℕ) (v w : View) : Type 0 where

@@ -1,17 +1,15 @@
 //! What a lane asks of the shared runtime with its pass: calls, pins, looks under a pin, and the
 //! ends of pins.
-ghost use Rattle.std.specs.Prelude.{◌≡◌, ◌<◌, ℕ, List, true, false, length, IfOk, OnErr};
-ghost use Rattle.cb_types.specs.declared.job.Job.TheVariants as jobs;
+ghost use Rattle.std.specs.Prelude.{◌≡◌, ◌<◌, ℕ, List, length, IfOk, OnErr};
 ghost use Rattle.cb_core.specs.Jobs.{IsJob, NeedsNoOrder};
 ghost use Rattle.cb_rule.specs.Lists.{Has};
 ghost use Rattle.cb_rule.specs.Steps.{IsNewest, Knows};
-ghost use Rattle.cb_shared.specs.Calls.{IsLack, TurnTries, the_handle};
 ghost use Rattle.cb_shared.specs.Joining.{unpinned_all};
 ghost use Rattle.cb_shared.specs.Passes.{IsPassOf, IsPinOf, record_of, stand_of};
 ghost use Rattle.cb_shared.specs.Turning.{KnowsOf};
 ghost use Rattle.cb_lanes.specs.Passing.{AreHeld, CallGives, PeekGoes, PeeksAll, PinGoes, PinTries};
 ghost use Rattle.cb_lanes.specs.Passing.{PinsAtLast, UnpinGoes};
-ghost use Rattle.cb_lanes.specs.Stopping.{BringsNot, CallStops, PinStops, TurnLacks};
+ghost use Rattle.cb_lanes.specs.Stopping.{BringsNot, CallStops, PinStops};
 
 use crate::kept_pins::{KeptPins, MOST_PINS, keep_pin, newest_pin};
 use cb_shared::{Pass, Patience, Pin, PinAnswer, Shared};
@@ -52,8 +50,9 @@ pub(crate) fn call<R: Wait>(
 
 /// Pins an object that the pass knows: Version with the version that the pin keeps; ScopeFull where
 /// the lane has as many pins as it may have; Freed where it was freed. A far object is brought in
-/// by a turn of the job Swap; where that can't be, the answer is why: Unavailable, NoRoom, or Worn
-/// by the count of turns. Tries again where the object is being moved or written, has as many pins
+/// as `Shared::bring` says: where its row is lost that row is made outside of the far lock. Where
+/// it can't be brought in, the answer is why: Unavailable, NoRoom, or Worn by the count of turns.
+/// Tries again where the object is being moved or written, has as many pins
 /// as its word can count, or another pass came first, and where too few spans were loose but there
 /// are so many frames that more may come. Waits.
 pub(crate) fn pin<R: Wait>(
@@ -109,8 +108,8 @@ fn pin_at_last<R: Wait>(
     unreachable!()
 }
 
-/// One pin, or a turn that brings the object in; None where neither answers the line, after a wait
-/// where others stand in its way.
+/// One pin, or turns that bring the object in; None where none of them answers the line, after a
+/// wait where others stand in its way.
 fn try_pin<R: Wait>(
     rt: &R,
     alloc: Global,
@@ -139,52 +138,11 @@ fn try_pin<R: Wait>(
         }
         PinAnswer::ScopeFull => unreachable!(),
         PinAnswer::Freed => Ok(Some(Reply::Freed)),
-        PinAnswer::NotHere => bring_in(rt, alloc, shared, pass, h, patience),
+        PinAnswer::NotHere => shared.bring(rt, alloc, pass, h, patience),
         PinAnswer::Moving | PinAnswer::Crowded | PinAnswer::Raced { .. } => {
             shared.wait(rt, patience);
             Ok(None)
         }
-    }
-}
-
-/// A turn that brings an object in; its reply where it tells why that can't be. It waits where
-/// others stand in its way, and not where the object is here now.
-fn bring_in<R: Wait>(
-    rt: &R,
-    alloc: Global,
-    shared: &Shared,
-    pass: &mut Pass,
-    h: Handle,
-    patience: &mut Patience,
-) -> Result<Option<Reply>, NoMemory>
-    requires of { IsPassOf shared.now pass.old }
-    requires handle { h.n < shared.now.config.handles }
-    ensures of { IsPassOf shared.now pass.new }
-    ensures pins { (record_of pass.new).pins ≡ (record_of pass.old).pins }
-    ensures turn { IfOk result (λ o. TurnTries shared.now.config (jobs.Swap h) o
-        (record_of pass.old) (record_of pass.new)) }
-    ensures error { OnErr result (TurnLacks shared.now.config (jobs.Swap h) (record_of pass.old)
-        (record_of pass.new)) }
-{
-    let reply = shared.turn_within(rt, alloc, pass, &Job::Swap { handle: h })?;
-    if is_lack(pass.again(), &reply) {
-        Ok(Some(reply))
-    } else {
-        shared.wait_behind(rt, &reply, patience);
-        Ok(None)
-    }
-}
-
-/// Whether the reply of a turn, which may be one that is made again, tells why an object can't be
-/// brought in.
-fn is_lack(again: bool, reply: &Reply) -> bool
-    ensures yes { result ≡ true → IsLack again reply.now }
-    ensures no { result ≡ false → IsLack again reply.now → ⊥ }
-{
-    match reply {
-        Reply::Unavailable { .. } | Reply::Worn => true,
-        Reply::NoRoom { .. } => !again,
-        _ => false,
     }
 }
 

@@ -1,7 +1,6 @@
 use Rattle.std.proofs.Common.{◌<◌, List, length, Some, sym, subst}
-use Rattle.cb_types.specs.declared.job.Job.TheVariants as jobs
 use Rattle.cb_rule.specs.declared.view.Stand.{Stand}
-use Rattle.cb_shared.specs.Calls.{AtThis, IsUnanswered, the_handle}
+use Rattle.cb_shared.specs.Calls.{AtThis, Brings, IsUnanswered}
 use Rattle.cb_shared.proofs.Laws.{known_still, so_far}
 use Rattle.cb_lanes.proofs.Stopping.{err_always}
 use Rattle.cb_lanes.proofs.Trying.{pin_again, pinned_at_last, vain_pins}
@@ -12,7 +11,7 @@ loop-init g c = (
   c.requires.of,
   c.requires.held,
   so_far (AtThis c.args.h.n)
-      (IsUnanswered (jobs.Swap (the_handle c.args.h.n)))
+      (IsUnanswered (Brings c.args.h.n))
       c.args.pass.now.seat.me.0,
 )
 
@@ -24,7 +23,7 @@ try_pin-requires-clause-held g c = c.loop.invariant.1
 
 pub try_pin-requires-clause-knows : goal.try_pin-requires-clause-knows
 try_pin-requires-clause-knows g c = known_still (AtThis c.args.h.n)
-    (IsUnanswered (jobs.Swap (the_handle c.args.h.n))) (Some c.args.h.n)
+    (IsUnanswered (Brings c.args.h.n)) (Some c.args.h.n)
     c.args.pass.now.seat.me.0
     c.loop.pass.seat.me.0 c.requires.knows c.loop.invariant.2
 

@@ -1,10 +1,11 @@
-use Rattle.std.proofs.Common.{arith}
+use Rattle.std.proofs.Common.{arith, ap, ◌∙◌}
 use Rattle.std.proofs.lemmas.Result.{IfOk-weaker}
+use Rattle.cb_rule.specs.declared.view.View.{View}
 use Rattle.cb_shared.proofs.Laws.{known_below}
-use Rattle.cb_lanes.proofs.PinsHeld.{held_count, held_more}
+use Rattle.cb_lanes.proofs.PinsHeld.{held_count, held_more, held_same}
 use Rattle.cb_lanes.proofs.Stopping.{brings_not}
-use Rattle.cb_lanes.proofs.Trying.{brought, is_hindered, pinned_once, was_far, was_freed}
-use Rattle.cb_lanes.proofs.Trying.{was_hindered, was_pinned}
+use Rattle.cb_lanes.proofs.Trying.{bring_leaves, brought, is_hindered, pinned_once, was_far}
+use Rattle.cb_lanes.proofs.Trying.{was_freed, was_hindered, was_pinned}
 use Rattle.cb_lanes.proofs.asks.try_pin.Goals as goal
 
 pub keep_pin-requires : goal.keep_pin-requires
@@ -19,24 +20,31 @@ returns-in-Pinned-clause-held g c = held_more c.args.pins.now.items c.keep_pin.n
     c.keep_pin.ensures.kept c.requires.held
 
 pub returns-in-Pinned-clause-pin : goal.returns-in-Pinned-clause-pin
-returns-in-Pinned-clause-pin g c = pinned_once c.args.h.n c.in-Pinned.pin _ _ _
+returns-in-Pinned-clause-pin g c = pinned_once c.args.shared.now.config c.args.h.n c.in-Pinned.pin _ _ _
     c.version-version.ensures
     (was_pinned c.args.h.n c.pin.result c.in-Pinned.pin _ _ c.in-Pinned.is c.pin.ensures.pin)
 
-pub bring_in-requires-clause-handle : goal.bring_in-requires-clause-handle
-bring_in-requires-clause-handle g c = known_below c.args.shared.now.config c.args.h.n
+pub bring-requires-clause-handle : goal.bring-requires-clause-handle
+bring-requires-clause-handle g c = known_below c.args.shared.now.config c.args.h.n
     c.args.pass.now.seat.me.0 c.requires.of.rest c.requires.knows
 
 pub returns-in-NotHere-clause-pin : goal.returns-in-NotHere-clause-pin
-returns-in-NotHere-clause-pin g c = IfOk-weaker c.bring_in.result _ _
+returns-in-NotHere-clause-pin g c = IfOk-weaker c.bring.result _ _
     (λ o x. brought c.args.shared.now.config c.args.h.n o c.args.pass.now.seat.me.0
-    c.pin.new.pass.seat.me.0 c.bring_in.new.pass.seat.me.0
+    c.pin.new.pass.seat.me.0 c.bring.new.pass.seat.me.0
     (was_far c.args.h.n c.pin.result _ _ c.in-NotHere.is c.pin.ensures.pin) x)
-    c.bring_in.ensures.turn
+    c.bring.ensures.brings
+
+pub returns-in-NotHere-clause-held : goal.returns-in-NotHere-clause-held
+returns-in-NotHere-clause-held g c = held_same c.args.pins.now.items c.args.pass.now.seat.me.0
+    c.bring.new.pass.seat.me.0 (bring_leaves c.args.shared.now.config c.args.h.n
+    c.pin.new.pass.seat.me.0 c.bring.new.pass.seat.me.0 c.bring.result c.bring.ensures.brings
+    c.bring.ensures.error ∙ ap (λ (z : View). z.pins)
+    (was_far c.args.h.n c.pin.result _ _ c.in-NotHere.is c.pin.ensures.pin).2) c.requires.held
 
 pub returns-in-Freed-clause-pin : goal.returns-in-Freed-clause-pin
 returns-in-Freed-clause-pin g c =
-    was_freed c.args.h.n c.pin.result _ _ c.in-Freed.is c.pin.ensures.pin
+    was_freed c.args.shared.now.config c.args.h.n c.pin.result _ _ c.in-Freed.is c.pin.ensures.pin
 
 pub returns-in-Moving-clause-pin : goal.returns-in-Moving-clause-pin
 returns-in-Moving-clause-pin g c = was_hindered c.args.shared.now.config c.args.h.n c.pin.result
@@ -45,6 +53,6 @@ returns-in-Moving-clause-pin g c = was_hindered c.args.shared.now.config c.args.
 
 pub returns-in-NotHere-clause-error : goal.returns-in-NotHere-clause-error
 returns-in-NotHere-clause-error g c = brings_not c.args.shared.now.config c.args.h.n
-    c.args.pass.now.seat.me.0 c.pin.new.pass.seat.me.0 c.bring_in.new.pass.seat.me.0
-    c.bring_in.result (was_far c.args.h.n c.pin.result _ _ c.in-NotHere.is c.pin.ensures.pin)
-    c.bring_in.ensures.error
+    c.args.pass.now.seat.me.0 c.pin.new.pass.seat.me.0 c.bring.new.pass.seat.me.0
+    c.bring.result (was_far c.args.h.n c.pin.result _ _ c.in-NotHere.is c.pin.ensures.pin)
+    c.bring.ensures.error
