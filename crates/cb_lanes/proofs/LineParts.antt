@@ -39,7 +39,6 @@ use Rattle.cb_record.specs.Needs.Need.{AFreed}
 use Rattle.cb_record.specs.Needs.{FindsEmpty, IsFreedAs, IsReadAs, IsTurnFor, Meets, need_of}
 use Rattle.cb_record.specs.Needs.{own_job, peek_at}
 use Rattle.cb_record.specs.Parts.{Part, grown, nothing_more, sum}
-use Rattle.cb_record.specs.Told.{Told}
 use Rattle.cb_record.proofs.Laws.{backs_sum, grown-nothing_more, has_one_left, has_one_right}
 use Rattle.cb_shared.specs.Calls.{AnswersBy, AtThis, Brings, IsAnswer, IsAnswerTo, IsLack}
 use Rattle.cb_shared.specs.Calls.{ReadCallEnds}
