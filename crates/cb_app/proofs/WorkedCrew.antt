@@ -63,9 +63,10 @@ used_lanes = (refl, refl)
 abbrev one_each : Job → ℕ
 one_each j = job_index j
 
--- the filter's jobs have the index 5, those of a batch 7 to 10, of a pair 11 to 14, a rebuild 16
+-- the filter's jobs have the index 5, those of a batch 19, 20 and 8 to 10, of a pair 11 to 14, a
+-- rebuild 16
 by_worker : (turns_by worker.Filter one_each ≡ job_index (visit 0))
-    × (turns_by worker.Evict one_each ≡ 7 + 8 + 9 + 10)
+    × (turns_by worker.Evict one_each ≡ 19 + 20 + 8 + 9 + 10)
     × (turns_by worker.Compact one_each ≡ 11 + 12 + 13 + 14)
     × (turns_by worker.Rebuild one_each ≡ 16)
 by_worker = (refl, refl, refl, refl)
