@@ -27,7 +27,7 @@ use Rattle.cb_evict.specs.EvictRule.{EvictRule, HasBoth, HasFewNodes, HasFewSpan
 use Rattle.cb_filter.specs.FilterRule.{EmptyToFilter, FilterAs, FilterHere, FilterRule}
 use Rattle.cb_swapin.specs.declared.fetching.Fetching.{Fetching}
 use Rattle.cb_swapin.specs.declared.fetching.Fetching.TheVariants.{Answer, Order}
-use Rattle.cb_swapin.specs.FetchStep.{FetchFar, fetching_reply, unfetched_answer}
+use Rattle.cb_swapin.specs.FetchStep.{FetchFar, fetching_reply}
 use Rattle.cb_swapin.specs.LandRule.{LandRule}
 use Rattle.cb_swapin.specs.SwapRule.{BringsRule}
 use Rattle.cb_swapin.proofs.Laws.{by_answer}

@@ -63,7 +63,7 @@ used_lanes = (refl, refl)
 abbrev one_each : Job → ℕ
 one_each j = job_index j
 
--- the filter's jobs have the index 5, those of a batch 8 to 10 and 19 and 20, of a pair 11 to 14, a
+-- the filter's jobs have the index 5, those of a batch 19, 20 and 8 to 10, of a pair 11 to 14, a
 -- rebuild 16
 by_worker : (turns_by worker.Filter one_each ≡ job_index (visit 0))
     × (turns_by worker.Evict one_each ≡ 19 + 20 + 8 + 9 + 10)

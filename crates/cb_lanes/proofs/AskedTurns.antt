@@ -6,7 +6,7 @@ use Rattle.cb_types.specs.declared.job.Job.TheVariants as job
 use Rattle.cb_types.specs.declared.reply.Reply.{Reply}
 use Rattle.cb_world.specs.declared.entry.Entry.{Entry}
 use Rattle.cb_mutate.specs.JobWrites.{TurnWrites}
-use Rattle.cb_record.specs.Deeds.{Deed, happening}
+use Rattle.cb_record.specs.Deeds.{happening}
 use Rattle.cb_record.specs.Parts.{Part}
 use Rattle.cb_rule.specs.declared.view.View.{View}
 use Rattle.cb_shared.specs.Calls.{AnswersBy, AsksFor, Brings, IsAnswer, IsLack, IsReadJob}

@@ -42,6 +42,7 @@ pub mod LossOrder
 pub mod WorkedGoes
 mod AskedTurns
 mod Backing
+mod BringsBack
 pub mod LineParts
 pub mod LinesBack
 pub mod PinsRead

@@ -1,5 +1,5 @@
 -- What a line adds to the record of its pass, and that it backs the line's answer.
-use Rattle.std.proofs.Common.{◌≡◌, ◌⊎◌, ℕ, zero, suc, ◌<◌, ◌≤◌, Bool, false, List, [], ◌∷◌, ◌++◌}
+use Rattle.std.proofs.Common.{◌≡◌, ◌⊎◌, ℕ, zero, suc, ◌<◌, ◌≤◌, false, List, [], ◌∷◌, ◌++◌}
 use Rattle.std.proofs.Common.{length, Option, None, Some, Ok, inl, inr, sym, refl, ap, ◌∙◌, subst, arith, ◌+◌}
 use Rattle.std.specs.Prelude.{MatchOption}
 use Rattle.std.proofs.lemmas.Bool.{cases_lt}
@@ -36,16 +36,13 @@ use Rattle.cb_record.specs.Backs.{Backs, EntersAt, happened_at, pins_at, turn_at
 use Rattle.cb_record.specs.Deeds.{Deed, deed, happened, happening}
 use Rattle.cb_record.specs.Lists.{HasOne, IsSublist, beside, both, ended}
 use Rattle.cb_record.specs.Needs.Need.{AFreed}
-use Rattle.cb_record.specs.Needs.{FindsEmpty, IsFreedAs, IsReadAs, IsTurnFor, Meets, need_of}
+use Rattle.cb_record.specs.Needs.{FindsEmpty, IsFreedAs, IsReadAs, Meets, need_of}
 use Rattle.cb_record.specs.Needs.{own_job, peek_at}
 use Rattle.cb_record.specs.Parts.{Part, grown, nothing_more, sum}
-use Rattle.cb_record.specs.Told.{Told}
 use Rattle.cb_record.proofs.Laws.{backs_sum, grown-nothing_more, has_one_left, has_one_right}
-use Rattle.cb_shared.specs.Calls.{AnswersBy, AtThis, Brings, IsAnswer, IsAnswerTo, IsLack}
-use Rattle.cb_shared.specs.Calls.{ReadCallEnds}
-use Rattle.cb_shared.specs.Calls.{ReadGives, again_in}
-use Rattle.cb_shared.specs.Calls.{ReadsInPlace, TurnGives, WriteAnswers, WriteCallEnds, WriteFinds}
-use Rattle.cb_shared.specs.Calls.{SaysAs, the_handle, worn_once, written_once}
+use Rattle.cb_shared.specs.Calls.{AtThis, IsAnswer, IsAnswerTo, ReadCallEnds, ReadGives}
+use Rattle.cb_shared.specs.Calls.{ReadsInPlace, SaysAs, TurnGives, WriteAnswers, WriteCallEnds}
+use Rattle.cb_shared.specs.Calls.{WriteFinds, again_in, the_handle, worn_once, written_once}
 use Rattle.cb_shared.specs.declared.answers.WriteAnswer.{WriteAnswer}
 use Rattle.cb_shared.specs.declared.answers.WriteAnswer.TheVariants as place
 use Rattle.cb_shared.specs.declared.reading.ReadAnswer.TheVariants as found
@@ -57,10 +54,11 @@ use Rattle.cb_lanes.specs.Names.{IsOnObject}
 use Rattle.cb_lanes.specs.LineGoes.{CallGoes, LineGoes, job_of}
 use Rattle.cb_lanes.specs.Passing.{CallGives, IsNewestPin, IsNotPinned, LeaveGoes, PeekGoes}
 use Rattle.cb_lanes.specs.Passing.{PinEnds, PinGoes, PinsAtLast, UnpinGoes, goes_in, peeks_of}
-use Rattle.cb_lanes.proofs.AskedTurns.{OwnOrLack, brings_idly, brings_lack, brings_none, read_own}
-use Rattle.cb_lanes.proofs.AskedTurns.{write_own}
+use Rattle.cb_lanes.proofs.AskedTurns.{OwnOrLack, read_own, write_own}
 use Rattle.cb_lanes.proofs.Backing.{vain_backs, ends_back, IsByTurn}
-use Rattle.cb_lanes.proofs.Backing.{IsLast, is_last, turn_backs, its_bringing, its_turn, still_backs}
+use Rattle.cb_lanes.proofs.Backing.{IsLast, is_last, turn_backs, its_turn, still_backs}
+use Rattle.cb_lanes.proofs.BringsBack.{bring_backs, pin_by_bringing, read_by_bringing}
+use Rattle.cb_lanes.proofs.BringsBack.{write_by_bringing}
 use Rattle.cb_lanes.proofs.LineReplies.{filter_reply, line_reply}
 pub use Rattle.cb_lanes.proofs.Backing.{Adds, adds_by, adds_grown, adds_pins, adds_none, adds_sum}
 pub use Rattle.cb_lanes.proofs.Backing.{adds_knows, one_backs, told_as, LineAdds}
@@ -252,108 +250,6 @@ unmade_line q v w r is same on = (
     by (Unpin name) on = still_backs None (Unpin name) _ refl tt refl refl refl
     by (Filter name) on = still_backs None (Filter name) _ refl tt refl refl refl
     by q on = absurd on
-
--- ---- a turn that can't bring the object of a line in
--- what a line needs of such a turn
-record IsByBringing (h : ℕ) (q : Request) : Type 0 where
-  pub enters : (again : Bool) (r : Reply) → IsLack again r → EntersAt (Some h) q r []
-  pub turned : (r : Reply) → turn_at (Some h) q r ≡ []
-  pub happens : (r : Reply) → happened_at q r ≡ []
-  pub no_pin : (again : Bool) (r : Reply) → IsLack again r → pins_at q r ≡ 0
-  pub needs : (d : Part) (r : Reply) (again : Bool) → IsLack again r
-      → HasOne (IsTurnFor (own_job (Some h) q) (Some h) r) d.turns → Meets d (need_of (Some h) q r)
-
--- it is one for the line, which is not made again
-lack_last : (c : Config) (j : Job) (r : Reply) (v : View) (d : Part) → IsLack (again_in d.turns) r
-    → (x : TurnAdds c j (Ok r) v d) → IsLast x.turn r
-lack_last c j (answer.Unavailable s l) v d lack x = refl
-lack_last c j (answer.NoRoom f l n) v d lack x = is_last c j (answer.NoRoom f l n) v d x lack
-lack_last c j answer.Worn v d lack x = refl
-lack_last c j r v d lack x = absurd lack
-
-bring_backs : (c : Config) (h : ℕ) (q : Request) (r : Reply) (v : View) (d : Part) → IsByBringing h q
-    → AnswersBy c (Brings h) r v d → Backs d (told_as (Some h) q r ∷ [])
-bring_backs c h q r v d by x = turn_backs c x.job (Some h) q r v d t (record {
-  enters = λ es wrote. subst (EntersAt (Some h) q r) (sym (brings_none h x.job r es x.of wrote))
-      (by.enters (again_in d.turns) r lack);
-  no_pin = by.no_pin (again_in d.turns) r lack;
-  turned = subst (λ (l : List Deed). IsSublist l (record { job = x.job; reply = Some r } ∷ []))
-      (sym (by.turned r)) (beside [] _ [] ended);
-  happens = brings_idly h x.job r x.of ∙ sym (by.happens r);
-}) (by.needs (turn_part t.turn t.more t.within t.later) r (again_in d.turns) lack
-    (its_bringing c (own_job (Some h) q) h x.job r v d x.of t (lack_last c x.job r v d lack t)))
-  where
-    t : TurnAdds c x.job (Ok r) v d
-    t = x.ends.1
-
-    lack : IsLack (again_in d.turns) r
-    lack = brings_lack c h r v d x
-
-read_by_bringing : (h : ℕ) (name : List ℕ) → IsByBringing h (Read name)
-read_by_bringing h name = record {
-  enters = λ again r lack. refl;
-  turned = λ r. refl;
-  happens = λ r. refl;
-  no_pin = no_pin;
-  needs = needs;
-}
-  where
-    no_pin : (again : Bool) (r : Reply) → IsLack again r → pins_at (Read name) r ≡ 0
-    no_pin again (answer.Bytes version bytes) lack = absurd lack
-    no_pin again r lack = refl
-
-    needs : (d : Part) (r : Reply) (again : Bool) → IsLack again r
-        → HasOne (IsTurnFor (own_job (Some h) (Read name)) (Some h) r) d.turns
-        → Meets d (need_of (Some h) (Read name) r)
-    needs d (answer.Unavailable s l) again lack one = one
-    needs d (answer.NoRoom f l n) again lack one = one
-    needs d answer.Worn again lack one = one
-    needs d r again lack one = absurd lack
-
-pin_by_bringing : (h : ℕ) (name : List ℕ) → IsByBringing h (Pin name)
-pin_by_bringing h name = record {
-  enters = λ again r lack. refl;
-  turned = λ r. refl;
-  happens = λ r. refl;
-  no_pin = no_pin;
-  needs = needs;
-}
-  where
-    no_pin : (again : Bool) (r : Reply) → IsLack again r → pins_at (Pin name) r ≡ 0
-    no_pin again (answer.Version version) lack = absurd lack
-    no_pin again r lack = refl
-
-    needs : (d : Part) (r : Reply) (again : Bool) → IsLack again r
-        → HasOne (IsTurnFor (own_job (Some h) (Pin name)) (Some h) r) d.turns
-        → Meets d (need_of (Some h) (Pin name) r)
-    needs d (answer.Unavailable s l) again lack one = one
-    needs d (answer.NoRoom f l n) again lack one = one
-    needs d answer.Worn again lack one = one
-    needs d r again lack one = absurd lack
-
-write_by_bringing : (h at : ℕ) (name bytes : List ℕ) → IsByBringing h (Write name at bytes)
-write_by_bringing h at name bytes = record {
-  enters = enters;
-  turned = λ r. refl;
-  happens = λ r. refl;
-  no_pin = λ again r lack. refl;
-  needs = needs;
-}
-  where
-    enters : (again : Bool) (r : Reply) → IsLack again r
-        → EntersAt (Some h) (Write name at bytes) r []
-    enters again (answer.Unavailable s l) lack = refl
-    enters again (answer.NoRoom f l n) lack = refl
-    enters again answer.Worn lack = refl
-    enters again r lack = absurd lack
-
-    needs : (d : Part) (r : Reply) (again : Bool) → IsLack again r
-        → HasOne (IsTurnFor (own_job (Some h) (Write name at bytes)) (Some h) r) d.turns
-        → Meets d (need_of (Some h) (Write name at bytes) r)
-    needs d (answer.Unavailable s l) again lack one = one
-    needs d (answer.NoRoom f l n) again lack one = one
-    needs d answer.Worn again lack one = inr one
-    needs d r again lack one = absurd lack
 
 -- ---- a look that found the object freed
 freed_backs : (h : ℕ) (q : Request) (version word : ℕ) → EntersAt (Some h) q answer.Freed []

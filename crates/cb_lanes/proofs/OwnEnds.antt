@@ -1,14 +1,13 @@
 -- A write that is refused by the word of its object found that word, by a look or in its turn.
 use Rattle.std.proofs.Common.{◌≡◌, ◌≢◌, ℕ, zero, suc, ◌+◌, ◌-◌, ◌^◌, ◌==◌, ◌<◌, ◌≤◌, nat_lt}
 use Rattle.std.proofs.Common.{if◌then◌else◌, Bool, true, false, List, [], ◌∷◌, ◌++◌, length, Ok}
-use Rattle.std.proofs.Common.{Option, None, Some, refl, sym, ap, ◌∙◌, subst, inl, inr}
+use Rattle.std.proofs.Common.{None, Some, refl, sym, ap, ◌∙◌, subst, inl, inr}
 use Rattle.std.proofs.lemmas.Bool.{ltb-true}
 use Rattle.std.proofs.lemmas.Option.{same_Some, none-some}
 use Rattle.cb_ptr.specs.declared.word.State.{State}
 use Rattle.cb_ptr.specs.declared.word.State.TheVariants as state
 use Rattle.cb_ptr.specs.Word.{len_of, pins_of, state_of}
 use Rattle.cb_types.specs.declared.config.Config.{Config}
-use Rattle.cb_types.specs.declared.job.Job.{Job}
 use Rattle.cb_types.specs.declared.job.Job.TheVariants as job
 use Rattle.cb_types.specs.declared.reply.Reply.{Reply}
 use Rattle.cb_types.specs.declared.reply.Reply.TheVariants as answer
@@ -39,7 +38,7 @@ use Rattle.cb_shared.specs.Calls.{IsLack, SaysAs, WriteAnswers, WriteCallEnds, W
 use Rattle.cb_shared.specs.Calls.{the_handle}
 use Rattle.cb_lanes.proofs.AskedTurns.{OwnOrLack, brings_lack, write_own}
 use Rattle.cb_shared.proofs.Laws.{asked_alone}
-use Rattle.cb_shared.specs.Turning.{DidAs, ReadsByPin, Slate, TurnAdds, held_by, slate_run}
+use Rattle.cb_shared.specs.Turning.{ReadsByPin, Slate, TurnAdds, held_by, slate_run}
 use Rattle.cb_shared.specs.Turning.{slate_shows}
 
 abbrev Hold : Type 0

@@ -1,5 +1,5 @@
 -- What a call tells of an object that is its pass's own, from what its last try tells.
-use Rattle.std.proofs.Common.{ℕ, Bool, List, [], ◌∷◌, Ok, inl, inr, sym, subst}
+use Rattle.std.proofs.Common.{ℕ, Bool, List, Ok, inl, inr, sym, subst}
 use Rattle.cb_types.specs.declared.config.Config.{Config}
 use Rattle.cb_types.specs.declared.job.Job.{Job}
 use Rattle.cb_types.specs.declared.job.Job.TheVariants as job
