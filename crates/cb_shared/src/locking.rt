@@ -12,9 +12,10 @@ use std::marker::Brand;
 use std::sync::Wait;
 use std::{hint, mem};
 
-/// How often a pass looks at the lock before it sleeps until the lock is given back. A short turn
-/// is over by then; a pass that waits for a long one leaves its processor to the others.
-const SPINS: u32 = 100;
+/// How often a pass looks at the lock before it sleeps until the lock is given back: some tens of
+/// microseconds, in which a few turns are over that bring a span in. To sleep and to be woken takes
+/// longer than one of these; a pass that waits for a long turn leaves its processor to the others.
+const SPINS: u32 = 4000;
 
 /// Waits until the far lock is free, and takes it with the far state.
 pub(crate) fn lock_far<R: Wait>(rt: &R, top: &Top, seat: &mut SeatAt, config: &Config) -> BoxedFar
