@@ -119,10 +119,9 @@ module _ (old now : NodesState) (to : Shard) (factors : List ℕ) (a b : List Sh
         let next : suc n ≡ n + 1 = omega arith in
         ap (λ (m : ℕ). length (added m)) next ∙ ap length (patched_more factors wa wb row taken n
         before)
-        ∙ delta_length (get_or factors (get_or taken n 0) 0) (4096 * can.pages) (added n) (row_at wa (get_or taken n
-        0))
-        (row_at wb (get_or taken n 0)) (wide n (omega (arith, l))) (can.a_rows n before).wide
-        (can.b_rows n before).wide
+        ∙ delta_length (get_or factors (get_or taken n 0) 0) (4096 * can.pages) (added n)
+        (row_at wa (get_or taken n 0)) (row_at wb (get_or taken n 0))
+        (wide n (omega (arith, l))) (can.a_rows n before).wide (can.b_rows n before).wide
 
     pub own_known : known_row now to.node to.key ≡ added i
     own_known = row_known now to.node to.key (added i) own_row

@@ -58,7 +58,8 @@ parted_stays c far pair = stays_like c 1 far (with_parted far pair) (omega arith
 })
 
 stepped_stays : (c : Config) (far : FarState) (pair : JoiningState) (p : ℕ) (shard : Shard)
-    (row : List ℕ) → PairHasCode far (with_step pair p shard) → StaysIf c 1 far (with_stepped far pair p shard row)
+    (row : List ℕ) → PairHasCode far (with_step pair p shard)
+    → StaysIf c 1 far (with_stepped far pair p shard row)
 stepped_stays c far pair p shard row of_code is = record {
   configured = record {
     frames = is.frames;

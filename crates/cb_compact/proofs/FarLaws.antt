@@ -13,9 +13,9 @@ use Rattle.cb_world.proofs.Laws.{StaysIfBy}
 use Rattle.cb_compact.proofs.CompactKeeps.{JoinKeeps, LeavesLocal}
 
 -- Of a step whose numbers rise by at most so many, which does so to what is noted of a search for a
--- pair, and which such a line does. What is configured stays; the world stays sound, and `now` of every handle is as before; local memory stays; a sound
--- far state has one reply and leads to one far state; and the reply is one of the line's, and never
--- that there is no frame.
+-- pair, and which such a line does. What is configured stays; the world stays sound, and `now` of
+-- every handle is as before; local memory stays; a sound far state has one reply and leads to one
+-- far state; and the reply is one of the line's, and never that there is no frame.
 pub record AreFarLaws (N : FarState → FarState → Type 0) (most : ℕ) (line : Request)
     (step : FarState → FarState → Reply → Type 0) : Type 0 where
   pub stays : (c : Config) (s : Shown) (far new : FarState) (r : Reply) → Sound s far

@@ -43,7 +43,8 @@ pub record TookOne (far new : FarState) (p : ℕ) : Type 0 where
   pub fresh : IsFreshPair far pair a b
   pub step : IsOneStep far pair a b new (answer.Stepped p)
 
-pub took_one : (far new : FarState) (p : ℕ) → PatchStep far new (answer.Stepped p) → TookOne far new p
+pub took_one : (far new : FarState) (p : ℕ) → PatchStep far new (answer.Stepped p)
+    → TookOne far new p
 took_one far new p (inl x) = absurd (other x.reply)
   where
     other : answer.Stepped p ≡ answer.NoJoin → ⊥
@@ -435,7 +436,8 @@ through_stays c s far new r sound x is =
     let keys_first = ap (λ (z : CountsState). z.keys) counts in
     let sets_then = p.sets in let sets_last = q.sets in let keys_last = q.keys in
     let all = counted_both x.begun x.stepped new p.counted q.counted in
-    let begun = (begin_laws.stays c s far x.begun (answer.Pair x.a x.b) sound x.paired is).configured in
+    let begun =
+    (begin_laws.stays c s far x.begun (answer.Pair x.a x.b) sound x.paired is).configured in
     let turns = all.turns ∙ ap (λ (z : CountsState). z.turns) counts in
     let by_job = all.by_job ∙ ap (λ (z : CountsState). z.by_job) counts in
     let stepped = steps_configured c s x.begun x.stepped x.done k.sound x.steps begun in

@@ -109,7 +109,8 @@ module _ (nodes : NodesState) (pair : JoiningState) (k r e : ℕ) (to : Shard)
       (patched (row_at table e) wa wb (row_at wa (k + e)) pair.taken)) put
       ∙ later_row_stays nodes to.node to.key (row_at wa (k + e))
       (patched (row_at table e) wa wb (row_at wa (k + e)) pair.taken) within
-      ∙ ap (with_row nodes to.node to.key) (merged_parity pages k r table wa wb m pair.taken (record {
+      ∙ ap (with_row nodes to.node to.key)
+      (merged_parity pages k r table wa wb m pair.taken (record {
         range = code.range;
         coefficients = coeffs;
         a_word = x.a_word;

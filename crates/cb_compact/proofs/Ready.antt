@@ -157,11 +157,13 @@ module _ (s : Shown) (far : FarState) (pair : JoiningState) (a b : SetState) (p 
       ∙ undrawn_is_fresh far shard.node far.counts.keys x.sound.sound.rows (omega arith)
 
   pub ready_a : NoneNames pair.shards_a shard.node shard.key
-  ready_a q other at names = let l = joined.a_keys q other at in let e = names.1 in let k = key_is in
+  ready_a q other at names =
+      let l = joined.a_keys q other at in let e = names.1 in let k = key_is in
       omega (arith, l, e, k)
 
   pub ready_b : NoneNames pair.shards_b shard.node shard.key
-  ready_b q other at names = let l = joined.b_keys q other at in let e = names.1 in let k = key_is in
+  ready_b q other at names =
+      let l = joined.b_keys q other at in let e = names.1 in let k = key_is in
       omega (arith, l, e, k)
 
   together : (wa wb : List (List ℕ)) → IsWordOf far.nodes far.members a wa
@@ -192,7 +194,8 @@ module _ (s : Shown) (far : FarState) (pair : JoiningState) (a b : SetState) (p 
   puts_merged answer new puts = by answer puts
     where
       word : (m : List (List ℕ))
-          × IsMergedWord a.pages (length a.positions) (parities a) pair.taken a_worded.0 b_worded.0 m
+          × IsMergedWord a.pages (length a.positions) (parities a) pair.taken a_worded.0 b_worded.0
+          m
       word = let m = joined.word a b (fresh_is far pair a b x.fresh) in (
         m.0,
         word_merged far pair a b joined a_worded.0 b_worded.0 m.0 x.fresh a_worded.1.word

@@ -217,7 +217,8 @@ not_another_of_b x =
 abbrev beside : Shard
 beside = shard_beside ground (on_node 1)
 
-is_put : PutsMerged ground begun set_a set_b 1 beside Stored (with_row ground.nodes (node 1) 6 (row 0))
+is_put : PutsMerged ground begun set_a set_b 1 beside Stored
+    (with_row ground.nodes (node 1) 6 (row 0))
 is_put = (let h = holds_one 2 in omega (arith, h), row 0, row_of_b, refl)
 
 no_other_is_put : PutsMerged ground begun set_a set_b 1 beside Stored
@@ -249,7 +250,8 @@ full_puts_none : PutsMerged full begun set_a set_b 1 beside (Full 1)
 full_puts_none x = let e : 1 ≡ 0 = ap (λ (n : NodesState). n.given) x.1 in omega (arith, e)
 
 -- ---- the shard of the next step alone is ready
-not_of_a_later_position : (s : Shown) (shard : Shard) → IsReadyToPut s ground begun set_a set_b 2 shard → ⊥
+not_of_a_later_position : (s : Shown) (shard : Shard)
+    → IsReadyToPut s ground begun set_a set_b 2 shard → ⊥
 not_of_a_later_position s shard x = not_the_parity_yet x.next
 
 not_beside_another : (s : Shown)

@@ -248,7 +248,8 @@ first_filled = record {
 pub another_name : IsFilledBelow 3 1 [] set_a set_b 1 (set_of 2 1 [] (live_with 7 ∷ dead ∷ [])) → ⊥
 another_name x = let e = x.name in omega (arith, e)
 
-pub another_length : IsFilledBelow 2 4 [] set_a set_b 1 (set_of 2 1 [] (live_with 7 ∷ dead ∷ [])) → ⊥
+pub another_length : IsFilledBelow 2 4 [] set_a set_b 1 (set_of 2 1 [] (live_with 7 ∷ dead ∷ []))
+    → ⊥
 another_length x = let e : 1 ≡ 4 = x.long in omega (arith, e)
 
 pub no_such_shards : IsFilledBelow 2 1 (on_node 0 ∷ []) set_a set_b 1
@@ -263,7 +264,8 @@ pub second_not_filled : IsFilledBelow 2 1 [] set_a set_b 2
 second_not_filled x = false_is_true (ap (λ (q : PositionState). q.live) (x.filled 1 (omega arith)))
 
 -- ---- what a commit is answered, over any far state
-pub unfinished : (far : FarState) → IsUnfinished far begun set_a far (answer.Unfinished (1 ∷ 2 ∷ []))
+pub unfinished : (far : FarState)
+    → IsUnfinished far begun set_a far (answer.Unfinished (1 ∷ 2 ∷ []))
 unfinished far = record {
   position = 1;
   within = omega arith;

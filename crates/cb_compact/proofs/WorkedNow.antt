@@ -263,8 +263,8 @@ a_key_is_drawn x =
     let d = (was_first 2 1 x.0 x.1).drawn in omega (arith, e, d)
 
 -- no step is taken to a full node
-not_to_a_full_node : (p : ℕ) (rest : List ℕ) (new : FarState) → AreStepped (joining 1) (p ∷ rest) new
-    → ⊥
+not_to_a_full_node : (p : ℕ) (rest : List ℕ) (new : FarState)
+    → AreStepped (joining 1) (p ∷ rest) new → ⊥
 not_to_a_full_node p rest new x = let l = (was_first 1 p x.0 x.1).fits in omega (arith, l)
 
 -- ---- so where the first node is full, the turn does not keep the pair, and tells of no other node

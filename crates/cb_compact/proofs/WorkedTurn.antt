@@ -1,4 +1,5 @@
--- A worked turn that joins two sets: the pair begins, both of its steps are taken, and it is one set.
+-- A worked turn that joins two sets: the pair begins, both of its steps are taken, and it is one
+-- set.
 use Rattle.std.proofs.Common.{◌≡◌, ℕ, zero, suc, ◌<◌, false, List, [], ◌∷◌, refl, sym, ap, ◌∙◌, arith, inr, lit<, lit≤}
 use Rattle.std.proofs.lemmas.Option.{same_Some}
 use Rattle.std.specs.FinMap as map

@@ -11,4 +11,4 @@ pub mod Looking
 pub mod Rehoming
 pub mod Merging
 pub mod Stepping
-pub mod Begun
+pub mod Compaction

@@ -6,26 +6,16 @@ ghost use Rattle.cb_world.specs.FarSound.{AwaySound};
 ghost use Rattle.cb_world.specs.Pairs.{HoldsNoPair, with_no_pair};
 ghost use Rattle.cb_world.specs.Sets.{set_in};
 ghost use Rattle.cb_world.specs.Sound.{Sound};
-ghost use Rattle.cb_compact.specs.Begun.{reply_of};
+ghost use Rattle.cb_compact.specs.Compaction.{reply_of};
 ghost use Rattle.cb_compact.specs.PairStep.{IsFirstPair, NoneCanJoin, PairStep, begun_pair, live_positions, with_pair};
 
 use crate::candidates::{Match, find_pair};
+use crate::compaction::Compaction;
 use cb_member::Shard;
 use cb_set::SpanSet;
-use cb_types::{NoMemory, Reply, SetId};
+use cb_types::{NoMemory, Reply};
 use cb_world::{Desk, Far, Joining};
 use std::alloc::Global;
-
-/// What the begin of a pair ends in; sets by their numbers.
-#[derive(Clone, Copy)]
-pub enum Begun {
-    /// A pair is joining already.
-    Joining { a: u64, b: u64 },
-    /// No two sets can be joined.
-    NoPair,
-    /// These two are joining from here.
-    Pair { a: u64, b: u64 },
-}
 
 /// The live positions of a set, in order.
 fn live_positions(alloc: Global, set: &SpanSet) -> Result<Vec<u32>, NoMemory>
@@ -123,46 +113,31 @@ fn note_none(far: &mut Far)
     far.survey.no_pair = Some(far.counts.others());
 }
 
-/// Begins to join the first two sets that can be.
-pub fn begin(far: &mut Far) -> Result<Begun, NoMemory>
-    requires sound { (s : Shown) × Sound s far.old }
-    requires note { HoldsNoPair far.old }
-    ensures step { IfOk result (λ begun. PairStep far.old far.new (reply_of begun)) }
-    ensures error { OnErr result (far.new ≡ far.old) }
-    ensures sound { (s : Shown) → Sound s far.old → Sound s far.new }
-{
-    if let Some(pair) = &far.joining {
-        return Ok(Begun::Joining {
-            a: pair.a,
-            b: pair.b,
-        });
-    }
-    let Some(found) = look(far)? else {
-        note_none(far);
-        return Ok(Begun::NoPair);
-    };
-    let pair = new_pair(far, found.a.id, found.b.id)?;
-    put_pair(far, pair);
-    Ok(Begun::Pair {
-        a: found.a.id,
-        b: found.b.id,
-    })
-}
-
-/// What is answered.
-pub(crate) fn reply_of(begun: Begun) -> Reply
-    ensures { result ≡ reply_of begun }
-{
-    match begun {
-        Begun::Joining { a, b } => Reply::Joining {
-            a: SetId { n: a },
-            b: SetId { n: b },
-        },
-        Begun::NoPair => Reply::NoPair,
-        Begun::Pair { a, b } => Reply::Pair {
-            a: SetId { n: a },
-            b: SetId { n: b },
-        },
+impl Compaction {
+    /// Begins to join the first two sets that can be.
+    pub fn begin(far: &mut Far) -> Result<Compaction, NoMemory>
+        requires sound { (s : Shown) × Sound s far.old }
+        requires note { HoldsNoPair far.old }
+        ensures step { IfOk result (λ begun. PairStep far.old far.new (reply_of begun)) }
+        ensures error { OnErr result (far.new ≡ far.old) }
+        ensures sound { (s : Shown) → Sound s far.old → Sound s far.new }
+    {
+        if let Some(pair) = &far.joining {
+            return Ok(Compaction::Joining {
+                a: pair.a,
+                b: pair.b,
+            });
+        }
+        let Some(found) = look(far)? else {
+            note_none(far);
+            return Ok(Compaction::NoPair);
+        };
+        let pair = new_pair(far, found.a.id, found.b.id)?;
+        put_pair(far, pair);
+        Ok(Compaction::Pair {
+            a: found.a.id,
+            b: found.b.id,
+        })
     }
 }
 
@@ -187,6 +162,6 @@ pub fn compact_begin<D: Desk>(desk: &mut D, far: &mut Far) -> Result<Reply, NoMe
     ensures now { (s : Shown) (h : ℕ) → Sound s far.old → now s far.new h ≡ now s far.old h }
     ensures given { far.new.nodes.given ≡ far.old.nodes.given }
 {
-    let begun = begin(far)?;
-    Ok(reply_of(begun))
+    let begun = Compaction::begin(far)?;
+    Ok(begun.reply())
 }

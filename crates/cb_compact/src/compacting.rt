@@ -1,45 +1,20 @@
-ghost use Rattle.std.specs.Prelude.{◌≡◌, ℕ, ◌+◌, ◌^◌, ◌<◌, ◌≤◌, false, IfOk, OnErr, None, Some, length};
+ghost use Rattle.std.specs.Prelude.{◌≡◌, ℕ, ◌+◌, ◌^◌, ◌<◌, false, IfOk, OnErr, length};
 ghost use Rattle.cb_set.specs.SetState.{SetState};
-ghost use Rattle.cb_types.specs.declared.reply.Reply.TheVariants as answer;
 ghost use Rattle.cb_world.specs.declared.shown.Shown.{Shown};
 ghost use Rattle.cb_world.specs.Joining.{JoiningState};
 ghost use Rattle.cb_world.specs.Now.{now};
 ghost use Rattle.cb_world.specs.Pairs.{HoldsNoPair};
-ghost use Rattle.cb_world.specs.Reserved.{put_shards};
 ghost use Rattle.cb_world.specs.Sound.{Sound};
-ghost use Rattle.cb_world.specs.Stored.{AreThere};
 ghost use Rattle.cb_compact.specs.NowGoing.{EndsFrom, GoesTo, HasGone, IsUndone, TriesStep, without_pair};
 ghost use Rattle.cb_compact.specs.CompactStep.{CompactStep};
-ghost use Rattle.cb_compact.specs.PartStep.{IsFreshPair, with_parted};
+ghost use Rattle.cb_compact.specs.PartStep.{IsFreshPair};
 ghost use Rattle.cb_compact.specs.PatchStep.{is_undone};
 
-use crate::beginning::{Begun, begin};
-use crate::merging::merge;
-use crate::parting::{give_up, undo};
-use crate::stepping::{data_count, take_step};
-use crate::steps::is_undone;
+use crate::compaction::Compaction;
+use crate::stepping::take_step;
 use cb_member::NodeId;
 use cb_types::{NoMemory, Reply, SetId};
 use cb_world::{Desk, Far};
-
-/// How many positions the sets of the joining pair have.
-pub fn step_count(far: &Far) -> u32
-    requires { (pair : JoiningState) × (far.now.joining ≡ Some pair) × (length pair.steps ≤ 20) }
-    ensures { (pair : JoiningState) → far.now.joining ≡ Some pair → result ≡ length pair.steps }
-{
-    far.joining.as_ref().unwrap().steps.len() as u32
-}
-
-/// Whether the step of a position of the joining pair is still to be done.
-pub fn undone_at(far: &Far, position: u32) -> bool
-    requires fresh { (pair : JoiningState) × (a : SetState) × (b : SetState)
-        × IsFreshPair far.now pair a b × (position < length pair.steps) }
-    ensures { (pair : JoiningState) (a b : SetState) → IsFreshPair far.now pair a b
-        → result ≡ is_undone pair (length a.positions) position }
-{
-    let pair = far.joining.as_ref().unwrap();
-    is_undone(pair, data_count(far), position)
-}
 
 /// Takes the step of a position of the joining pair, if it is to be done; answers a's node there
 /// where it is full.
@@ -55,7 +30,7 @@ fn try_step(far: &mut Far, position: u32) -> Result<Option<NodeId>, NoMemory>
         → TriesStep far.old pair a b position far.new full) }
     ensures error { OnErr result (far.new ≡ far.old) }
 {
-    if !undone_at(far, position) {
+    if !Compaction::undone_at(far, position) {
         return Ok(None);
     }
     take_step(far, position)
@@ -71,24 +46,12 @@ fn take_steps(far: &mut Far) -> Result<Option<NodeId>, NoMemory>
     ensures gone { IfOk result (λ full. GoesTo far.old far.new full) }
     ensures error { OnErr result ((n : ℕ) × HasGone far.old far.new n) }
 {
-    for position in 0..step_count(far) {
+    for position in 0..Compaction::step_count(far) {
         if let Some(node) = try_step(far, position)? {
             return Ok(Some(node));
         }
     }
     Ok(None)
-}
-
-/// Gives the joining pair up for a node that is full, which is answered.
-pub fn stop_at(far: &mut Far, node: NodeId) -> Reply
-    requires there { (pair : JoiningState) × (far.old.joining ≡ Some pair)
-        × AreThere far.old.nodes (put_shards pair.steps) }
-    ensures parted { (pair : JoiningState) → far.old.joining ≡ Some pair
-        → far.new ≡ with_parted far.old pair }
-    ensures reply { result ≡ answer.NodeFull node }
-{
-    give_up(far);
-    Reply::NodeFull { node }
 }
 
 /// Takes all steps of the joining pair and makes one set of it; where a node is full, gives it up.
@@ -102,16 +65,12 @@ fn finish(far: &mut Far) -> Result<Reply, NoMemory>
     ensures error { OnErr result ((n : ℕ) × HasGone far.old far.new n) }
 {
     match take_steps(far)? {
-        Some(node) => Ok(stop_at(far, node)),
-        None => merge(far),
+        Some(node) => {
+            Compaction::give_up(far);
+            Ok(Reply::NodeFull { node })
+        }
+        None => Compaction::merge(far),
     }
-}
-
-/// The count of the keys that were drawn.
-pub fn drawn_keys(far: &Far) -> u64
-    ensures { result ≡ far.now.counts.keys }
-{
-    far.counts.keys
 }
 
 /// Goes through with a pair that has begun to join. Where there is no memory, the pair is given up
@@ -125,11 +84,11 @@ fn go_through(far: &mut Far) -> Result<Reply, NoMemory>
     ensures ends { IfOk result (λ reply. EndsFrom far.old far.new reply) }
     ensures error { OnErr result (far.new ≡ without_pair far.old) }
 {
-    let keys = drawn_keys(far);
+    let keys = Compaction::drawn_keys(far);
     match finish(far) {
         Ok(reply) => Ok(reply),
         Err(NoMemory) => {
-            undo(far, keys);
+            Compaction::undo(far, keys);
             Err(NoMemory)
         }
     }
@@ -157,12 +116,12 @@ pub fn compact_now<D: Desk>(desk: &mut D, far: &mut Far) -> Result<Reply, NoMemo
     ensures now { (s : Shown) (h : ℕ) → Sound s far.old → now s far.new h ≡ now s far.old h }
     ensures given { far.new.nodes.given ≡ far.old.nodes.given }
 {
-    match begin(far)? {
-        Begun::Joining { a, b } => Ok(Reply::Joining {
+    match Compaction::begin(far)? {
+        Compaction::Joining { a, b } => Ok(Reply::Joining {
             a: SetId { n: a },
             b: SetId { n: b },
         }),
-        Begun::NoPair => Ok(Reply::NoPair),
-        Begun::Pair { .. } => go_through(far),
+        Compaction::NoPair => Ok(Reply::NoPair),
+        Compaction::Pair { .. } => go_through(far),
     }
 }

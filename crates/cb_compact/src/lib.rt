@@ -5,6 +5,7 @@
 mod beginning;
 mod candidates;
 mod compacting;
+mod compaction;
 mod deltas;
 mod looking;
 mod merging;
@@ -16,13 +17,7 @@ mod tables;
 
 pub use beginning::compact_begin;
 pub use compacting::compact_now;
+pub use compaction::Compaction;
 pub use merging::compact_commit;
 pub use parting::compact_part;
 pub use stepping::compact_step;
-
-// What a compaction whose parities the compute side makes has in common with this one.
-pub use beginning::{Begun, begin};
-pub use compacting::{drawn_keys, step_count, stop_at, undone_at};
-pub use merging::merge;
-pub use parting::undo;
-pub use stepping::{data_count, new_shard, note_step, page_count, parity_count};

@@ -15,10 +15,10 @@ ghost use Rattle.cb_compact.specs.Merging.{AreSlotTables, IsFilledBelow, IsReady
 ghost use Rattle.cb_compact.specs.MergeStep.{IsMerged, MergeStep, Merges, merged_set, merged_shards, moved_count, replaced_shards};
 ghost use Rattle.cb_compact.specs.PatchStep.{undone};
 
+use crate::compaction::Compaction;
 use crate::looking::{Look, how_it_stands};
-use crate::parting::give_up;
 use crate::rehoming::rehome;
-use crate::stepping::{data_count, next_position};
+use crate::stepping::next_position;
 use crate::steps::undone_steps;
 use cb_member::Shard;
 use cb_node::Nodes;
@@ -274,23 +274,25 @@ fn next_set(far: &Far) -> u64
     far.counts.sets
 }
 
-/// Makes one set of the joining pair, whose steps are all done.
-pub fn merge(far: &mut Far) -> Result<Reply, NoMemory>
-    requires ready { (s : Shown) × (pair : JoiningState) × (a : SetState) × (b : SetState)
-        × IsReadyToMerge s far.old pair a b }
-    requires sets { far.old.counts.sets < 2 ^ 62 }
-    ensures merged { IfOk result (λ reply. (pair : JoiningState) (a b : SetState)
-        → IsFreshPair far.old pair a b → IsMerged far.old pair a b far.new reply) }
-    ensures error { OnErr result (far.new ≡ far.old) }
-{
-    let moved = moved(far);
-    let id = next_set(far);
-    keep_merged(far, id)?;
-    replace_sets(far, id);
-    Ok(Reply::Merged {
-        set: SetId { n: id },
-        moved,
-    })
+impl Compaction {
+    /// Makes one set of the joining pair, whose steps are all done.
+    pub fn merge(far: &mut Far) -> Result<Reply, NoMemory>
+        requires ready { (s : Shown) × (pair : JoiningState) × (a : SetState) × (b : SetState)
+            × IsReadyToMerge s far.old pair a b }
+        requires sets { far.old.counts.sets < 2 ^ 62 }
+        ensures merged { IfOk result (λ reply. (pair : JoiningState) (a b : SetState)
+            → IsFreshPair far.old pair a b → IsMerged far.old pair a b far.new reply) }
+        ensures error { OnErr result (far.new ≡ far.old) }
+    {
+        let moved = moved(far);
+        let id = next_set(far);
+        keep_merged(far, id)?;
+        replace_sets(far, id);
+        Ok(Reply::Merged {
+            set: SetId { n: id },
+            moved,
+        })
+    }
 }
 
 /// The positions of the joining pair whose steps are not done, in order. Takes no memory.
@@ -301,7 +303,7 @@ fn undone_positions(far: &Far) -> Positions
         → result ≡ undone pair (length a.positions) }
 {
     let pair = far.joining.as_ref().unwrap();
-    undone_steps(pair, data_count(far))
+    undone_steps(pair, Compaction::first_set(far).k())
 }
 
 /// Makes one set of the joining pair, whose sets stand as they did at the begin, if its steps
@@ -319,7 +321,7 @@ fn merge_on(far: &mut Far) -> Result<Reply, NoMemory>
         Some(_) => Ok(Reply::Unfinished {
             positions: undone_positions(far),
         }),
-        None => merge(far),
+        None => Compaction::merge(far),
     }
 }
 
@@ -346,7 +348,7 @@ pub fn compact_commit<D: Desk>(desk: &mut D, far: &mut Far) -> Result<Reply, NoM
     match how_it_stands(far) {
         Look::NoPair => Ok(Reply::NoJoin),
         Look::Changed { id } => {
-            give_up(far);
+            Compaction::give_up(far);
             Ok(Reply::Changed {
                 set: SetId { n: id },
             })

@@ -10,6 +10,7 @@ ghost use Rattle.cb_world.specs.Stored.{AreThere, all_dropped};
 ghost use Rattle.cb_compact.specs.NowGoing.{with_keys};
 ghost use Rattle.cb_compact.specs.PartStep.{PartStep, with_parted};
 
+use crate::compaction::Compaction;
 use cb_member::Shard;
 use cb_node::Nodes;
 use cb_types::{NoMemory, Reply};
@@ -31,19 +32,33 @@ pub fn compact_part<D: Desk>(desk: &mut D, far: &mut Far) -> Result<Reply, NoMem
     if far.joining.is_none() {
         return Ok(Reply::NoJoin);
     }
-    give_up(far);
+    Compaction::give_up(far);
     Ok(Reply::Done)
 }
 
-/// Gives the joining pair up, and drops its new rows. Takes no memory.
-pub(crate) fn give_up(far: &mut Far)
-    requires there { (pair : JoiningState) × (far.old.joining ≡ Some pair)
-        × AreThere far.old.nodes (put_shards pair.steps) }
-    ensures { (pair : JoiningState) → far.old.joining ≡ Some pair
-        → far.new ≡ with_parted far.old pair }
-{
-    if let Some(pair) = far.joining.take() {
-        drop_steps(&mut far.nodes, &pair.steps);
+impl Compaction {
+    /// Gives the joining pair up, and drops its new rows. Takes no memory.
+    pub fn give_up(far: &mut Far)
+        requires there { (pair : JoiningState) × (far.old.joining ≡ Some pair)
+            × AreThere far.old.nodes (put_shards pair.steps) }
+        ensures { (pair : JoiningState) → far.old.joining ≡ Some pair
+            → far.new ≡ with_parted far.old pair }
+    {
+        if let Some(pair) = far.joining.take() {
+            drop_steps(&mut far.nodes, &pair.steps);
+        }
+    }
+
+    /// Gives the joining pair up, and the keys back that were drawn for its rows since there were
+    /// so many. Takes no memory.
+    pub fn undo(far: &mut Far, keys: u64)
+        requires there { (pair : JoiningState) × (far.old.joining ≡ Some pair)
+            × AreThere far.old.nodes (put_shards pair.steps) }
+        ensures { (pair : JoiningState) → far.old.joining ≡ Some pair
+            → far.new ≡ with_keys (with_parted far.old pair) keys }
+    {
+        Compaction::give_up(far);
+        set_keys(far, keys);
     }
 }
 
@@ -52,17 +67,6 @@ fn set_keys(far: &mut Far, keys: u64)
     ensures { far.new ≡ with_keys far.old keys }
 {
     far.counts.keys = keys;
-}
-
-/// Gives the joining pair up, and the keys back that were drawn for its rows.
-pub fn undo(far: &mut Far, keys: u64)
-    requires there { (pair : JoiningState) × (far.old.joining ≡ Some pair)
-        × AreThere far.old.nodes (put_shards pair.steps) }
-    ensures { (pair : JoiningState) → far.old.joining ≡ Some pair
-        → far.new ≡ with_keys (with_parted far.old pair) keys }
-{
-    give_up(far);
-    set_keys(far, keys);
 }
 
 /// Drops the rows of the steps that were done.

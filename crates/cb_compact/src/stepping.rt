@@ -1,55 +1,24 @@
-ghost use Rattle.std.specs.Prelude.{◌≡◌, ℕ, ◌+◌, ◌^◌, ◌<◌, ◌≤◌, IfNone, IfOk, IfSome, OnErr, Some, length, slice_get};
+ghost use Rattle.std.specs.Prelude.{◌≡◌, ℕ, ◌+◌, ◌^◌, ◌<◌, ◌≤◌, IfNone, IfOk, IfSome, OnErr, length};
 ghost use Rattle.cb_member.specs.declared.names.Shard.{Shard};
-ghost use Rattle.cb_set.specs.SetState.{SetState, parities};
+ghost use Rattle.cb_set.specs.SetState.{SetState};
 ghost use Rattle.cb_world.specs.declared.shown.Shown.{Shown};
 ghost use Rattle.cb_world.specs.Joining.{JoiningState};
-ghost use Rattle.cb_world.specs.JoinSteps.{with_step};
 ghost use Rattle.cb_world.specs.Now.{now};
 ghost use Rattle.cb_world.specs.FarSound.{FarSound};
 ghost use Rattle.cb_world.specs.Sound.{Sound};
 ghost use Rattle.cb_compact.specs.PartStep.{IsFreshPair};
 ghost use Rattle.cb_compact.specs.Deltas.{IsReadyToPut, PutsMerged};
 ghost use Rattle.cb_compact.specs.Stepping.{TakesOne, step_reply};
-ghost use Rattle.cb_compact.specs.PatchStep.{AreDone, IsNext, PatchStep, TakesStep, shard_beside};
+ghost use Rattle.cb_compact.specs.PatchStep.{AreDone, IsNext, PatchStep, TakesStep};
 
+use crate::compaction::Compaction;
 use crate::deltas::put_merged;
 use crate::looking::{Look, how_it_stands};
-use crate::parting::give_up;
-use crate::steps::{next_step, set_step};
+use crate::steps::next_step;
 use cb_member::{NodeId, Shard};
 use cb_node::PutAnswer;
 use cb_types::{NoMemory, Reply, SetId};
 use cb_world::{Desk, Far};
-
-/// How many data positions the sets of the joining pair have.
-pub fn data_count(far: &Far) -> u32
-    requires fresh { (pair : JoiningState) × (a b : SetState) × IsFreshPair far.now pair a b }
-    ensures { (pair : JoiningState) (a b : SetState) → IsFreshPair far.now pair a b
-        → result ≡ length a.positions }
-{
-    let pair = far.joining.as_ref().unwrap();
-    far.sets.committed(pair.a).unwrap().k()
-}
-
-/// How many parities the sets of the joining pair have.
-pub fn parity_count(far: &Far) -> u32
-    requires fresh { (pair : JoiningState) × (a b : SetState) × IsFreshPair far.now pair a b }
-    ensures { (pair : JoiningState) (a b : SetState) → IsFreshPair far.now pair a b
-        → result ≡ parities a }
-{
-    let pair = far.joining.as_ref().unwrap();
-    far.sets.committed(pair.a).unwrap().r()
-}
-
-/// How many pages the spans of the sets of the joining pair have.
-pub fn page_count(far: &Far) -> u32
-    requires fresh { (pair : JoiningState) × (a b : SetState) × IsFreshPair far.now pair a b }
-    ensures { (pair : JoiningState) (a b : SetState) → IsFreshPair far.now pair a b
-        → result ≡ a.pages }
-{
-    let pair = far.joining.as_ref().unwrap();
-    far.sets.committed(pair.a).unwrap().pages()
-}
 
 /// The least position of the joining pair whose step is not done; None where all are.
 pub(crate) fn next_position(far: &Far) -> Option<u32>
@@ -61,24 +30,7 @@ pub(crate) fn next_position(far: &Far) -> Option<u32>
         → IfNone result (AreDone pair (length a.positions)) }
 {
     let pair = far.joining.as_ref().unwrap();
-    next_step(pair, data_count(far))
-}
-
-/// The shard for a new row beside a's of the position: on its node and of its incarnation, under
-/// the next key.
-pub fn new_shard(far: &Far, position: u32) -> Shard
-    requires there { (pair : JoiningState) × (far.now.joining ≡ Some pair)
-        × (position < length pair.shards_a) }
-    ensures { (pair : JoiningState) → far.now.joining ≡ Some pair → (old : Shard)
-        × (slice_get pair.shards_a position ≡ Some old) × (result ≡ shard_beside far.now old) }
-{
-    let pair = far.joining.as_ref().unwrap();
-    let old = pair.shards_a[position as usize];
-    Shard {
-        node: old.node,
-        incarnation: old.incarnation,
-        key: far.counts.keys,
-    }
+    next_step(pair, Compaction::first_set(far).k())
 }
 
 /// Puts the row of a position in the merged word of the joining pair under a shard. A full node is
@@ -92,26 +44,11 @@ fn put_step(far: &mut Far, position: u32, shard: Shard) -> Result<PutAnswer, NoM
     ensures nodes { far.new ≡ record far.old { nodes = far.new.nodes } }
     ensures error { OnErr result (far.new ≡ far.old) }
 {
-    let k = data_count(far);
-    let r = parity_count(far);
+    let a = Compaction::first_set(far);
+    let k = a.k();
+    let r = a.r();
     let pair = far.joining.as_ref().unwrap();
     put_merged(&mut far.nodes, pair, k, r, position, shard)
-}
-
-/// Notes the shard of a step of the joining pair, whose key is drawn. Takes no memory.
-pub fn note_step(far: &mut Far, position: u32, shard: Shard)
-    requires there { (pair : JoiningState) × (far.old.joining ≡ Some pair)
-        × (position < length pair.steps) }
-    requires keys { far.old.counts.keys < 2 ^ 62 }
-    ensures { (pair : JoiningState) → far.old.joining ≡ Some pair → far.new ≡ record far.old {
-      joining = Some (with_step pair position shard);
-      counts = record far.old.counts { keys = far.old.counts.keys + 1 };
-    } }
-{
-    far.counts.keys += 1;
-    if let Some(pair) = &mut far.joining {
-        set_step(pair, position, shard);
-    }
 }
 
 /// Takes the step of a position of the joining pair, or answers a's node there, which is full.
@@ -125,10 +62,10 @@ pub(crate) fn take_step(far: &mut Far, position: u32) -> Result<Option<NodeId>, 
         → TakesOne far.old pair a b position far.new full) }
     ensures error { OnErr result (far.new ≡ far.old) }
 {
-    let shard = new_shard(far, position);
+    let shard = Compaction::new_shard(far, position);
     match put_step(far, position, shard)? {
         PutAnswer::Stored => {
-            note_step(far, position, shard);
+            Compaction::note_step(far, position, shard);
             Ok(None)
         }
         PutAnswer::Full { .. } => Ok(Some(shard.node)),
@@ -185,7 +122,7 @@ pub fn compact_step<D: Desk>(desk: &mut D, far: &mut Far) -> Result<Reply, NoMem
     match how_it_stands(far) {
         Look::NoPair => Ok(Reply::NoJoin),
         Look::Changed { id } => {
-            give_up(far);
+            Compaction::give_up(far);
             Ok(Reply::Changed {
                 set: SetId { n: id },
             })

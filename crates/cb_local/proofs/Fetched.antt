@@ -150,7 +150,8 @@ module _ (nodes : NodesState) (pair : JoiningState) (order : DeltaOrder)
           new_rows = λ i l.
               news pages wa wb x i (let e = ap length can.blank.taken_is in omega (arith, l, e))
               ∙ ap (λ (t : List ℕ). row_at wb (get_or t i 0)) (sym can.blank.taken_is);
-          parity_rows = λ j l. pars pages wa wb x j (omega (arith, l, size)) ∙ ap (row_at wa) (are j l);
+          parity_rows = λ j l.
+              pars pages wa wb x j (omega (arith, l, size)) ∙ ap (row_at wa) (are j l);
         };
       }
 

@@ -16,8 +16,8 @@ pub record AreGiven (old now : NodesState) (shards : List Shard) (positions : Li
   pub nodes : now ≡ with_rows_given old i
   pub count : length table ≡ length positions
   pub lengths : (len : ℕ) → HaveLength len first → HaveLength len table
-  pub rows : (pages : ℕ) (rows : List (List ℕ)) → StandAt pages old shards rows positions → (j : ℕ) → j < i
-      → row_at table j ≡ row_at rows (get_or positions j 0)
+  pub rows : (pages : ℕ) (rows : List (List ℕ)) → StandAt pages old shards rows positions
+      → (j : ℕ) → j < i → row_at table j ≡ row_at rows (get_or positions j 0)
 
 pub one_given : (old now next : NodesState) (shards : List Shard) (positions : List ℕ)
     (first table : List (List ℕ)) (i pages : ℕ) (row : List ℕ)

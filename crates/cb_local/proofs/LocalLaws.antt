@@ -139,8 +139,8 @@ beside_fixed far mid there new other r q e f (inl a) (inr b) =
 beside_fixed far mid there new other r q e f (inr a) (inl b) =
     absurd (b.refusal a.set a.moved (sym e ∙ a.reply))
 beside_fixed far mid there new other r q e f (inr a) (inr b) =
-    let same = first_fixed far a.pair.x a.pair.y b.pair.x b.pair.y a.pair.a a.pair.b b.pair.a b.pair.b
-    a.pair.first b.pair.first in
+    let same = first_fixed far a.pair.x a.pair.y b.pair.x b.pair.y a.pair.a a.pair.b b.pair.a
+    b.pair.b a.pair.first b.pair.first in
     a.state
     ∙ (λ i. far_given (f i) (rows_given (live_positions (same.b_is i)) (parities (same.a_is i))))
     ∙ sym b.state

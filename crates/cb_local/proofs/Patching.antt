@@ -42,8 +42,8 @@ module _ (table : List (List ℕ)) (order : DeltaOrder) (is : IsOrder order) (n 
   module _ (change : List ℕ)
       (made : change ≡ row_sum (row_at order.old n) (row_at order.new n)) where
     pub change_long : length change ≡ width order
-    change_long = ap length made ∙ row_sum_length (row_at order.old n) (row_at order.new n) long_alike
-        ∙ old_long
+    change_long = ap length made
+        ∙ row_sum_length (row_at order.old n) (row_at order.new n) long_alike ∙ old_long
 
     pub one_patched : (rows next : List (List ℕ)) (before : List ℕ)
         → ArePatchedTo table order rows before n → IsDeltaAdded table position change rows next
@@ -56,8 +56,8 @@ module _ (table : List (List ℕ)) (order : DeltaOrder) (is : IsOrder order) (n 
               ∙ row_long j (let e = added.count in omega (arith, e, l));
           bytes = λ j column l m. ap (λ (row : List ℕ). get_or row column 0)
               (added.rows j (let e = x.count in omega (arith, e, l)))
-              ∙ row_sum_by_byte (row_at rows j) (scaled_row (byte_at table j position) change) column
-              (lengths j (let e = x.count in omega (arith, e, l)))
+              ∙ row_sum_by_byte (row_at rows j) (scaled_row (byte_at table j position) change)
+              column (lengths j (let e = x.count in omega (arith, e, l)))
               ∙ ap₂ ◌⊕◌ (x.bytes j column l m)
               (scaled_row_by_byte (byte_at table j position) change column
               ∙ ap (λ (v : ℕ). byte_at table j position ⊗ v)

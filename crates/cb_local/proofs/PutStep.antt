@@ -129,9 +129,10 @@ module _ (done : DoneState) (s : Shown) (begun : FarState) (first : JoiningState
     put_one new row is state =
         let taken = x.made.fetched.taken_is ∙ sym x.taken.taken in
         let merged : IsMergedRow plain pair a b n row = λ wa wb m xa xb y.
-        is a.pages wa wb m (x.made.fetched.words wa wb (x.taken.a_words wa xa) (x.taken.b_words wb xb))
-        (subst (λ (t : List ℕ). IsMergedWord a.pages done.order.k done.order.r t wa wb m) (sym taken)
-        (subst (λ (k : ℕ). IsMergedWord a.pages k done.order.r pair.taken wa wb m)
+        is a.pages wa wb m
+        (x.made.fetched.words wa wb (x.taken.a_words wa xa) (x.taken.b_words wb xb))
+        (subst (λ (t : List ℕ). IsMergedWord a.pages done.order.k done.order.r t wa wb m)
+        (sym taken) (subst (λ (k : ℕ). IsMergedWord a.pages k done.order.r pair.taken wa wb m)
         (sym x.made.fetched.k_is)
         (subst (λ (r : ℕ). IsMergedWord a.pages (length a.positions) r pair.taken wa wb m)
         (sym x.made.fetched.r_is) y))) in record {

@@ -45,12 +45,13 @@ row_exists s far pair a b p sound fresh =
       row_at h.m p,
       λ wa wb m xa xb merged.
           let u = fresh_together s far pair a b sound.away fresh wa wb xa xb in
-          let ea = word_same far.nodes pair.shards_a a.pages k r h.wa wa c.range c.a_count t.a_word u.a_word
-          t.a_rows u.a_rows in
-          let eb = word_same far.nodes pair.shards_b a.pages k r h.wb wb c.range c.b_count t.b_word u.b_word
-          t.b_rows u.b_rows in
+          let ea = word_same far.nodes pair.shards_a a.pages k r h.wa wa c.range c.a_count
+          t.a_word u.a_word t.a_rows u.a_rows in
+          let eb = word_same far.nodes pair.shards_b a.pages k r h.wb wb c.range c.b_count
+          t.b_word u.b_word t.b_rows u.b_rows in
           ap (λ (l : List (List ℕ)). row_at l p)
           (merged_same a.pages k r pair.taken h.wa h.wb h.m m c.range h.merged
           (subst (λ (w : List (List ℕ)). IsMergedWord a.pages k r pair.taken w h.wb m) (sym ea)
-          (subst (λ (w : List (List ℕ)). IsMergedWord a.pages k r pair.taken wa w m) (sym eb) merged))),
+          (subst (λ (w : List (List ℕ)). IsMergedWord a.pages k r pair.taken wa w m) (sym eb)
+          merged))),
     )

@@ -77,7 +77,8 @@ no_old_row_missing x = let e : 0 ≡ 1 = x.old_count in omega (arith, e)
 no_new_row_missing : IsOrder (order_of 1 1 (0 ∷ []) (row 1 ∷ []) [] (row 10 ∷ [])) → ⊥
 no_new_row_missing x = let e : 0 ≡ 1 = x.new_count in omega (arith, e)
 
-no_parity_more : IsOrder (order_of 1 1 (0 ∷ []) (row 1 ∷ []) (row 3 ∷ []) (row 10 ∷ row 10 ∷ [])) → ⊥
+no_parity_more : IsOrder (order_of 1 1 (0 ∷ []) (row 1 ∷ []) (row 3 ∷ []) (row 10 ∷ row 10 ∷ []))
+    → ⊥
 no_parity_more x = let e : 2 ≡ 1 = x.parity_count in omega (arith, e)
 
 no_long_old_row : IsOrder (order_of 1 1 (0 ∷ []) ((1 ∷ 1 ∷ []) ∷ []) (row 3 ∷ []) (row 10 ∷ [])) → ⊥
@@ -86,8 +87,8 @@ no_long_old_row x = let e : 2 ≡ 1 = x.old_wide 0 [] (omega arith) in omega (ar
 no_long_new_row : IsOrder (order_of 1 1 (0 ∷ []) (row 1 ∷ []) ((3 ∷ 3 ∷ []) ∷ []) (row 10 ∷ [])) → ⊥
 no_long_new_row x = let e : 2 ≡ 1 = x.new_wide 0 [] (omega arith) in omega (arith, e)
 
-no_long_parity : IsOrder (order_of 1 2 (0 ∷ []) (row 1 ∷ []) (row 3 ∷ []) (row 10 ∷ (10 ∷ 10 ∷ []) ∷ []))
-    → ⊥
+no_long_parity : IsOrder
+    (order_of 1 2 (0 ∷ []) (row 1 ∷ []) (row 3 ∷ []) (row 10 ∷ (10 ∷ 10 ∷ []) ∷ [])) → ⊥
 no_long_parity x = let e : 2 ≡ 1 = x.parities_wide 1 [] (omega arith) in omega (arith, e)
 
 -- ---- the parities, where the coefficient is 2: 0A and 2 times the sum of 01 and 03 are 0E

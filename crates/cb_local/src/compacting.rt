@@ -19,7 +19,7 @@ ghost use Rattle.cb_local.specs.Rooms.{AllHaveRoom};
 use crate::fetching::run_pair;
 use crate::putting::put_rows;
 use crate::rooms::full_node;
-use cb_compact::{Begun, begin, drawn_keys, merge, stop_at, undo};
+use cb_compact::Compaction;
 use cb_types::{NoMemory, Reply, SetId};
 use cb_world::{Desk, Far};
 use std::alloc::Global;
@@ -46,7 +46,7 @@ fn finish(alloc: Global, far: &mut Far) -> Result<Reply, NoMemory>
     ensures error { OnErr result (HasGoneGiving far.old far.new) }
 {
     take_steps(alloc, far)?;
-    merge(far)
+    Compaction::merge(far)
 }
 
 /// Goes through with a joining pair for which all of a's nodes have room. Where there is no memory,
@@ -58,11 +58,11 @@ fn finish_or_undo(alloc: Global, far: &mut Far) -> Result<Reply, NoMemory>
         → IsFreshPair far.old pair a b → EndsHere far.old far.new pair a reply) }
     ensures error { OnErr result (IsJoinStopped far.old far.new) }
 {
-    let keys = drawn_keys(far);
+    let keys = Compaction::drawn_keys(far);
     match finish(alloc, far) {
         Ok(reply) => Ok(reply),
         Err(NoMemory) => {
-            undo(far, keys);
+            Compaction::undo(far, keys);
             Err(NoMemory)
         }
     }
@@ -78,7 +78,10 @@ fn go_through(alloc: Global, far: &mut Far) -> Result<Reply, NoMemory>
     ensures error { OnErr result (IsJoinStopped far.old far.new) }
 {
     match full_node(far) {
-        Some(node) => Ok(stop_at(far, node)),
+        Some(node) => {
+            Compaction::give_up(far);
+            Ok(Reply::NodeFull { node })
+        }
         None => finish_or_undo(alloc, far),
     }
 }
@@ -110,12 +113,12 @@ pub fn compact_local<D: Desk>(alloc: Global, desk: &mut D, far: &mut Far) -> Res
     ensures sound { (s : Shown) → Sound s far.old → Sound s far.new }
     ensures now { (s : Shown) (h : ℕ) → Sound s far.old → now s far.new h ≡ now s far.old h }
 {
-    match begin(far)? {
-        Begun::Joining { a, b } => Ok(Reply::Joining {
+    match Compaction::begin(far)? {
+        Compaction::Joining { a, b } => Ok(Reply::Joining {
             a: SetId { n: a },
             b: SetId { n: b },
         }),
-        Begun::NoPair => Ok(Reply::NoPair),
-        Begun::Pair { .. } => go_through(alloc, far),
+        Compaction::NoPair => Ok(Reply::NoPair),
+        Compaction::Pair { .. } => go_through(alloc, far),
     }
 }

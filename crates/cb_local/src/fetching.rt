@@ -11,7 +11,7 @@ ghost use Rattle.cb_local.specs.Fetching.{AreFetched, AreParitiesMade, CanFetch,
 use crate::order::{DeltaDone, DeltaOrder};
 use crate::running::run_delta;
 use cb_class::PAGE_BYTES;
-use cb_compact::{data_count, page_count, parity_count};
+use cb_compact::Compaction;
 use cb_gf256::Rows;
 use cb_member::Shard;
 use cb_node::Nodes;
@@ -128,8 +128,8 @@ fn new_order(alloc: Global, far: &Far) -> Result<DeltaOrder, NoMemory>
         → IsBlank pair (length a.positions) (parities a) a.pages order) }
 {
     let pair = far.joining.as_ref().unwrap();
-    let pages = page_count(far);
-    match blank_order(alloc, pair, data_count(far), parity_count(far), pages) {
+    let a = Compaction::first_set(far);
+    match blank_order(alloc, pair, a.k(), a.r(), a.pages()) {
         Ok(order) => Ok(order),
         Err(_) => Err(NoMemory),
     }

@@ -15,7 +15,7 @@ ghost use Rattle.cb_local.specs.Putting.{ArePut};
 ghost use Rattle.cb_local.specs.Words.{AreMergedParities, IsOfWords};
 
 use crate::order::DeltaDone;
-use cb_compact::{new_shard, note_step, step_count, undone_at};
+use cb_compact::Compaction;
 use cb_member::Shard;
 use cb_types::NoMemory;
 use cb_world::{Far, put_row};
@@ -81,9 +81,9 @@ fn take_row(far: &mut Far, position: u32, row: &[u8]) -> Result<(), NoMemory>
         → far.new ≡ with_stepped far.old pair position (shard_beside far.old old) row.now) }
     ensures error { OnErr result (far.new ≡ far.old) }
 {
-    let shard = new_shard(far, position);
+    let shard = Compaction::new_shard(far, position);
     put_beside(far, shard, row)?;
-    note_step(far, position, shard);
+    Compaction::note_step(far, position, shard);
     Ok(())
 }
 
@@ -98,7 +98,7 @@ fn put_step(far: &mut Far, done: &DeltaDone, position: u32) -> Result<(), NoMemo
         → ArePut done.now s begun first a b far.new (position + 1)) }
     ensures error { OnErr result (far.new ≡ far.old) }
 {
-    if !undone_at(far, position) {
+    if !Compaction::undone_at(far, position) {
         return Ok(());
     }
     take_row(far, position, merged_row(done, position))
@@ -116,7 +116,7 @@ pub(crate) fn put_rows(far: &mut Far, done: &DeltaDone) -> Result<(), NoMemory>
         (a b : SetState) → ArePut done.now s begun first a b far.old 0
         → (n : ℕ) × ArePut done.now s begun first a b far.new n) }
 {
-    for position in 0..step_count(far) {
+    for position in 0..Compaction::step_count(far) {
         put_step(far, done, position)?;
     }
     Ok(())

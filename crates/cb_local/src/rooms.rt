@@ -10,7 +10,7 @@ ghost use Rattle.cb_compact.specs.PartStep.{IsFreshPair};
 ghost use Rattle.cb_compact.specs.PatchStep.{is_undone};
 ghost use Rattle.cb_local.specs.Rooms.{AllHaveRoom, IsFirstFull};
 
-use cb_compact::{new_shard, step_count, undone_at};
+use cb_compact::Compaction;
 use cb_member::NodeId;
 use cb_world::Far;
 
@@ -27,7 +27,7 @@ fn full_beside(far: &Far, position: u32) -> Option<NodeId>
         → far.now.joining ≡ Some pair → slice_get pair.shards_a position ≡ Some old
         → held far.now.nodes old.node < far.now.nodes.room) }
 {
-    let node = new_shard(far, position).node;
+    let node = Compaction::new_shard(far, position).node;
     if far.nodes.held(node) == far.nodes.room() {
         return Some(node);
     }
@@ -48,7 +48,7 @@ fn full_at(far: &Far, position: u32) -> Option<NodeId>
         → is_undone pair (length a.positions) position ≡ true
         → held far.now.nodes old.node < far.now.nodes.room) }
 {
-    if !undone_at(far, position) {
+    if !Compaction::undone_at(far, position) {
         return None;
     }
     full_beside(far, position)
@@ -65,7 +65,7 @@ pub(crate) fn full_node(far: &Far) -> Option<NodeId>
     ensures room { IfNone result ((pair : JoiningState) (a b : SetState)
         → IsFreshPair far.now pair a b → AllHaveRoom far.now pair a) }
 {
-    for position in 0..step_count(far) {
+    for position in 0..Compaction::step_count(far) {
         if let Some(node) = full_at(far, position) {
             return Some(node);
         }

@@ -1,10 +1,10 @@
-use Rattle.std.proofs.Common.{subst, sym, arith}
-use Rattle.cb_compact.specs.NowGoing.{EndsFrom, GoesTo}
+use Rattle.std.proofs.Common.{subst, arith}
+use Rattle.cb_compact.specs.NowGoing.{GoesTo}
 use Rattle.cb_compact.proofs.NowEnds.{ends_error, ends_full, ends_merged, goes_ready, gone_sets, gone_there}
 use Rattle.cb_compact.proofs.compacting.finish.Goals as goal
 
-pub stop_at-requires : goal.stop_at-requires
-stop_at-requires c =
+pub give_up-requires : goal.give_up-requires
+give_up-requires c =
     let s = c.requires.sound in
     let x = subst (GoesTo c.args.far.now c.take_steps.new.far) c.in-Some.is
     c.in_ok-node.ensures.gone in
@@ -26,10 +26,9 @@ merge-requires-clause-sets c =
 
 pub returns-in-Some-clause-ends : goal.returns-in-Some-clause-ends
 returns-in-Some-clause-ends c =
-    subst (EndsFrom c.args.far.now c.stop_at.new.far) (sym c.stop_at.ensures.reply)
-    (ends_full c.args.far.now c.take_steps.new.far c.stop_at.new.far c.in-Some.node
+    ends_full c.args.far.now c.take_steps.new.far c.give_up.new.far c.in-Some.node
     (subst (GoesTo c.args.far.now c.take_steps.new.far) c.in-Some.is
-    c.in_ok-node.ensures.gone) c.stop_at.ensures.parted)
+    c.in_ok-node.ensures.gone) c.give_up.ensures
 
 pub returns-in-None-clause-ends : goal.returns-in-None-clause-ends
 returns-in-None-clause-ends c =

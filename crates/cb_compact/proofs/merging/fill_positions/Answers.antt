@@ -34,7 +34,8 @@ pub loop-position-preserved : goal.loop-position-preserved
 loop-position-preserved c =
     let set = c.args.set.now in let a = c.args.a.now in let b = c.args.b.now in
     let n = c.loop-position.position in
-    subst (IsFilledBelow set.id set.pages set.shards a b (n + 1)) (sym c.in_ok-fill_position.ensures)
+    subst (IsFilledBelow set.id set.pages set.shards a b (n + 1))
+    (sym c.in_ok-fill_position.ensures)
     (one_filled set.id set.pages set.shards a b c.loop-position.set n c.loop-position.invariant
     (let l = c.loop-position-test.true in let m = c.k-position-end.ensures.count in omega (
       arith,

@@ -1,4 +1,5 @@
 use Rattle.std.proofs.Common.{◌≤◌, length, sym, ap, ap₂, ◌∙◌, subst}
+use Rattle.cb_set.specs.SetState.{SetState}
 use Rattle.cb_world.specs.FarState.{FarState}
 use Rattle.cb_world.specs.Joining.{JoiningState}
 use Rattle.cb_compact.specs.PatchStep.{undone}
@@ -17,4 +18,6 @@ returns c pair a b fresh =
     let e = unwrapped c.as_ref.result c.unwrap-pair.result c.far.inside.joining pair
     c.as_ref.ensures.value c.unwrap-pair.ensures
     (ap (λ (f : FarState). f.joining) c.far.view_is ∙ fresh.was) in
-    c.undone_steps.ensures ∙ ap₂ undone (sym e) (c.data_count.ensures pair a b fresh)
+    c.undone_steps.ensures ∙ ap₂ undone (sym e)
+    (c.k.ensures.count ∙ ap (λ (s : SetState). length s.positions)
+    (c.first_set.ensures pair a b fresh))

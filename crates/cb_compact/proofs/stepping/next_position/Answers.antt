@@ -1,4 +1,5 @@
 use Rattle.std.proofs.Common.{◌≤◌, ℕ, IfNone, IfSome, length, sym, ap, ◌∙◌, subst}
+use Rattle.cb_set.specs.SetState.{SetState}
 use Rattle.cb_world.specs.FarState.{FarState}
 use Rattle.cb_world.specs.Joining.{JoiningState}
 use Rattle.cb_compact.specs.PatchStep.{AreDone, IsNext}
@@ -21,7 +22,8 @@ returns-clause-next c pair a b fresh =
     subst (λ (q : JoiningState). IfSome c.next_step.result (IsNext q (length a.positions))) (sym
     e)
     (subst (λ (k : ℕ). IfSome c.next_step.result (IsNext c.unwrap-pair.result.now k))
-    (c.data_count.ensures pair a b fresh) c.next_step.ensures.next)
+    (c.k.ensures.count ∙ ap (λ (s : SetState). length s.positions)
+    (c.first_set.ensures pair a b fresh)) c.next_step.ensures.next)
 
 pub returns-clause-none : goal.returns-clause-none
 returns-clause-none c pair a b fresh =
@@ -31,4 +33,5 @@ returns-clause-none c pair a b fresh =
     subst (λ (q : JoiningState). IfNone c.next_step.result (AreDone q (length a.positions))) (sym
     e)
     (subst (λ (k : ℕ). IfNone c.next_step.result (AreDone c.unwrap-pair.result.now k))
-    (c.data_count.ensures pair a b fresh) c.next_step.ensures.none)
+    (c.k.ensures.count ∙ ap (λ (s : SetState). length s.positions)
+    (c.first_set.ensures pair a b fresh)) c.next_step.ensures.none)

@@ -12,19 +12,9 @@ use Rattle.cb_compact.specs.Deltas.{IsOfCode, NoneNames, PutsMerged, StandTogeth
 use Rattle.cb_compact.proofs.Ready.{carry, puts_merged, ready_a, ready_b, ready_code, ready_fresh, ready_node, ready_position, ready_taken, ready_words, same_fresh, unwrapped}
 use Rattle.cb_compact.proofs.stepping.put_step.Goals as goal
 
-pub data_count-k-requires : goal.data_count-k-requires
-data_count-k-requires c = let x = c.requires.ready in record {
+pub first_set-a-requires : goal.first_set-a-requires
+first_set-a-requires c = let x = c.requires.ready in record {
   fresh = (x.1, x.2, x.3, x.4.fresh);
-}
-
-pub parity_count-r-requires : goal.parity_count-r-requires
-parity_count-r-requires c = let x = c.requires.ready in record {
-  fresh = (
-    x.1,
-    x.2,
-    x.3,
-    x.4.fresh,
-  );
 }
 
 pub unwrap-pair-requires : goal.unwrap-pair-requires
@@ -41,13 +31,13 @@ put_merged-requires-clause-code c =
     let ep : pair ≡ c.unwrap-pair.result.now = unwrapped c.as_ref.result c.unwrap-pair.result
     c.far.inside.joining pair c.as_ref.ensures.value c.unwrap-pair.ensures
     (ap (λ (f : FarState). f.joining) c.far.view_is ∙ x.4.fresh.was) in
-    let ek : length a.positions ≡ c.data_count-k.result = sym (c.data_count-k.ensures pair a b
-    x.4.fresh) in
-    let er : parities a ≡ c.parity_count-r.result = sym (c.parity_count-r.ensures pair a b
-    x.4.fresh) in
+    let first = c.first_set-a.ensures pair a b x.4.fresh in
+    let ek : length a.positions ≡ c.k-k.result =
+    sym (c.k-k.ensures.count ∙ ap (λ (s : SetState). length s.positions) first) in
+    let er : parities a ≡ c.r-r.result = sym (c.r-r.ensures.parities ∙ ap parities first) in
     carry (λ n q k r. IsOfCode n q k r) far.nodes c.far.inside.nodes pair
     c.unwrap-pair.result.now (length a.positions)
-    c.data_count-k.result (parities a) c.parity_count-r.result en ep ek er
+    c.k-k.result (parities a) c.r-r.result en ep ek er
     (ready_code x.0 far pair a b p shard x.4)
 
 pub put_merged-requires-clause-position : goal.put_merged-requires-clause-position
@@ -59,13 +49,13 @@ put_merged-requires-clause-position c =
     let ep : pair ≡ c.unwrap-pair.result.now = unwrapped c.as_ref.result c.unwrap-pair.result
     c.far.inside.joining pair c.as_ref.ensures.value c.unwrap-pair.ensures
     (ap (λ (f : FarState). f.joining) c.far.view_is ∙ x.4.fresh.was) in
-    let ek : length a.positions ≡ c.data_count-k.result = sym (c.data_count-k.ensures pair a b
-    x.4.fresh) in
-    let er : parities a ≡ c.parity_count-r.result = sym (c.parity_count-r.ensures pair a b
-    x.4.fresh) in
+    let first = c.first_set-a.ensures pair a b x.4.fresh in
+    let ek : length a.positions ≡ c.k-k.result =
+    sym (c.k-k.ensures.count ∙ ap (λ (s : SetState). length s.positions) first) in
+    let er : parities a ≡ c.r-r.result = sym (c.r-r.ensures.parities ∙ ap parities first) in
     carry (λ n q k r. p < k + r) far.nodes c.far.inside.nodes pair c.unwrap-pair.result.now
     (length a.positions)
-    c.data_count-k.result (parities a) c.parity_count-r.result en ep ek er
+    c.k-k.result (parities a) c.r-r.result en ep ek er
     (ready_position x.0 far pair a b p shard x.4)
 
 pub put_merged-requires-clause-taken : goal.put_merged-requires-clause-taken
@@ -77,13 +67,13 @@ put_merged-requires-clause-taken c =
     let ep : pair ≡ c.unwrap-pair.result.now = unwrapped c.as_ref.result c.unwrap-pair.result
     c.far.inside.joining pair c.as_ref.ensures.value c.unwrap-pair.ensures
     (ap (λ (f : FarState). f.joining) c.far.view_is ∙ x.4.fresh.was) in
-    let ek : length a.positions ≡ c.data_count-k.result = sym (c.data_count-k.ensures pair a b
-    x.4.fresh) in
-    let er : parities a ≡ c.parity_count-r.result = sym (c.parity_count-r.ensures pair a b
-    x.4.fresh) in
+    let first = c.first_set-a.ensures pair a b x.4.fresh in
+    let ek : length a.positions ≡ c.k-k.result =
+    sym (c.k-k.ensures.count ∙ ap (λ (s : SetState). length s.positions) first) in
+    let er : parities a ≡ c.r-r.result = sym (c.r-r.ensures.parities ∙ ap parities first) in
     carry (λ n q k r. p < k → takes q.taken p ≡ true) far.nodes c.far.inside.nodes pair
     c.unwrap-pair.result.now (length a.positions)
-    c.data_count-k.result (parities a) c.parity_count-r.result en ep ek er
+    c.k-k.result (parities a) c.r-r.result en ep ek er
     (ready_taken x.0 far pair a b p shard x.4)
 
 pub put_merged-requires-clause-to : goal.put_merged-requires-clause-to
@@ -95,13 +85,13 @@ put_merged-requires-clause-to c =
     let ep : pair ≡ c.unwrap-pair.result.now = unwrapped c.as_ref.result c.unwrap-pair.result
     c.far.inside.joining pair c.as_ref.ensures.value c.unwrap-pair.ensures
     (ap (λ (f : FarState). f.joining) c.far.view_is ∙ x.4.fresh.was) in
-    let ek : length a.positions ≡ c.data_count-k.result = sym (c.data_count-k.ensures pair a b
-    x.4.fresh) in
-    let er : parities a ≡ c.parity_count-r.result = sym (c.parity_count-r.ensures pair a b
-    x.4.fresh) in
+    let first = c.first_set-a.ensures pair a b x.4.fresh in
+    let ek : length a.positions ≡ c.k-k.result =
+    sym (c.k-k.ensures.count ∙ ap (λ (s : SetState). length s.positions) first) in
+    let er : parities a ≡ c.r-r.result = sym (c.r-r.ensures.parities ∙ ap parities first) in
     carry (λ n q k r. shard.node.n < length n.nodes) far.nodes c.far.inside.nodes pair
     c.unwrap-pair.result.now (length a.positions)
-    c.data_count-k.result (parities a) c.parity_count-r.result en ep ek er
+    c.k-k.result (parities a) c.r-r.result en ep ek er
     (ready_node x.0 far pair a b p shard x.4)
 
 pub put_merged-requires-clause-fresh : goal.put_merged-requires-clause-fresh
@@ -113,13 +103,13 @@ put_merged-requires-clause-fresh c =
     let ep : pair ≡ c.unwrap-pair.result.now = unwrapped c.as_ref.result c.unwrap-pair.result
     c.far.inside.joining pair c.as_ref.ensures.value c.unwrap-pair.ensures
     (ap (λ (f : FarState). f.joining) c.far.view_is ∙ x.4.fresh.was) in
-    let ek : length a.positions ≡ c.data_count-k.result = sym (c.data_count-k.ensures pair a b
-    x.4.fresh) in
-    let er : parities a ≡ c.parity_count-r.result = sym (c.parity_count-r.ensures pair a b
-    x.4.fresh) in
+    let first = c.first_set-a.ensures pair a b x.4.fresh in
+    let ek : length a.positions ≡ c.k-k.result =
+    sym (c.k-k.ensures.count ∙ ap (λ (s : SetState). length s.positions) first) in
+    let er : parities a ≡ c.r-r.result = sym (c.r-r.ensures.parities ∙ ap parities first) in
     carry (λ n q k r. has n shard.node shard.key ≡ false) far.nodes c.far.inside.nodes pair
     c.unwrap-pair.result.now (length a.positions)
-    c.data_count-k.result (parities a) c.parity_count-r.result en ep ek er
+    c.k-k.result (parities a) c.r-r.result en ep ek er
     (ready_fresh x.0 far pair a b p shard x.4)
 
 pub put_merged-requires-clause-a_other : goal.put_merged-requires-clause-a_other
@@ -131,13 +121,13 @@ put_merged-requires-clause-a_other c =
     let ep : pair ≡ c.unwrap-pair.result.now = unwrapped c.as_ref.result c.unwrap-pair.result
     c.far.inside.joining pair c.as_ref.ensures.value c.unwrap-pair.ensures
     (ap (λ (f : FarState). f.joining) c.far.view_is ∙ x.4.fresh.was) in
-    let ek : length a.positions ≡ c.data_count-k.result = sym (c.data_count-k.ensures pair a b
-    x.4.fresh) in
-    let er : parities a ≡ c.parity_count-r.result = sym (c.parity_count-r.ensures pair a b
-    x.4.fresh) in
+    let first = c.first_set-a.ensures pair a b x.4.fresh in
+    let ek : length a.positions ≡ c.k-k.result =
+    sym (c.k-k.ensures.count ∙ ap (λ (s : SetState). length s.positions) first) in
+    let er : parities a ≡ c.r-r.result = sym (c.r-r.ensures.parities ∙ ap parities first) in
     carry (λ n q k r. NoneNames q.shards_a shard.node shard.key) far.nodes c.far.inside.nodes
     pair c.unwrap-pair.result.now (length a.positions)
-    c.data_count-k.result (parities a) c.parity_count-r.result en ep ek er
+    c.k-k.result (parities a) c.r-r.result en ep ek er
     (ready_a x.0 far pair a b p shard x.4)
 
 pub put_merged-requires-clause-b_other : goal.put_merged-requires-clause-b_other
@@ -149,13 +139,13 @@ put_merged-requires-clause-b_other c =
     let ep : pair ≡ c.unwrap-pair.result.now = unwrapped c.as_ref.result c.unwrap-pair.result
     c.far.inside.joining pair c.as_ref.ensures.value c.unwrap-pair.ensures
     (ap (λ (f : FarState). f.joining) c.far.view_is ∙ x.4.fresh.was) in
-    let ek : length a.positions ≡ c.data_count-k.result = sym (c.data_count-k.ensures pair a b
-    x.4.fresh) in
-    let er : parities a ≡ c.parity_count-r.result = sym (c.parity_count-r.ensures pair a b
-    x.4.fresh) in
+    let first = c.first_set-a.ensures pair a b x.4.fresh in
+    let ek : length a.positions ≡ c.k-k.result =
+    sym (c.k-k.ensures.count ∙ ap (λ (s : SetState). length s.positions) first) in
+    let er : parities a ≡ c.r-r.result = sym (c.r-r.ensures.parities ∙ ap parities first) in
     carry (λ n q k r. NoneNames q.shards_b shard.node shard.key) far.nodes c.far.inside.nodes
     pair c.unwrap-pair.result.now (length a.positions)
-    c.data_count-k.result (parities a) c.parity_count-r.result en ep ek er
+    c.k-k.result (parities a) c.r-r.result en ep ek er
     (ready_b x.0 far pair a b p shard x.4)
 
 pub put_merged-requires-clause-words : goal.put_merged-requires-clause-words
@@ -167,14 +157,14 @@ put_merged-requires-clause-words c =
     let ep : pair ≡ c.unwrap-pair.result.now = unwrapped c.as_ref.result c.unwrap-pair.result
     c.far.inside.joining pair c.as_ref.ensures.value c.unwrap-pair.ensures
     (ap (λ (f : FarState). f.joining) c.far.view_is ∙ x.4.fresh.was) in
-    let ek : length a.positions ≡ c.data_count-k.result = sym (c.data_count-k.ensures pair a b
-    x.4.fresh) in
-    let er : parities a ≡ c.parity_count-r.result = sym (c.parity_count-r.ensures pair a b
-    x.4.fresh) in
+    let first = c.first_set-a.ensures pair a b x.4.fresh in
+    let ek : length a.positions ≡ c.k-k.result =
+    sym (c.k-k.ensures.count ∙ ap (λ (s : SetState). length s.positions) first) in
+    let er : parities a ≡ c.r-r.result = sym (c.r-r.ensures.parities ∙ ap parities first) in
     carry (λ n q k r. (wa wb : List (List ℕ)) × (pages : ℕ) × StandTogether n q pages k r wa wb)
     far.nodes
     c.far.inside.nodes pair c.unwrap-pair.result.now (length a.positions)
-    c.data_count-k.result (parities a) c.parity_count-r.result en ep ek er
+    c.k-k.result (parities a) c.r-r.result en ep ek er
     (ready_words x.0 far pair a b p shard x.4)
 
 pub returns-clause-put : goal.returns-clause-put
@@ -186,10 +176,10 @@ returns-clause-put c =
     let ep : pair ≡ c.unwrap-pair.result.now = unwrapped c.as_ref.result c.unwrap-pair.result
     c.far.inside.joining pair c.as_ref.ensures.value c.unwrap-pair.ensures
     (ap (λ (f : FarState). f.joining) c.far.view_is ∙ x.4.fresh.was) in
-    let ek : length a.positions ≡ c.data_count-k.result = sym (c.data_count-k.ensures pair a b
-    x.4.fresh) in
-    let er : parities a ≡ c.parity_count-r.result = sym (c.parity_count-r.ensures pair a b
-    x.4.fresh) in
+    let first = c.first_set-a.ensures pair a b x.4.fresh in
+    let ek : length a.positions ≡ c.k-k.result =
+    sym (c.k-k.ensures.count ∙ ap (λ (s : SetState). length s.positions) first) in
+    let er : parities a ≡ c.r-r.result = sym (c.r-r.ensures.parities ∙ ap parities first) in
     IfOk-weaker c.put_merged.result _ _ (λ answer given other d e fresh.
     let same = same_fresh far pair other a b d e x.4.fresh fresh in
     subst (λ (q : JoiningState). PutsMerged far q d e p shard answer c.put_merged.new.nodes)
@@ -202,8 +192,8 @@ returns-clause-put c =
     (carry (λ n q k r. (pages : ℕ) (wa wb m : List (List ℕ)) → StandTogether n q pages k r wa wb
     → IsMergedWord pages k r q.taken wa wb m
     → PutGives n shard.node shard.key (row_at m p) answer c.put_merged.new.nodes)
-    c.far.inside.nodes far.nodes c.unwrap-pair.result.now pair c.data_count-k.result
-    (length a.positions) c.parity_count-r.result (parities a) (sym en) (sym ep) (sym ek) (sym er)
+    c.far.inside.nodes far.nodes c.unwrap-pair.result.now pair c.k-k.result
+    (length a.positions) c.r-r.result (parities a) (sym en) (sym ep) (sym ek) (sym er)
     given))))) c.put_merged.ensures.put
 
 pub returns-clause-nodes : goal.returns-clause-nodes

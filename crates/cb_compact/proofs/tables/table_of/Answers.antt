@@ -10,5 +10,6 @@ returns c =
     (c.fill.auto.marks ∙ ap length c.deref_mut.ensures.value ∙ sym made.ok.0) in
     record {
       size = ap length same ∙ c.fill.ensures.size;
-      marked = subst (IsFilled c.args.found.now c.args.k c.args.r c.args.pages) (sym same) c.fill.ensures.marked;
+      marked = subst (IsFilled c.args.found.now c.args.k c.args.r c.args.pages) (sym same)
+          c.fill.ensures.marked;
     }

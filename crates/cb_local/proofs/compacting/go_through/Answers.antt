@@ -1,6 +1,5 @@
-use Rattle.std.proofs.Common.{subst, sym, inl}
+use Rattle.std.proofs.Common.{inl}
 use Rattle.cb_compact.proofs.Laws.{steps_there}
-use Rattle.cb_local.specs.LocalGoing.{EndsFullHere}
 use Rattle.cb_local.proofs.FullNode.{full_ends}
 use Rattle.cb_local.proofs.compacting.go_through.Goals as goal
 
@@ -10,8 +9,8 @@ full_node-requires-clause-sound c = let q = c.requires.begun in (q.0, q.4.sound.
 pub full_node-requires-clause-fresh : goal.full_node-requires-clause-fresh
 full_node-requires-clause-fresh c = let q = c.requires.begun in (q.1, q.2, q.3, q.4.fresh)
 
-pub stop_at-requires : goal.stop_at-requires
-stop_at-requires c =
+pub give_up-requires : goal.give_up-requires
+give_up-requires c =
     let q = c.requires.begun in record {
       there = (
         q.1,
@@ -29,7 +28,6 @@ finish_or_undo-requires c =
 pub returns-in-Some-clause-ends : goal.returns-in-Some-clause-ends
 returns-in-Some-clause-ends c pair a b fresh =
     let q = c.requires.begun in
-    inl (subst (EndsFullHere c.args.far.now c.stop_at.new.far) (sym c.stop_at.ensures.reply)
-    (full_ends q.0 c.args.far.now q.1 q.2 q.3 c.in-Some.node q.4
-    (c.in-Some.ensures.full q.1 q.2 q.3 q.4.fresh) c.stop_at.new.far
-    (c.stop_at.ensures.parted q.1 q.4.fresh.was)))
+    inl (full_ends q.0 c.args.far.now q.1 q.2 q.3 c.in-Some.node q.4
+    (c.in-Some.ensures.full q.1 q.2 q.3 q.4.fresh) c.give_up.new.far
+    (c.give_up.ensures q.1 q.4.fresh.was))

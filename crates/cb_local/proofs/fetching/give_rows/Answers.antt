@@ -17,8 +17,8 @@ loop-i-preserved c =
     let within = c.loop-i-test.true in
     let at = slice_get-get_or shards p none_here (c.requires.within i 0 within) in
     let row = λ (n : ℕ) (rows : List (List ℕ)) (stand : StandAt n old shards rows positions).
-    row_stands n old now shards positions i p (get_or shards p none_here) rows inv.nodes stand within
-    refl at in
+    row_stands n old now shards positions i p (get_or shards p none_here) rows inv.nodes stand
+    within refl at in
     let into = λ (n : ℕ) (rows : List (List ℕ)) (stand : StandAt n old shards rows positions).
     subst (λ (o : Option (List ℕ)). IfSome o (λ r. c.give_row.new.into ≡ r)) (row n rows stand).0
     c.give_row.ensures.row in

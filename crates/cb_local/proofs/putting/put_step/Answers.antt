@@ -28,7 +28,8 @@ take_row-requires-clause-next c =
     let q = c.requires.put in let x = q.5 in let done = c.args.done.now in
     let far = c.args.far.now in let n = c.args.position in
     let fresh = at_fresh done q.0 q.1 q.2 q.3 q.4 far n x in
-    let undone = sym (c.undone_at.ensures x.taken.pair q.3 q.4 fresh) ∙ c.if-not-undone_at.false in (
+    let undone =
+    sym (c.undone_at.ensures x.taken.pair q.3 q.4 fresh) ∙ c.if-not-undone_at.false in (
       x.taken.pair,
       q.3,
       q.4,

@@ -5,7 +5,7 @@ use Rattle.cb_world.specs.FarState.{FarState}
 use Rattle.cb_world.specs.Joining.{JoiningState}
 use Rattle.cb_world.specs.Reserved.{put_shards}
 use Rattle.cb_world.specs.Stored.{AreThere}
-use Rattle.cb_compact.proofs.parting.give_up.Goals as goal
+use Rattle.cb_compact.proofs.compaction.Compaction.give_up.Goals as goal
 
 pair_same : (p q : JoiningState) → Some p ≡ Some q → p ≡ q
 pair_same p q e = cc

@@ -7,7 +7,7 @@ use Rattle.cb_world.proofs.Laws.{set_there}
 use Rattle.cb_compact.specs.MergeStep.{merged_set}
 use Rattle.cb_compact.specs.Rehoming.{AreNamedOnce}
 use Rattle.cb_compact.proofs.Committing.{merged_is, named_once, ready_as, ready_steps, rows_a, rows_b}
-use Rattle.cb_compact.proofs.merging.merge.Goals as goal
+use Rattle.cb_compact.proofs.compaction.Compaction.merge.Goals as goal
 
 pub moved-moved-requires : goal.moved-moved-requires
 moved-moved-requires c = record { ready = c.requires.ready }

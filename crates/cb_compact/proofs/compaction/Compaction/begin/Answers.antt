@@ -10,7 +10,7 @@ use Rattle.cb_compact.specs.declared.candidates.Match.{Match}
 use Rattle.cb_compact.specs.PairStep.{IsFirstPair, begun_pair, with_pair}
 use Rattle.cb_compact.proofs.PairSound.{begun_keeps}
 use Rattle.cb_compact.proofs.TableExists.{table_exists}
-use Rattle.cb_compact.proofs.beginning.begin.Goals as goal
+use Rattle.cb_compact.proofs.compaction.Compaction.begin.Goals as goal
 
 -- a look has changed nothing
 still : (far new : FarState) (id : ℕ) (set : SetState) → new ≡ far → set_in far.sets id ≡ Some set
