@@ -6,9 +6,10 @@
  * Rows lie in a buffer one after another: row i begins at byte i * len. The positions 0 to k - 1 are
  * the data rows, k to k + r - 1 the parities. Any k rows of a code word give the others.
  *
- * Each call but carbink_version answers one of the statuses below. A status other than CARBINK_DONE
- * says that nothing was done: what the call would have written is as it was. Where more than one is
- * wrong, the first of this list is answered: the code, the length, the buffers, the positions, memory.
+ * Each call but carbink_version and the two that free answers one of the statuses below. A status
+ * other than CARBINK_DONE says that nothing was done: what the call would have written is as it was.
+ * Where more than one is wrong, the first of this list is answered: the code, the length, the buffers,
+ * the positions, memory.
  *
  * What the caller owes, and no call can see: each pointer is not null, also for a size of 0; it points
  * to as many bytes as the size beside it says; a buffer that a call writes overlaps no other of that call

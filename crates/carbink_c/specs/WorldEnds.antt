@@ -60,8 +60,8 @@ pub record TakesPlace (w : WorldState) (e : Event) (r : Reply) (v : WorldState) 
   pub step : Step w e r v
   pub unavailable : TellsUnavailable w e r
 
--- An event that may come takes place, and its reply is told; or it finds no memory, what each object
--- holds is as before, and nothing is told.
+-- An event that may come takes place, and its reply is told; or it finds no memory, what each
+-- object holds is as before, and nothing is told.
 abbrev pub AnswerEnds : Event → WorldState → WorldState → Place → Place → Outcome → Type 0
 AnswerEnds e w v old new Done = (r : Reply) × TakesPlace w e r v × TellsReply r old new
 AnswerEnds e w v old new NoMemory = EventStops w e v × LeavesAsBefore w e v × (new ≡ old)
@@ -71,9 +71,9 @@ AnswerEnds e w v old new outcome = ⊥
 abbrev pub IsAsked : Verb → CarbinkEvent → Type 0
 IsAsked verb a = (a.verb ≡ verb_number verb) × (a.seat < 64)
 
--- An event with these numbers and bytes: a verb that there is none of, a seat that there is none of,
--- an argument that the verb does not take and a room of fewer bytes than an object may have are told,
--- the first of them, and nothing changes. Else the event may come.
+-- An event with these numbers and bytes: a verb that there is none of, a seat that there is none
+-- of, an argument that the verb does not take and a room of fewer bytes than an object may have
+-- are told, the first of them, and nothing changes. Else the event may come.
 abbrev pub EventEnds : CarbinkEvent → List ℕ → WorldState → WorldState → Place → Place → Outcome
     → Type 0
 EventEnds a bytes w v old new BadVerb =

@@ -71,15 +71,15 @@ fn examined(
     }
 }
 
-/// What the rows of a buffer are. Rows that are a code word are told by their parities, which takes
-/// less time than their syndromes. The only error is want of memory.
+/// What the rows of a buffer are. Rows that are a code word are told where they lie; others are
+/// copied first. The only error is want of memory.
 fn finding(alloc: Global, k: u32, r: u32, len: u32, rows: &[u8]) -> Result<Found, NoMemory>
     requires in_range { IsInRange k r }
     requires some { 0 < len }
     requires size { length rows.now ≡ (k + r) * len }
     ensures { IfOk result (IsOnlyFinding r (cut_rows (k + r) len rows.now)) }
 {
-    if are_word(alloc, k, r, len, rows)? {
+    if are_word(k, r, len, rows) {
         return Ok(Found::Clean);
     }
     let copied = rows_of(alloc, k + r, len, rows)?;

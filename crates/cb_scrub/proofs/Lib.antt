@@ -5,4 +5,5 @@ pub mod Telling
 pub mod WorkedScrub
 pub mod FittingLaws
 pub mod MendingLaws
+pub mod ByRows
 pub mod Laws

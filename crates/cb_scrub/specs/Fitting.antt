@@ -4,7 +4,8 @@ use Rattle.cb_gf256.specs.Product.{◌⊗◌}
 use Rattle.cb_gf256.specs.Power.{power}
 use Rattle.cb_gf256.specs.CodeWord.{syndrome}
 
--- the syndrome of each power j from 1 to below r at a column is 2^(position*j) times that of power 0
+-- at a column the syndrome of each power j from 1 to below r is 2^(position*j) times that of
+-- power 0
 abbrev pub FitsAt : ℕ → List (List ℕ) → ℕ → ℕ → Type 0
 FitsAt r rows position column =
     (j : ℕ) → 1 ≤ j → j < r

@@ -7,7 +7,9 @@ mod finding;
 mod fitting;
 mod found;
 mod mending;
+mod testing;
 
 pub use examining::examine;
 pub use found::Found;
 pub use mending::mend;
+pub use testing::is_word;

@@ -5,6 +5,8 @@ ghost use Rattle.std.specs.Box.Ownership.{box_owns};
 use std::alloc::Allocator;
 use std::marker::Model;
 
+/// A box taken apart: its pointer, its allocator and, as a ghost, what it holds. It owns what the
+/// box owned.
 pub struct Parts<T, A: Allocator> {
     pub(super) ptr: *mut T,
     pub(super) alloc: A,
@@ -16,6 +18,7 @@ impl<T, A: Allocator> Model for Parts<T, A> {
 }
 
 impl<T, A: Allocator> Parts<T, A> {
+    /// The parts of a box.
     pub fn of(b: Box<T, A>) -> Parts<T, A>
     where
         T: Drop,
@@ -25,6 +28,7 @@ impl<T, A: Allocator> Parts<T, A> {
         Parts { ptr, alloc }
     }
 
+    /// The box that has these parts.
     pub fn into_box(self) -> Box<T, A>
         ensures { result.value ≡ self.value }
     {
