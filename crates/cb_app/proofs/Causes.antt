@@ -12,6 +12,7 @@ use Rattle.cb_types.specs.declared.reply.Reply.{Reply}
 use Rattle.cb_types.specs.declared.reply.Reply.TheVariants as answer
 use Rattle.cb_world.specs.declared.entry.Entry.{Entry}
 use Rattle.cb_world.specs.World.{WorldState}
+use Rattle.cb_core.proofs.Laws.{WritesNone, made_by}
 use Rattle.cb_core.specs.Narrow.{IsLong, IsLongMadeIf, IsNarrow}
 use Rattle.cb_rule.specs.declared.turn.Turn.{Turn}
 use Rattle.cb_rule.specs.declared.view.View.{View}
@@ -31,10 +32,8 @@ use Rattle.cb_app.specs.Telling.{AreOfOtherNodes}
 use Rattle.cb_app.proofs.CrashesTold.{IsLoss, lost_told, room_told}
 use Rattle.cb_app.proofs.FramesTold.{IsShort, fetch_lacks, frames_taken, land_lacks, make_counted}
 use Rattle.cb_app.proofs.FramesTold.{make_lacks, read_lacks, swap_lacks, write_lacks}
-use Rattle.cb_app.proofs.MadeStays.{made_by}
 use Rattle.cb_app.proofs.MadeTurns.{adds, few_made, made_before, made_in}
 use Rattle.cb_app.proofs.NarrowTurns.{found_narrow}
-use Rattle.cb_app.proofs.NeverWorn.{WritesNone}
 use Rattle.cb_app.proofs.Refusals.{Want, turn_want}
 use Rattle.cb_app.proofs.Refusals.Want.{full, lost, room, worn}
 use Rattle.cb_app.proofs.TurnsLater.{found_all, has_front}
@@ -207,7 +206,7 @@ module _ (c : Config) (ok : IsAccepted c) (v : View) (w : WorldState) (closed : 
 
     took_few : t.took.made ≤ objects s
     took_few = let z = gave_few in
-        let m = (adds 1 c u history.0 history.1 found t in_u).more in omega (arith, z, m)
+        let m = adds 1 c u history.0 history.1 found t in_u in omega (arith, z, m)
 
     made_old : total made_in old.turns ≡ objects s
     made_old = sym (all_alike old.turns) ∙ had

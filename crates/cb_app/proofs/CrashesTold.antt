@@ -24,6 +24,7 @@ use Rattle.cb_types.specs.declared.reply.Reply.TheVariants as answer
 use Rattle.cb_world.specs.Choices.{room_count}
 use Rattle.cb_world.specs.Empty.{empty_far}
 use Rattle.cb_world.specs.FarState.{FarState}
+use Rattle.cb_core.proofs.Laws.{IsShortOfRoom, MembersGoOn, TellsIf}
 use Rattle.cb_rule.specs.declared.turn.Turn.{Turn}
 use Rattle.cb_rule.specs.declared.view.View.{View}
 use Rattle.cb_rule.specs.Lists.{Has}
@@ -31,8 +32,7 @@ use Rattle.cb_rule.specs.Locking.{turn_number}
 use Rattle.cb_rule.specs.OneHistory.{IsOneHistory}
 use Rattle.cb_shared.specs.Turning.{Did}
 use Rattle.cb_app.specs.Telling.{AreOfOtherNodes}
-use Rattle.cb_app.proofs.TurnGoes.{IsShortOfRoom, MembersGoOn}
-use Rattle.cb_app.proofs.TurnHistory.{TellsIf, TurnGoes, at_gave, at_turn, each_goes}
+use Rattle.cb_app.proofs.TurnHistory.{at_gave, at_turn, each_leaves, each_tells}
 
 -- ---- the members, where one node has a new state
 -- a node is that one, or has the state that it had
@@ -219,9 +219,6 @@ module _ (first : ℕ) (c : Config) (ok : IsAccepted c) (v : View) (count : ℕ)
   abbrev KnowsCrashes : ℕ → FarState → Type 0
   KnowsCrashes n far = AreCrashes v.turns far.members
 
-  goes : (t : Turn) → Has t v.turns → TurnGoes c t
-  goes t there = each_goes first c v count last one ok t there
-
   start : KnowsCrashes 0 (empty_far first c)
   start node which epoch e =
       absurd (let none = none_crashed_at_first c.nodes node which in let f = sym none ∙ e in cc)
@@ -229,7 +226,7 @@ module _ (first : ℕ) (c : Config) (ok : IsAccepted c) (v : View) (count : ℕ)
   step : (t : Turn) → Has t v.turns → turn_number t < count → KnowsCrashes (turn_number t) t.took
       → KnowsCrashes (suc (turn_number t)) t.gave
   step t there low before = crashes_after v.turns t there t.job t.took.members t.gave.members t.reply refl
-      refl (goes t there).goes before
+      refl (each_leaves first c v count last one t there).members before
 
   pub found_crashes : (t : Turn) → Has t v.turns → AreCrashes v.turns t.took.members
   found_crashes t there = at_turn first c v count last one KnowsCrashes start step t there
@@ -243,7 +240,8 @@ module _ (first : ℕ) (c : Config) (ok : IsAccepted c) (v : View) (count : ℕ)
       → t.reply ≡ Some (answer.Unavailable id losses)
       → (c.r < length losses) × AreOfOtherNodes losses × AllByRecursion (IsLoss v.turns) losses
   lost_told t id losses there is =
-      let tells = subst (TellsIf c t.took t.gave) is (goes t there).tells in (
+      let tells = subst (TellsIf c t.took t.gave) is
+      (each_tells first c v count last one ok t there) in (
         tells.many,
         subst AreOfOtherNodes (sym tells.all)
             (lost_apart t.took.members tells.shards (apart_rec tells.shards tells.apart)),
@@ -255,4 +253,5 @@ module _ (first : ℕ) (c : Config) (ok : IsAccepted c) (v : View) (count : ℕ)
   pub room_told : (t : Turn) (frames loose nodes : ℕ) → Has t v.turns
       → t.reply ≡ Some (answer.NoRoom frames loose nodes)
       → IsShortOfRoom c (room_count t.gave.nodes t.gave.members) frames loose nodes
-  room_told t frames loose nodes there is = subst (TellsIf c t.took t.gave) is (goes t there).tells
+  room_told t frames loose nodes there is =
+      subst (TellsIf c t.took t.gave) is (each_tells first c v count last one ok t there)

@@ -17,6 +17,7 @@ use Rattle.cb_types.specs.declared.request.Request.TheVariants as line
 use Rattle.cb_types.specs.Table.{IsReplyOf}
 use Rattle.cb_world.specs.Empty.{empty_far}
 use Rattle.cb_world.specs.FarState.{FarState}
+use Rattle.cb_core.proofs.Laws.{MembersGoOn, epochs_in}
 use Rattle.cb_rule.specs.declared.turn.Turn.{Turn}
 use Rattle.cb_rule.specs.declared.view.View.{View}
 use Rattle.cb_rule.specs.Lists.{Has, times, total}
@@ -32,8 +33,7 @@ use Rattle.cb_shared.specs.Turning.{Did}
 use Rattle.cb_lanes.specs.Asked.{HasLineReply}
 use Rattle.cb_app.specs.Telling.{AreEpochs, epoch_of, epochs_of}
 use Rattle.cb_app.proofs.CountedTurns.{below, counts_all, counts_more, counts_none, counts_permute, is, stands, times_range}
-use Rattle.cb_app.proofs.TurnGoes.{MembersGoOn, epochs_in}
-use Rattle.cb_app.proofs.TurnHistory.{TurnGoes, at_last, each_goes, lone, number_of}
+use Rattle.cb_app.proofs.TurnHistory.{at_last, each_leaves, lone, number_of}
 
 abbrev pub turn_epochs : Turn → List ℕ
 turn_epochs t = epochs_in t.job t.reply
@@ -77,12 +77,10 @@ module _ (first : ℕ) (c : Config) (ok : IsAccepted c) (v : View) (count : ℕ)
   abbrev TellsEpochs : ℕ → FarState → Type 0
   TellsEpochs n far = (e : ℕ) → total (below turn_number (tells e) n) v.turns ≡ stands 1 far.members.epoch e
 
-  goes : (t : Turn) → Has t v.turns → TurnGoes c t
-  goes t there = each_goes first c v count last one ok t there
-
   begins : (t : Turn) → Has t v.turns
       → BeginsEpoch t.took.members.epoch t.gave.members.epoch (turn_epochs t)
-  begins t there = by_goes t.job t.took.members t.gave.members t.reply (goes t there).goes
+  begins t there = by_goes t.job t.took.members t.gave.members t.reply
+      (each_leaves first c v count last one t there).members
 
   step : (t : Turn) → Has t v.turns → turn_number t < count → TellsEpochs (turn_number t) t.took
       → TellsEpochs (suc (turn_number t)) t.gave

@@ -32,12 +32,11 @@ use Rattle.cb_core.specs.OrderParts.{FetchesBy}
 use Rattle.cb_core.specs.OrderParts.FetchesBy.{not_far as was_near, was_far as was_away}
 use Rattle.cb_core.specs.Turned.{Brings, ComesIn, Declines, FindsWhere, Makes, WinsRoom, WritesObject}
 use Rattle.cb_core.specs.Turned.{counted, done, worn}
+use Rattle.cb_core.proofs.Laws.{TellsNoLack, answered, declined_plain, fetch_told, lack_off, off, write_plain}
 use Rattle.cb_rule.specs.Locking.{Stood}
 use Rattle.cb_shared.specs.Turning.{DidAs, DidBy, IsReadReply, ReadsByPin, Slate, slate_run}
 use Rattle.cb_shared.specs.Turning.{slate_shows}
 use Rattle.cb_lanes.proofs.Laws.{frames_made}
-use Rattle.cb_app.proofs.NeverWorn.{fetch_told}
-use Rattle.cb_app.proofs.PlainReplies.{TellsNoLack, answered, declined_plain, off, write_plain}
 
 abbrev Hold : Type 0
 Hold = Holding Slate
@@ -143,8 +142,9 @@ module _ (c : Config) where
   behind a m r same narrow x = subst (Unless r) same (x (subst IsNarrow (sym same) narrow))
 
   finds : (h : ℕ) (a b : Hold) (r : Reply) → FindsWhere slate_run slate_shows h a r b → IsOther r
-  finds h a b r x = plain_other r (answered (λ w. r ≡ answer.Stays) (state_of x.rule.1.word)
-      x.rule.1.word h x.events r (λ e. off r answer.Stays refl e) x.rule.1.answer)
+  finds h a b r x = plain_other r (lack_off r (answered (λ w. r ≡ answer.Stays)
+      (state_of x.rule.1.word) x.rule.1.word h x.events r (λ e. off r answer.Stays refl e)
+      x.rule.1.answer))
 
   comes : (h : ℕ) (a b : Hold) (r : Reply) → IsNarrow a.far
       → ComesIn slate_run slate_shows c h a r b → Unless r a.far
@@ -175,8 +175,8 @@ module _ (c : Config) where
       → FetchesBy (desk_orders slate_run slate_shows c) h order a r keeps b → IsOther r
   fetches h order keeps a b r (was_near x never same) = finds h a b r x
   fetches h order keeps a b r (was_away m g find rows is same) = subst IsOther (sym is)
-      (fetch_told IsOther (λ id p. refl) (λ id losses. refl) refl m.far b.far rows.0.set
-      rows.0.position rows.3.set g rows.3.state)
+      (fetch_told IsOther (λ id p. refl) m.far b.far rows.0.set rows.0.position rows.3.set g
+      (λ broken. refl) refl rows.3.state)
 
   lands : (order : Option Kept) (a b : Hold) (r : Reply) → IsNarrow a.far
       → WithRoom c.frames (Lands slate_run slate_shows order) (WinsRoom slate_run slate_shows c)

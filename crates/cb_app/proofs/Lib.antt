@@ -22,11 +22,6 @@ mod WorkedLanes
 mod WorkedMapped
 mod WorkedThreads
 mod WorkedRun
-mod PlainReplies
-mod PairGoes
-mod TurnGoes
-mod TurnStops
-mod TurnKinds
 mod TurnHistory
 mod NarrowTurns
 mod PairsApart
@@ -35,10 +30,8 @@ mod WorkCounted
 mod EpochsTold
 mod CrashesTold
 mod AnswersTold
-mod NeverWorn
 mod WornLast
 mod WornTold
-mod MadeStays
 mod MadeTurns
 mod RoomyLines
 mod RangeTold

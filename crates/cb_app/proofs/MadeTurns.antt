@@ -7,16 +7,13 @@ use Rattle.cb_types.specs.declared.answer.Answer.{Answer}
 use Rattle.cb_types.specs.declared.config.Config.{Config}
 use Rattle.cb_types.specs.declared.job.Job.{Job}
 use Rattle.cb_types.specs.declared.job.Job.TheVariants as job
-use Rattle.cb_types.specs.declared.order.Kept.{Kept}
 use Rattle.cb_types.specs.declared.reply.Reply.{Reply}
 use Rattle.cb_types.specs.declared.reply.Reply.TheVariants as answer
 use Rattle.cb_types.specs.declared.request.Request.{Request}
 use Rattle.cb_types.specs.declared.request.Request.TheVariants as line
-use Rattle.cb_world.specs.declared.event.Event.{Event}
-use Rattle.cb_world.specs.declared.shown.Shown.{Shown}
 use Rattle.cb_world.specs.Empty.{empty_far}
 use Rattle.cb_world.specs.FarState.{FarState}
-use Rattle.cb_world.specs.Played.{played}
+use Rattle.cb_core.proofs.Laws.{made_by}
 use Rattle.cb_rule.specs.declared.turn.Turn.{Turn}
 use Rattle.cb_rule.specs.declared.view.View.{View}
 use Rattle.cb_rule.specs.Lists.{Has, total}
@@ -31,29 +28,11 @@ use Rattle.cb_record.specs.Deeds.{Deed, deed, happened, happening}
 use Rattle.cb_record.specs.Lists.{newest_first}
 use Rattle.cb_record.specs.Told.{tolds}
 use Rattle.cb_record.specs.Upheld.{as_part}
-use Rattle.cb_shared.specs.Turning.{Did, DidBy, PinLacks, ReadsByPin, held_by, slate_run, slate_shows}
+use Rattle.cb_shared.specs.Turning.{Did}
 use Rattle.cb_app.proofs.CountedTurns.{below, counts_all, counts_more, counts_none}
-use Rattle.cb_app.proofs.MadeStays.{CountsMakes, made_by, ordered_adds, ordered_stops_adds, stops_adds, turned_adds}
-use Rattle.cb_app.proofs.TurnHistory.{at_gave, at_last, at_turn, lone, number_of, lacks_same, pins_same}
+use Rattle.cb_app.proofs.TurnHistory.{at_gave, at_last, at_turn, each_leaves, lone, number_of}
 
 -- ---- one turn
-
-did_adds : (c : Config) (j : Job) (order : Option Kept) (reply : Option Reply) (keeps : Option Kept)
-    (start : Shown) (es : List Event) (took gave : FarState)
-    → DidBy c j order reply keeps start es took gave → CountsMakes c j took gave reply
-did_adds c j order (Some r) keeps start es took gave (inl (did, leaves)) =
-    turned_adds slate_run slate_shows ReadsByPin pins_same PinLacks lacks_same c j
-    (held_by start [] took) (held_by (played es start) es gave) r did
-did_adds c j order None keeps start es took gave (inl (did, leaves)) =
-    stops_adds slate_run slate_shows ReadsByPin pins_same PinLacks lacks_same c j
-    (held_by start [] took) (held_by (played es start) es gave) did.stops
-did_adds c j order (Some r) keeps start es took gave (inr did) =
-    ordered_adds slate_run slate_shows ReadsByPin pins_same PinLacks lacks_same c j order keeps
-    (held_by start [] took) (held_by (played es start) es gave) r did
-did_adds c j order None keeps start es took gave (inr did) =
-    ordered_stops_adds slate_run slate_shows ReadsByPin pins_same PinLacks lacks_same c j order
-    (held_by start [] took) (held_by (played es start) es gave) did.0
-
 -- how many objects a turn made
 abbrev pub made_in : Turn → ℕ
 made_in t = made_by t.job t.reply
@@ -74,16 +53,16 @@ module _ (first : ℕ) (c : Config) (v : View) (count : ℕ) (last : FarState)
   abbrev CountsMade : ℕ → FarState → Type 0
   CountsMade n far = (far.made ≡ total (below turn_number made_in n) v.turns) × (far.made ≤ c.handles)
 
-  pub adds : (t : Turn) → Has t v.turns → CountsMakes c t.job t.took t.gave t.reply
-  adds t there = did_adds c t.job t.order t.reply t.keeps t.start t.acts t.took t.gave (one.did t (v, (0, refl), there))
+  pub adds : (t : Turn) → Has t v.turns → t.gave.made ≡ t.took.made + made_in t
+  adds t there = (each_leaves first c v count last one t there).made
 
   step : (t : Turn) → Has t v.turns → turn_number t < count → CountsMade (turn_number t) t.took
       → CountsMade (suc (turn_number t)) t.gave
   step t there low before =
       let more = counts_more turn_number made_in (turn_number t) v.turns t
       (lone first c v count last one (turn_number t) low) there refl in
-      let a = before.0 in let b = (adds t there).more in
-      (omega (arith, more, a, b), (adds t there).few before.1)
+      let a = before.0 in let b = adds t there in
+      (omega (arith, more, a, b), (each_leaves first c v count last one t there).few before.1)
 
   start : CountsMade 0 (empty_far first c)
   start = let a = counts_none turn_number made_in v.turns in (omega (arith, a), omega arith)
@@ -94,7 +73,7 @@ module _ (first : ℕ) (c : Config) (v : View) (count : ℕ) (last : FarState)
       by : HasTurnNumber count t → (turn_number t < count) ⊎ (made_in t ≡ 0)
       by (inl less) = inl less
       by (inr z) = inr (let e = ap (λ (f : FarState). f.made) z.2 in
-          let more = (adds t there).more in omega (arith, e, more))
+          let more = adds t there in omega (arith, e, more))
 
   -- the last turn left as many as were made in all
   pub all_made : last.made ≡ total made_in v.turns

@@ -7,15 +7,14 @@ use Rattle.cb_types.specs.declared.config.Config.{Config}
 use Rattle.cb_types.specs.Config.{IsAccepted}
 use Rattle.cb_world.specs.Empty.{empty_far}
 use Rattle.cb_world.specs.FarState.{FarState}
-use Rattle.cb_core.proofs.Laws.{JoinsApart}
+use Rattle.cb_core.proofs.Laws.{AreSetsApart, JoinsApart, PairGoes}
 use Rattle.cb_rule.specs.declared.turn.Turn.{Turn}
 use Rattle.cb_rule.specs.declared.view.View.{View}
 use Rattle.cb_rule.specs.Lists.{Has}
 use Rattle.cb_rule.specs.Locking.{turn_number}
 use Rattle.cb_rule.specs.OneHistory.{IsOneHistory}
 use Rattle.cb_shared.specs.Turning.{Did}
-use Rattle.cb_app.proofs.PairGoes.{AreSetsApart, PairGoes}
-use Rattle.cb_app.proofs.TurnHistory.{at_gave, each_goes, sets_apart}
+use Rattle.cb_app.proofs.TurnHistory.{at_gave, each_leaves, sets_apart}
 
 joins_after : (far new : FarState) → PairGoes far new → AreSetsApart far → JoinsApart far
     → JoinsApart new
@@ -35,7 +34,7 @@ module _ (first : ℕ) (c : Config) (ok : IsAccepted c) (v : View) (count : ℕ)
   step : (t : Turn) → Has t v.turns → turn_number t < count → Joins (turn_number t) t.took
       → Joins (suc (turn_number t)) t.gave
   step t there low before =
-      joins_after t.took t.gave (each_goes first c v count last one ok t there).pair
+      joins_after t.took t.gave (each_leaves first c v count last one t there).pair
       (sets_apart c t.start t.took (one.sound t (v, (0, refl), there))) before
 
   pub given_joins : (t : Turn) → Has t v.turns → JoinsApart t.gave

@@ -9,17 +9,14 @@ use Rattle.cb_types.specs.declared.order.Kept.{Kept}
 use Rattle.cb_types.specs.declared.reply.Reply.{Reply}
 use Rattle.cb_types.specs.declared.reply.Reply.TheVariants as answer
 use Rattle.cb_world.specs.Codes.{HaveCodes, IsConfiguredCode}
-use Rattle.cb_world.specs.KeepCodes.{KeepCodes}
 use Rattle.cb_world.proofs.Laws.{empty_codes, have_codes}
 use Rattle.cb_world.specs.declared.event.Event.{Event}
 use Rattle.cb_world.specs.declared.shown.Shown.{Shown}
 use Rattle.cb_world.specs.Empty.{empty_far}
 use Rattle.cb_world.specs.FarState.{FarState}
 use Rattle.cb_world.specs.Played.{played}
-use Rattle.cb_world.specs.Sound.{Sound}
-use Rattle.cb_world.specs.World.{IsConfigured}
 use Rattle.cb_core.specs.Parts.{Holding}
-use Rattle.cb_core.specs.Turned.{counted}
+use Rattle.cb_core.proofs.Laws.{AreSetsApart, IsFine, IsPlain, LeavesFar, TellsIf, ordered_leaves, ordered_stopped_leaves, stopped_leaves, turned_leaves}
 use Rattle.cb_rule.specs.declared.turn.Turn.{Turn}
 use Rattle.cb_rule.specs.declared.view.View.{View}
 use Rattle.cb_rule.specs.Lists.{Has, times}
@@ -27,85 +24,41 @@ use Rattle.cb_rule.specs.Locking.{Stood, is_turn, turn_number}
 use Rattle.cb_rule.specs.OneHistory.{HasTurnNumber, IsOneHistory, Made}
 use Rattle.cb_rule.proofs.Laws.{by_case}
 use Rattle.cb_shared.specs.Turning.{Did, DidBy, held_by, IsReadReply, PinLacks, ReadsByPin, Slate, slate_run, slate_shows}
-use Rattle.cb_app.proofs.PairGoes.{AreSetsApart, PairGoes, pair_stays}
-use Rattle.cb_app.proofs.PlainReplies.{StandsAs, TellsNoLack, joining_of, members_of}
-use Rattle.cb_app.proofs.TurnGoes.{IsFine, MembersGoOn, TellsWant, fine_counted, none_told, ordered_goes, stays_on, turned_goes}
-use Rattle.cb_app.proofs.TurnKinds.{ordered_codes, ordered_stops_codes, stopped_codes, turned_codes}
-use Rattle.cb_app.proofs.TurnStops.{ordered_stops_same, stops_same}
 
 -- ---- one turn
--- what its reply tells, where it has one
-abbrev pub TellsIf : Config → FarState → FarState → Option Reply → Type 0
-TellsIf c far new None = Unit {0}
-TellsIf c far new (Some r) = TellsWant c far new r
-
--- it leaves the members and the pair so, and tells so of the far states that it found and left
-pub record TurnGoes (c : Config) (t : Turn) : Type 0 where
-  pub goes : MembersGoOn t.job t.took.members t.gave.members t.reply
-  pub pair : PairGoes t.took t.gave
-  pub tells : TellsIf c t.took t.gave t.reply
-
-read_plain : (r : Reply) → IsReadReply r → TellsNoLack r
+read_plain : (r : Reply) → IsReadReply r → IsPlain r
 read_plain (answer.Unavailable id l) x = absurd x
 read_plain (answer.NoRoom f l n) x = absurd x
+read_plain answer.Worn x = absurd x
 read_plain r x = refl
 
-pins_plain : (h : ℕ) (a b : Holding Slate) (r : Reply) → ReadsByPin h a r b → (b.far ≡ a.far) × TellsNoLack r
+pins_plain : (h : ℕ) (a b : Holding Slate) (r : Reply) → ReadsByPin h a r b
+    → (b.far ≡ a.far) × IsPlain r
 pins_plain h a b r x = (ap (λ (z : Holding Slate). z.far) x.0, read_plain r x.1)
 
-pub pins_same : (h : ℕ) (a b : Holding Slate) (r : Reply) → ReadsByPin h a r b → b.far ≡ a.far
-pins_same h a b r x = ap (λ (z : Holding Slate). z.far) x.0
-
-pub lacks_same : (h : ℕ) (a b : Holding Slate) → PinLacks h a b → b.far ≡ a.far
+lacks_same : (h : ℕ) (a b : Holding Slate) → PinLacks h a b → b.far ≡ a.far
 lacks_same h a b x = ap (λ (z : Holding Slate). z.far) x
 
--- behind a turn that found no memory
-stopped_goes : (c : Config) (j : Job) (took gave : FarState) → StandsAs (counted took j) gave
-    → MembersGoOn j took.members gave.members None × PairGoes took gave × TellsIf c took gave None
-stopped_goes c j took gave same = (
-  stays_on j took.members gave.members None (members_of (counted took j) gave same) (none_told j),
-  pair_stays took gave (joining_of (counted took j) gave same),
-  tt,
-)
-
-did_goes : (c : Config) → IsAccepted c → (j : Job) (order : Option Kept) (reply : Option Reply)
-    (keeps : Option Kept) (start : Shown) (es : List Event) (took gave : FarState) → IsFine c took
-    → DidBy c j order reply keeps start es took gave
-    → MembersGoOn j took.members gave.members reply × PairGoes took gave × TellsIf c took gave reply
-did_goes c ok j order (Some r) keeps start es took gave is (inl (did, leaves)) =
-    let z = turned_goes slate_run slate_shows ReadsByPin pins_plain c ok j (held_by start [] took)
-    (held_by (played es start) es gave) r is did in
-    (z.goes, z.pair, z.tells)
-did_goes c ok j order (Some r) keeps start es took gave is (inr did) =
-    let z = ordered_goes slate_run slate_shows ReadsByPin pins_plain c ok j order keeps
-    (held_by start [] took) (held_by (played es start) es gave) r is did in
-    (z.goes, z.pair, z.tells)
-did_goes c ok j order None keeps start es took gave is (inl (did, leaves)) =
-    stopped_goes c j took gave (stops_same slate_run slate_shows ReadsByPin pins_plain
-    PinLacks lacks_same c ok j (held_by start [] (counted took j))
-    (held_by (played es start) es gave) (fine_counted c took j is) did.stops)
-did_goes c ok j order None keeps start es took gave is (inr did) =
-    stopped_goes c j took gave (ordered_stops_same slate_run slate_shows ReadsByPin pins_plain
-    PinLacks lacks_same c ok j order (held_by start [] (counted took j))
-    (held_by (played es start) es gave) did.0.stops)
-
--- it makes no other code
-did_codes : (c : Config) → IsAccepted c → (j : Job) (order : Option Kept) (reply : Option Reply)
+-- what it leaves, by its job
+did_leaves : (c : Config) (j : Job) (order : Option Kept) (reply : Option Reply)
     (keeps : Option Kept) (start : Shown) (es : List Event) (took gave : FarState)
-    → IsConfigured c took → Sound start took
-    → DidBy c j order reply keeps start es took gave → KeepCodes took gave
-did_codes c ok j order (Some r) keeps start es took gave is sound (inl (did, leaves)) =
-    turned_codes slate_run slate_shows c ok start ReadsByPin pins_same PinLacks lacks_same j
-    (held_by start [] took) (held_by (played es start) es gave) r is sound did
-did_codes c ok j order None keeps start es took gave is sound (inl (did, leaves)) =
-    stopped_codes slate_run slate_shows c ok start ReadsByPin pins_same PinLacks lacks_same j
-    (held_by start [] took) (held_by (played es start) es gave) is did
-did_codes c ok j order (Some r) keeps start es took gave is sound (inr did) =
-    ordered_codes slate_run slate_shows c ok j order (held_by start [] took)
-    (held_by (played es start) es gave) is keeps r did
-did_codes c ok j order None keeps start es took gave is sound (inr did) =
-    ordered_stops_codes slate_run slate_shows c ok j order (held_by start [] took)
-    (held_by (played es start) es gave) is did.0
+    → DidBy c j order reply keeps start es took gave → LeavesFar c j took gave reply
+did_leaves c j order (Some r) keeps start es took gave (inl (did, stays)) =
+    turned_leaves slate_run slate_shows c ReadsByPin pins_plain PinLacks lacks_same j
+    (held_by start [] took) (held_by (played es start) es gave) r did
+did_leaves c j order None keeps start es took gave (inl (did, stays)) =
+    stopped_leaves slate_run slate_shows c ReadsByPin pins_plain PinLacks lacks_same j
+    (held_by start [] took) (held_by (played es start) es gave) did
+did_leaves c j order (Some r) keeps start es took gave (inr did) =
+    ordered_leaves slate_run slate_shows c j order keeps (held_by start [] took)
+    (held_by (played es start) es gave) r did
+did_leaves c j order None keeps start es took gave (inr did) =
+    ordered_stopped_leaves slate_run slate_shows c j order (held_by start [] took)
+    (held_by (played es start) es gave) did.0
+
+pub turn_leaves : (c : Config) (t : Turn) → Did c t → LeavesFar c t.job t.took t.gave t.reply
+turn_leaves c t did =
+    did_leaves c t.job t.order t.reply t.keeps t.start t.acts t.took t.gave did
 
 -- the sets of a sound far state stand on different nodes
 pub sets_apart : (c : Config) (k : Shown) (far : FarState) → Stood c k far → AreSetsApart far
@@ -121,11 +74,6 @@ fine_of c k far stood codes = record {
   apart = sets_apart c k far stood;
 }
 
-pub turn_goes : (c : Config) → IsAccepted c → (t : Turn) → IsFine c t.took → Did c t → TurnGoes c t
-turn_goes c ok t is did =
-    let z = did_goes c ok t.job t.order t.reply t.keeps t.start t.acts t.took t.gave is did in
-    record { goes = z.0; pair = z.1; tells = z.2 }
-
 -- ---- all of them
 -- what is counted is there
 has_times : {A : Type 0} (t : A → Bool) (xs : List A) → 1 ≤ times t xs
@@ -140,6 +88,10 @@ module _ (first : ℕ) (c : Config) (v : View) (count : ℕ) (last : FarState)
     (one : IsOneHistory Did first c (v ∷ []) count last) where
   made : (t : Turn) → Has t v.turns → Made (v ∷ []) t
   made t there = (v, (0, refl), there)
+
+  -- what each turn leaves
+  pub each_leaves : (t : Turn) → Has t v.turns → LeavesFar c t.job t.took t.gave t.reply
+  each_leaves t there = turn_leaves c t (one.did t (made t there))
 
   -- each number stands once
   pub lone : (k : ℕ) → k < count → times (is_turn k) v.turns ≡ 1
@@ -239,8 +191,7 @@ module _ (first : ℕ) (c : Config) (v : View) (count : ℕ) (last : FarState)
   codes_step ok t there low before =
       let stood = one.sound t (made t there) in
       have_codes (IsConfiguredCode c) t.took t.gave
-      (did_codes c ok t.job t.order t.reply t.keeps t.start t.acts t.took t.gave stood.configured stood.sound
-      (one.did t (made t there))) before
+      ((each_leaves t there).codes ok stood.configured t.start stood.sound) before
 
   pub found_codes : IsAccepted c → (t : Turn) → Has t v.turns
       → HaveCodes (IsConfiguredCode c) t.took
@@ -251,7 +202,7 @@ module _ (first : ℕ) (c : Config) (v : View) (count : ℕ) (last : FarState)
   gave_codes ok t there = at_gave Codes codes_start (codes_step ok)
       (HaveCodes (IsConfiguredCode c)) (λ n far codes. codes) t there
 
-  pub each_goes : IsAccepted c → (t : Turn) → Has t v.turns → TurnGoes c t
-  each_goes ok t there =
-      turn_goes c ok t (fine_of c t.start t.took (one.sound t (made t there)) (found_codes ok t there))
-      (one.did t (made t there))
+  -- and what its reply tells
+  pub each_tells : IsAccepted c → (t : Turn) → Has t v.turns → TellsIf c t.took t.gave t.reply
+  each_tells ok t there = (each_leaves t there).tells ok
+      (fine_of c t.start t.took (one.sound t (made t there)) (found_codes ok t there))

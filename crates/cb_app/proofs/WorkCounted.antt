@@ -1,55 +1,29 @@
 -- Each turn of a closed record is counted for its job's kind in the far state that it gave, and for
 -- no other one: so the last far state counted those of the record.
-use Rattle.std.proofs.Common.{◌≡◌, ◌≢◌, ◌⊎◌, ℕ, suc, ◌+◌, ◌^◌, ◌<◌, ◌≤◌, cond, eqb, Bool, List, [], ◌∷◌, length, Option, None, Some, refl, sym, ap, ◌∙◌, subst, inl, inr, arith, eqb-true, eq-eqb, true≢false, get_or, set, get_or-set_same, get_or-set_other}
+use Rattle.std.proofs.Common.{◌≡◌, ◌≢◌, ◌⊎◌, ℕ, suc, ◌+◌, ◌^◌, ◌<◌, ◌≤◌, cond, eqb, Bool, List, [], ◌∷◌, length, refl, sym, ap, ◌∙◌, subst, inl, inr, arith, eqb-true, eq-eqb, true≢false, get_or, set, get_or-set_same, get_or-set_other}
 use Rattle.std.specs.Prelude.{slice_index}
 use Rattle.std.proofs.lemmas.List.{get_or-replicate}
 use Rattle.cb_types.specs.declared.config.Config.{Config}
 use Rattle.cb_types.specs.Config.{IsAccepted}
 use Rattle.cb_types.specs.declared.job.Job.{Job}
 use Rattle.cb_types.specs.declared.job.Job.TheVariants as job
-use Rattle.cb_types.specs.declared.order.Kept.{Kept}
-use Rattle.cb_types.specs.declared.reply.Reply.{Reply}
 use Rattle.cb_types.specs.Jobs.{job_index}
-use Rattle.cb_world.specs.declared.event.Event.{Event}
-use Rattle.cb_world.specs.declared.shown.Shown.{Shown}
 use Rattle.cb_world.specs.Empty.{empty_far}
 use Rattle.cb_world.specs.FarState.{FarState}
-use Rattle.cb_world.specs.Played.{played}
-use Rattle.cb_world.specs.Sound.{Sound}
-use Rattle.cb_world.specs.World.{IsConfigured}
+use Rattle.cb_core.proofs.Laws.{CountsKind, kinds}
 use Rattle.cb_rule.specs.declared.turn.Turn.{Turn}
 use Rattle.cb_rule.specs.declared.view.View.{View}
 use Rattle.cb_rule.specs.Lists.{Has, times, total}
 use Rattle.cb_rule.specs.Locking.{turn_number}
 use Rattle.cb_rule.specs.OneHistory.{HasTurnNumber, IsOneHistory}
 use Rattle.cb_rule.proofs.Laws.{by_case}
-use Rattle.cb_shared.specs.Turning.{Did, DidBy, PinLacks, ReadsByPin, held_by, slate_run, slate_shows}
+use Rattle.cb_shared.specs.Turning.{Did}
 use Rattle.cb_workers.specs.declared.worker.Worker.{Worker}
 use Rattle.cb_app.specs.Crew.{turns_as, work_in}
 use Rattle.cb_app.specs.Telling.{CountsWorkers, counted_as, turns_by}
 use Rattle.cb_app.proofs.CountedTurns.{below, counts_all, counts_more, counts_none}
-use Rattle.cb_app.proofs.TurnHistory.{at_last, lone, number_of, lacks_same, pins_same}
-use Rattle.cb_app.proofs.TurnKinds.{CountsKind, kinds, ordered_counts, ordered_stops_counts, stopped_counts, turned_counts}
+use Rattle.cb_app.proofs.TurnHistory.{at_last, each_leaves, lone, number_of}
 use Rattle.cb_app.proofs.WorkDone.{turns_same}
-
--- ---- one turn
-
-did_counts : (c : Config) → IsAccepted c → (j : Job) (order : Option Kept) (reply : Option Reply)
-    (keeps : Option Kept) (start : Shown) (es : List Event) (took gave : FarState)
-    → IsConfigured c took → (s : Shown) → Sound s took
-    → DidBy c j order reply keeps start es took gave → CountsKind j took gave
-did_counts c ok j order (Some r) keeps start es took gave is s sound (inl (did, same)) =
-    turned_counts slate_run slate_shows c ok s ReadsByPin pins_same PinLacks lacks_same j
-    (held_by start [] took) (held_by (played es start) es gave) r is sound did
-did_counts c ok j order None keeps start es took gave is s sound (inl (did, same)) =
-    stopped_counts slate_run slate_shows c ok s ReadsByPin pins_same PinLacks lacks_same j
-    (held_by start [] took) (held_by (played es start) es gave) is did
-did_counts c ok j order (Some r) keeps start es took gave is s sound (inr did) =
-    ordered_counts slate_run slate_shows c ok j order (held_by start [] took)
-    (held_by (played es start) es gave) is keeps r did
-did_counts c ok j order None keeps start es took gave is s sound (inr did) =
-    ordered_stops_counts slate_run slate_shows c ok j order (held_by start [] took)
-    (held_by (played es start) es gave) is did.0
 
 -- ---- numbers by kind
 abbrev is_kind : ℕ → Turn → Bool
@@ -88,8 +62,7 @@ module _ (first : ℕ) (c : Config) (ok : IsAccepted c) (v : View) (count : ℕ)
 
   counts : (t : Turn) → Has t v.turns → CountsKind t.job t.took t.gave
   counts t there = let z = one.sound t (v, (0, refl), there) in
-      did_counts c ok t.job t.order t.reply t.keeps t.start t.acts t.took t.gave z.configured t.start z.sound
-      (one.did t (v, (0, refl), there))
+      (each_leaves first c v count last one t there).counts ok z.configured t.start z.sound
 
   step : (t : Turn) → Has t v.turns → turn_number t < count → Counted (turn_number t) t.took
       → Counted (suc (turn_number t)) t.gave

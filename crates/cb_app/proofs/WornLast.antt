@@ -30,21 +30,14 @@ use Rattle.cb_mutate.specs.FreeRule.{FreeAs}
 use Rattle.cb_mutate.specs.WriteRule.{NextVersion, WriteHere}
 use Rattle.cb_core.specs.Parts.{Holding, WhereItIs, near, declined, stays_far, brought}
 use Rattle.cb_core.specs.Turned.{Brings, Declines, Frees, IsDeclined, Turned, WritesObject, counted, done, worn}
+use Rattle.cb_core.proofs.Laws.{absent, brought_unworn, is_worn, worn_off}
 use Rattle.cb_rule.specs.Lists.{Has}
 use Rattle.cb_record.proofs.Laws.{has_right}
 use Rattle.cb_record.specs.Needs.{the_object}
-use Rattle.cb_shared.specs.Turning.{IsReadReply, ReadsByPin, Slate, held_by, slate_run, slate_shows}
-use Rattle.cb_app.proofs.NeverWorn.{Unworn, absent, brings, is_worn}
+use Rattle.cb_shared.specs.Turning.{ReadsByPin, Slate, held_by, slate_run, slate_shows}
 
 abbrev Hold : Type 0
 Hold = Holding Slate
-
-read_unworn : (r : Reply) → IsReadReply r → Unworn r
-read_unworn answer.Worn x = absurd x
-read_unworn r x = refl
-
-pub by_pin : (h : ℕ) (a b : Hold) (r : Reply) → ReadsByPin h a r b → Unworn r
-by_pin h a b r x = read_unworn r x.1
 
 -- ---- what was found and told of an object before it was changed
 no_look : (h w : ℕ) (es : List Event) → NoLook h es → IsFound h w es → ⊥
@@ -207,7 +200,7 @@ last_claimed h n words start before es all whole is taken =
     )
 
 not_absent : (q : State) (h : ℕ) (es : List Event) → AbsentAs q h es answer.Worn → ⊥
-not_absent q h es x = worn_is answer.Worn (absent q h es answer.Worn x) refl
+not_absent q h es x = worn_is answer.Worn (worn_off answer.Worn (absent q h es answer.Worn x)) refl
 
 write_worn : (h at : ℕ) (bytes : List ℕ) (start : Shown) (a b : Hold)
     → WritesObject slate_run slate_shows h at bytes a answer.Worn b → HadLast h start b.desk.acts
@@ -302,7 +295,7 @@ where_worn c h at bytes a b sound here (declined m x d) =
     declined_worn h at bytes (length bytes) a m b sound x here d
 where_worn c h at bytes a b sound here (stays_far m n x d bring never) =
     absurd (worn_is answer.Worn
-    (brings slate_run slate_shows ReadsByPin by_pin c h n b answer.Worn bring) refl)
+    (brought_unworn slate_run slate_shows c h n b answer.Worn bring) refl)
 where_worn c h at bytes a b sound here (brought m n o f x d bring y) =
     write_worn h at bytes a.desk.known o b y
 

@@ -43,28 +43,20 @@ use Rattle.cb_record.specs.Told.{Told, tolds}
 use Rattle.cb_record.specs.Upheld.{as_part}
 use Rattle.cb_core.specs.Jobs.{NeedsNoOrder}
 use Rattle.cb_shared.proofs.Laws.{asked_alone}
-use Rattle.cb_shared.specs.Turning.{Did, DidAs, DidBy, ReadsByPin, slate_run, slate_shows}
+use Rattle.cb_shared.specs.Turning.{Did, DidAs}
 use Rattle.cb_lanes.specs.Asked.{HasLineReply, asked}
+use Rattle.cb_core.proofs.Laws.{WritesNone}
 use Rattle.cb_app.specs.ByLane.{by_lane, lanes_up_to, of_lane}
 use Rattle.cb_app.specs.Telling.{TellsWorn}
 use Rattle.cb_app.proofs.AnswersTold.{InThreads, RunsIn, find_for}
-use Rattle.cb_app.proofs.NeverWorn.{WritesNone, worn_last, worn_with}
 use Rattle.cb_app.proofs.RangeTold.{written}
-use Rattle.cb_app.proofs.TurnHistory.{number_of}
-use Rattle.cb_app.proofs.WornLast.{ClaimsFoundHere, HadLast, by_pin, free_last, write_last}
+use Rattle.cb_app.proofs.TurnHistory.{number_of, turn_leaves}
+use Rattle.cb_app.proofs.WornLast.{ClaimsFoundHere, HadLast, free_last, write_last}
 
 -- ---- one turn
 turn_worn : (c : Config) (t : Turn) → Did c t → WritesNone t.job → t.reply ≡ Some answer.Worn
     → turn_number t ≡ 2 ^ 40
-turn_worn c t did none is =
-    by (subst (λ (o : Option Reply). DidBy c t.job t.order o t.keeps t.start t.acts t.took t.gave)
-    is did)
-  where
-    by : DidBy c t.job t.order (Some answer.Worn) t.keeps t.start t.acts t.took t.gave
-        → turn_number t ≡ 2 ^ 40
-    by (inl x) = worn_last slate_run slate_shows ReadsByPin by_pin c t.job none _ _ answer.Worn x.0 refl
-    by (inr x) = worn_with slate_run slate_shows ReadsByPin by_pin c t.job none t.order t.keeps _ _
-        answer.Worn x refl
+turn_worn c t did none is = (turn_leaves c t did).worn none is
 
 -- ---- the turn that a line needs is of such a job, where the line's own is
 abbrev IsNoWrite : Option Job → Type 0

@@ -7,6 +7,10 @@ pub use Rattle.cb_core.proofs.Epochs.{lead_rises, pin_far, step_rises, unpin_far
 pub use Rattle.cb_core.proofs.FewLost.{CrashedAmong, never_broken, never_gone}
 pub use Rattle.cb_core.proofs.InstallAtDesk.{install_at_desk, install_desk_leaves}
 pub use Rattle.cb_core.proofs.KeptParts.{IsGood}
+pub use Rattle.cb_core.proofs.JobsLeave.{brought_unworn, ordered_leaves, ordered_stopped_leaves, stopped_leaves, turned_leaves}
+pub use Rattle.cb_core.proofs.LeavesFar.{CountsKind, IsFine, IsShortOfRoom, LeavesFar, MembersGoOn, TellsIf, WritesNone, epochs_in, kinds}
+pub use Rattle.cb_core.proofs.PairGoes.{AreSetsApart, PairGoes}
+pub use Rattle.cb_core.proofs.RulesLeave.{IsPlain, TellsNoLack, Unworn, absent, answered, declined_plain, fetch_told, is_worn, lack_off, made_by, off, worn_off, write_plain}
 pub use Rattle.cb_core.proofs.NodesStay.{IsWholeJob, crash_stays, join_stays}
 pub use Rattle.cb_core.proofs.PartsCodes.{turn_codes}
 pub use Rattle.cb_core.proofs.NowIn.{are_gone}

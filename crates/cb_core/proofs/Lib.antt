@@ -28,6 +28,10 @@ pub mod ReadTurns
 pub mod TurnComes
 pub mod TurnCarries
 pub mod TurnLeft
+mod RulesLeave
+mod PairGoes
+mod LeavesFar
+mod JobsLeave
 pub mod WorldKept
 pub mod OrderedKeeps
 pub mod OrderedWorld

@@ -1,5 +1,5 @@
 -- What the pair that is joining is behind a turn; and behind an eviction each set stands on
--- different nodes, where each did before. It is of the rules alone, and would fit cb_core.
+-- different nodes, where each did before.
 use Rattle.std.proofs.Common.{◌≡◌, ◌≢◌, ◌⊎◌, ℕ, ◌+◌, Bool, true, false, cond, nat_cmp, nat_eq, List, length, get_or, take, Option, None, Some, refl, sym, ap, ◌∙◌, subst, inl, inr, arith}
 use Rattle.std.specs.Cmp.{nat_cmp_total}
 use Rattle.std.specs.FinMap as map
