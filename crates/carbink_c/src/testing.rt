@@ -14,13 +14,7 @@ use cb_scrub::is_word;
 /// `is_word` to 1 where they are, and to 0 where they are none. Where the answer is not Done,
 /// `is_word` stays as it is.
 #[unsafe(no_mangle)]
-pub extern "C" fn carbink_is_word(
-    k: u32,
-    r: u32,
-    len: u32,
-    rows: &[u8],
-    is_word: &mut u32,
-) -> u32
+pub extern "C" fn carbink_is_word(k: u32, r: u32, len: u32, rows: &[u8], is_word: &mut u32) -> u32
     ensures { IsNumberOf (Ends k r len (length rows.now ≡ (k + r) * len) Unit
         (is_word.new ≡ is_word.old) (TellsWord k r (cut_rows (k + r) len rows.now) is_word.new))
         result }
