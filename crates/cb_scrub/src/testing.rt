@@ -104,11 +104,7 @@ fn block_syndromes<const R: usize>(
 
 /// Each of the sums times its power, and a block.
 #[inline(always)]
-fn with_row<const R: usize>(
-    sums: [u8x32; R],
-    powers: &[Products; 4],
-    block: u8x32,
-) -> [u8x32; R]
+fn with_row<const R: usize>(sums: [u8x32; R], powers: &[Products; 4], block: u8x32) -> [u8x32; R]
     requires few { R ≤ 4 }
     requires powers { (j : ℕ) → j < 4 → slice_index powers.now j ≡ power 2 j }
     ensures count { length result ≡ R }
