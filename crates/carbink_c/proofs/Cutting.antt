@@ -1,11 +1,14 @@
 -- Rows one after another in a block, and the rows cut out of it.
-use Rattle.std.proofs.Common.{◌≡◌, ℕ, zero, suc, ◌+◌, ◌-◌, ◌*◌, ◌^◌, ◌<◌, ◌≤◌, List, [], ◌∷◌, ◌++◌, length, take, drop, get_or, replicate, set, All, refl, sym, ap, ap₂, ◌∙◌, subst, arith}
+use Rattle.std.proofs.Common.{◌≡◌, ℕ, Bool, true, false, zero, suc, ◌+◌, ◌-◌, ◌*◌, ◌^◌, ◌<◌, ◌≤◌, List, [], ◌∷◌, ◌++◌, length, take, drop, get_or, replicate, set, All, refl, sym, ap, ap₂, ◌∙◌, subst, arith}
 use Rattle.std.specs.List.{concat}
-use Rattle.std.proofs.Math.Nat.{suc-mul, zero-mul, add_comm, mul-le-mul_right}
+use Rattle.std.proofs.Math.Nat.{add-mul, suc-mul, zero-add, zero-mul, add_comm, mul-le-mul_right}
 use Rattle.std.proofs.lemmas.List.{length-take-le, length-drop, drop-drop, drop-take, get_or_default, take-take, take-append-drop, take_at, drop_at, append-nil, length-set, length-replicate, take_all, take_more, take_more_set}
 use Rattle.std.proofs.lemmas.List.Folds.{concat-append}
 use Rattle.std.proofs.lemmas.List.Elements.{All-cons, All-drop, All-replicate, All-set, All-take}
 use Rattle.std.proofs.lemmas.Slice.{take-put_mid, drop-put_mid}
+use Rattle.std.proofs.lemmas.Slice.Eq.{bytes_eq-Decides}
+use Rattle.std.proofs.Math.Bool.{not}
+use Rattle.std.specs.Str.{bytes_eq}
 use borrow.Rule.Slice.PartMut.{put_mid}
 use Rattle.cb_gf256.specs.Rows.{row_at, HaveLength, HoldBytes}
 use Rattle.cb_gf256.specs.Block.{cut_rows, with_row}
@@ -24,11 +27,33 @@ cut_row (suc n) len block (suc i) h =
     cut_row n len (drop len block) i (omega arith)
     ∙ ap (take len) (drop-drop (i * len) len block ∙ ap (λ k. drop k block) (add_comm len (i * len) ∙ sym (suc-mul i len)))
 
+-- the rows of a block are those of its front and those behind them
+pub cut_split : (k r len : ℕ) (block : List ℕ) → cut_rows (k + r) len block ≡ cut_rows k len (take (k * len) block) ++ cut_rows r len (drop (k * len) block)
+cut_split zero r len block =
+    ap (λ n. cut_rows n len block) (zero-add r) ∙ ap (λ n. cut_rows r len (drop n block)) (sym (zero-mul len))
+cut_split (suc k) r len block =
+    let more : suc k + r ≡ suc (k + r) = omega arith in
+    let width : suc k * len ≡ len + k * len = suc-mul k len ∙ add_comm (k * len) len in
+    let short : len ≤ suc k * len = omega (arith, width) in
+    ap (λ n. cut_rows n len block) more
+    ∙ ap (λ xs. take len block ∷ xs) (cut_split k r len (drop len block))
+    ∙ ap₂ (λ x xs. x ∷ (cut_rows k len xs ++ cut_rows r len (drop (k * len) (drop len block))))
+    (sym (take-take len (suc k * len) block short))
+    (sym (ap (λ n. drop len (take n block)) width ∙ drop-take len (k * len) block))
+    ∙ ap (λ xs. cut_rows (suc k) len (take (suc k * len) block) ++ cut_rows r len xs) (drop-drop (k * len) len block ∙ ap (λ n. drop n block) (sym width))
+
 pub cut_bytes : (n len : ℕ) (block : List ℕ) → All (λ x. x < 2 ^ 8) block → HoldBytes (cut_rows n len block)
 cut_bytes zero len block bytes = λ k d h. absurd (omega (arith, h))
 cut_bytes (suc n) len block bytes =
     All-cons (All (λ x. x < 2 ^ 8)) (take len block) (cut_rows n len (drop len block)) (All-take (λ x. x < 2 ^ 8) len block bytes)
     (cut_bytes n len (drop len block) (All-drop (λ x. x < 2 ^ 8) len block bytes))
+
+-- a buffer of k + r rows has k rows in front and r behind them
+pub front_sized : (k r len : ℕ) (block : List ℕ) → length block ≡ (k + r) * len → length (take (k * len) block) ≡ k * len
+front_sized k r len block sized = length-take-le (k * len) block (omega (arith, sized, add-mul k r len))
+
+pub behind_sized : (k r len : ℕ) (block : List ℕ) → length block ≡ (k + r) * len → length (drop (k * len) block) ≡ r * len
+behind_sized k r len block sized = length-drop (k * len) block ∙ omega (arith, sized, add-mul k r len)
 
 -- what a slice of bytes is known to hold
 pub are_bytes : (block : List ℕ) → ((i : ℕ) → get_or block i 0 < 2 ^ 8) → All (λ x. x < 2 ^ 8) block
@@ -138,3 +163,37 @@ pub rows_all : (len count i : ℕ) (block : List ℕ) (rows : List (List ℕ)) �
 rows_all len count i block rows all so_far =
     let cut = cut_rows count len block in
     sym (take_all i rows (omega (arith, all, so_far.count_is))) ∙ so_far.front ∙ take_all i cut (omega (arith, all, cut_count count len block))
+
+-- ---- a block that is compared with rows
+
+told_same : (b : Bool) → not b ≡ false → b ≡ true
+told_same true e = refl
+told_same false e = sym e
+
+module _ (len i : ℕ) (rows : List (List ℕ)) (block row : List ℕ) (within : i < length rows) (is : row ≡ row_at rows i) where
+  abbrev part : List ℕ
+  part = take (i * len + len - i * len) (drop (i * len) block)
+
+  cut_part : row_at (cut_rows (length rows) len block) i ≡ part
+  cut_part =
+      let width : len ≡ i * len + len - i * len = omega arith in
+      cut_row (length rows) len block i within ∙ ap (λ n. take n (drop (i * len) block)) width
+
+  -- row i is that of the block
+  pub same_more : not (bytes_eq row part) ≡ false → take i (cut_rows (length rows) len block) ≡ take i rows → take (i + 1) (cut_rows (length rows) len block) ≡ take (i + 1) rows
+  same_more told front =
+      let same : row ≡ part = (bytes_eq-Decides row part).0 (told_same (bytes_eq row part) told) in
+      take_more (cut_rows (length rows) len block) i [] (omega (arith, cut_count (length rows) len block, within))
+      ∙ ap₂ (λ xs x. xs ++ x ∷ []) front (cut_part ∙ sym same ∙ is) ∙ sym (take_more rows i [] within)
+
+  -- row i is another than that of the block
+  pub other_row : not (bytes_eq row part) ≡ true → cut_rows (length rows) len block ≡ rows → ⊥
+  other_row told same =
+      let equal : row ≡ part = is ∙ ap (λ xs. row_at xs i) (sym same) ∙ cut_part in
+      let e : bytes_eq row part ≡ true = (bytes_eq-Decides row part).1 equal in
+      let contra : false ≡ true = ap not (sym e) ∙ told in cc
+
+pub same_all : (len i : ℕ) (rows : List (List ℕ)) (block : List ℕ) → i ≡ length rows → take i (cut_rows (length rows) len block) ≡ take i rows → cut_rows (length rows) len block ≡ rows
+same_all len i rows block all front =
+    let cut = cut_rows (length rows) len block in
+    sym (take_all i cut (omega (arith, all, cut_count (length rows) len block))) ∙ front ∙ take_all i rows (omega (arith, all))

@@ -1,8 +1,8 @@
 -- What the calls make of the rows of a buffer.
-use Rattle.std.proofs.Common.{◌≡◌, ℕ, ◌+◌, ◌-◌, ◌*◌, ◌^◌, ◌<◌, ◌≤◌, Bool, List, [], ◌++◌, length, get_or, All, Contains, sym, ap, ◌∙◌, subst, arith}
+use Rattle.std.proofs.Common.{◌≡◌, ℕ, ◌+◌, ◌-◌, ◌*◌, ◌^◌, ◌<◌, ◌≤◌, Bool, List, [], ◌++◌, length, take, drop, get_or, All, Contains, sym, ap, ap₂, ◌∙◌, subst, arith}
 use Rattle.std.specs.Bool.{IsTrue}
 use Rattle.std.proofs.lemmas.List.{get_or_default}
-use Rattle.std.proofs.lemmas.List.Elements.{All-set}
+use Rattle.std.proofs.lemmas.List.Elements.{All-drop, All-set}
 use Rattle.cb_gf256.specs.Rows.{row_at, rows_at, HaveLength, HoldBytes, AreRows}
 use Rattle.cb_gf256.specs.Block.{cut_rows}
 use Rattle.cb_gf256.specs.CodeWord.{IsCodeWord}
@@ -20,7 +20,7 @@ use Rattle.cb_scrub.specs.Wrong.{HaveParities, IsOneWrong, IsWordBut}
 use Rattle.cb_scrub.proofs.Laws.{have_parities, length-others, near_word, one_finding}
 use Rattle.carbink_c.specs.Made.{AreParities, IsMendedAt, IsOnlySolution}
 use Rattle.carbink_c.specs.Found.{IsOnlyFinding}
-use Rattle.carbink_c.proofs.Cutting.{cut_bytes, cut_count, cut_lengths, cut_long}
+use Rattle.carbink_c.proofs.Cutting.{cut_bytes, cut_count, cut_lengths, cut_long, cut_split}
 
 -- the rows that are cut from a buffer are as many as the code's table is wide
 pub table_wide : (k r len : ℕ) (given : List ℕ) (table rows : List (List ℕ)) → rows ≡ cut_rows k len given → AreCoefficients k r table → HaveLength (length rows) table
@@ -41,6 +41,11 @@ module _ (k r len : ℕ) (given : List ℕ) (table rows made : List (List ℕ)) 
   given_count : length rows ≡ k
   given_count = ap length done.are ∙ cut_count k len given
 
+  pub made_lengths : HaveLength len made
+  made_lengths =
+      let first : length (row_at rows 0) ≡ len = ap (λ xs. length (row_at xs 0)) done.are ∙ cut_long k len given 0 (omega (arith, done.in_range.data_least)) done.sized in
+      subst (λ n. HaveLength n made) first done.sums.equal_lengths
+
   word_of : (others : List (List ℕ)) → IsCodeWord (length rows) (length table) (rows ++ others) → IsCodeWord k r (rows ++ others)
   word_of others h = subst (λ n. IsCodeWord n r (rows ++ others)) given_count (subst (λ n. IsCodeWord (length rows) n (rows ++ others)) done.code.parities h)
 
@@ -54,6 +59,24 @@ module _ (k r len : ℕ) (given : List ℕ) (table rows made : List (List ℕ)) 
       word = word_of made word;
       only = λ others bytes h. only others bytes (of_word others h);
     }
+
+-- ---- rows that are held against their parities
+
+-- whether the rows behind the data rows are the sums that the code's table makes of these tells
+-- whether all are a code word
+pub word_told : (k r len : ℕ) (rows : List ℕ) (table given made : List (List ℕ)) (behind : List ℕ) (same : Bool) → Encoded k r len (take (k * len) rows) table given made
+    → IsCodeWord (length given) (length table) (given ++ made) → ((others : List (List ℕ)) → HoldBytes others → IsCodeWord (length given) (length table) (given ++ others) → others ≡ made)
+    → behind ≡ drop (k * len) rows → All (λ x. x < 2 ^ 8) rows → (IsTrue same → cut_rows (length made) len behind ≡ made) × (cut_rows (length made) len behind ≡ made → IsTrue same)
+    → (IsTrue same → IsCodeWord k r (cut_rows (k + r) len rows)) × (IsCodeWord k r (cut_rows (k + r) len rows) → IsTrue same)
+word_told k r len rows table given made behind same done word only is bytes told =
+    let count = made_count k r len (take (k * len) rows) table given made done in
+    let parities = made_parities k r len (take (k * len) rows) table given made done word only in
+    let cut : cut_rows (k + r) len rows ≡ given ++ cut_rows (length made) len behind =
+    cut_split k r len rows ∙ ap₂ (λ xs ys. xs ++ ys) (sym done.are) (ap (cut_rows r len) (sym is) ∙ ap (λ n. cut_rows n len behind) (sym count)) in
+    let held : HoldBytes (cut_rows (length made) len behind) = cut_bytes (length made) len behind (subst (All (λ x. x < 2 ^ 8)) (sym is) (All-drop (λ x. x < 2 ^ 8) (k * len) rows bytes)) in (
+      λ yes_same. subst (IsCodeWord k r) (sym (cut ∙ ap (λ xs. given ++ xs) (told.0 yes_same))) parities.word,
+      λ whole. told.1 (parities.only (cut_rows (length made) len behind) held (subst (IsCodeWord k r) cut whole)),
+    )
 
 -- ---- rows that are tested where they lie
 

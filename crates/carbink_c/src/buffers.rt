@@ -1,5 +1,5 @@
 //! Rows in a buffer of the caller, one after another.
-ghost use Rattle.std.specs.Prelude.{◌≡◌, ℕ, ◌*◌, ◌<◌, ◌≤◌, length, Contains, IfOk};
+ghost use Rattle.std.specs.Prelude.{◌≡◌, ℕ, ◌*◌, ◌<◌, ◌≤◌, ◌↔◌, length, Contains, IfOk, IsTrue};
 ghost use Rattle.cb_gf256.specs.Block.{cut_rows};
 ghost use Rattle.cb_gf256.specs.Rows.{row_at, HaveLength, HoldBytes};
 
@@ -59,4 +59,21 @@ pub(crate) fn put_others(rows: &Rows, len: u32, positions: &[u8], buffer: &mut [
             buffer[start..start + len].copy_from_slice(rows.row(i));
         }
     }
+}
+
+/// Whether a buffer of as many has these rows.
+pub(crate) fn same_rows(rows: &Rows, len: u32, buffer: &[u8]) -> bool
+    requires lengths { HaveLength len rows.now }
+    requires size { length buffer.now ≡ length rows.now * len }
+    ensures { IsTrue result ↔ cut_rows (length rows.now) len buffer.now ≡ rows.now }
+{
+    let height = rows.count();
+    let len = len as usize;
+    for i in 0..height {
+        let start = i as usize * len;
+        if rows.row(i) != &buffer[start..start + len] {
+            return false;
+        }
+    }
+    true
 }

@@ -79,7 +79,7 @@ fn finding(alloc: Global, k: u32, r: u32, len: u32, rows: &[u8]) -> Result<Found
     requires size { length rows.now ≡ (k + r) * len }
     ensures { IfOk result (IsOnlyFinding r (cut_rows (k + r) len rows.now)) }
 {
-    if are_word(k, r, len, rows) {
+    if are_word(alloc, k, r, len, rows)? {
         return Ok(Found::Clean);
     }
     let copied = rows_of(alloc, k + r, len, rows)?;

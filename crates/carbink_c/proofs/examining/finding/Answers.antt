@@ -4,10 +4,10 @@ use Rattle.carbink_c.proofs.Cutting.{are_bytes, cut_count}
 use Rattle.carbink_c.proofs.Making.{clean_found, found_by}
 use Rattle.carbink_c.proofs.examining.finding.Goals as goal
 
-pub returns-then-are_word : goal.returns-then-are_word
-returns-then-are_word c =
+pub returns-then-branch : goal.returns-then-branch
+returns-then-branch c =
     clean_found c.args.k c.args.r c.args.len c.args.rows.now c.requires.in_range c.requires.size (are_bytes c.args.rows.now (λ i. (c.type_inv.rows i).fits))
-    (c.are_word.ensures.0 c.if-are_word.true)
+    (c.in_ok-are_word.ensures.0 c.if-branch.true)
 
 pub examine-requires-clause-rows : goal.examine-requires-clause-rows
 examine-requires-clause-rows c =

@@ -1,5 +1,5 @@
 use Rattle.carbink_c.proofs.Making.{tested_shape, tested_word}
-use Rattle.carbink_c.proofs.testing.are_word.Goals as goal
+use Rattle.carbink_c.proofs.testing.syndromes_are_zero.Goals as goal
 
 pub is_word-requires : goal.is_word-requires
 is_word-requires c = tested_shape c.args.k c.args.r c.args.len c.args.rows.now c.of-given.result c.of-given.ensures c.requires.in_range
