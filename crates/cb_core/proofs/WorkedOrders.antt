@@ -32,7 +32,7 @@ use Rattle.cb_core.specs.Ordered.{EndsWith, InstallEnds, InstallTurn, StoppedWit
 use Rattle.cb_core.specs.Ordered.InstallTurn.{done as install_done, worn as install_worn}
 use Rattle.cb_core.specs.Ordered.StopsAt.{in_part, in_run}
 use Rattle.cb_core.specs.Ordered.TurnedWith.{done, worn}
-use Rattle.cb_core.specs.OrderLeaves.{HandsOrder, InstallLeaves, LeavesWith}
+use Rattle.cb_core.specs.OrderLeaves.{HandsOrder, InstallLeaves, LeavesWith, TurnsWith}
 use Rattle.cb_core.specs.OrderParts.{decode_in, encode_in, landed_order}
 use Rattle.cb_core.specs.Parts.{Holding}
 use Rattle.cb_core.specs.Parts.RoomStops.{at_once as lacks_now}
@@ -429,6 +429,30 @@ module _ (c : Config) (accepted : IsAccepted c) where
   keeps_and_forgets : Sound (empty_shown 1 c) drawn
       → LeavesWith run shows c (at drawn) (at then_) None None → ⊥
   keeps_and_forgets sound x = turn_forgot sound x.leaves
+
+  -- ---- what such a turn comes to, and what it leaves
+  turns_so : TurnsWith run shows c Install None (at start) None (Ok answer.NoOrder) (at then_)
+  turns_so = record {
+    ends = done (lit< tt) (refl, (record { reply = refl; state = refl }, refl));
+    leaves = keeps_nothing;
+  }
+
+  -- it leaves that, and is answered otherwise
+  turns_to_install : TurnsWith run shows c Install None (at start) None (Ok answer.Done) (at then_) → ⊥
+  turns_to_install x = by x.ends
+    where
+      done_no_order : answer.Done ≡ answer.NoOrder → ⊥
+      done_no_order e = cc
+
+      by : TurnedWith run shows c Install None (at start) answer.Done None (at then_) → ⊥
+      by (worn end is same stays ran) = absurd (let n : 0 ≡ 2 ^ 40 = end in omega (arith, n))
+      by (done few (ran, (y, same))) = done_no_order y.reply
+
+  -- it is answered so, and leaves counts that are not those of the turns
+  turns_uncounted : TurnsWith run shows c Land (Some (Decode decode)) (at late)
+      (Some (Decode decode)) (Ok answer.Worn) (at late) → ⊥
+  turns_uncounted x =
+      absurd (let n : 0 ≡ 2 ^ 40 = x.leaves.leaves.counted.jobs in omega (arith, n))
 
 -- ---- an order's set that has lost too many shards
 pub lost_set : IsSetLost (far both_down) five both_lost

@@ -27,7 +27,8 @@ handle_given (answer.Made handle version) = Some handle.n
 handle_given reply = None
 
 -- the reply says nothing of any object: a number that has to rise stands at its end, the seat has
--- as many pins as it may have, another seat holds the far lock, or a write is begun and not yet done
+-- as many pins as it may have, another seat holds the far lock, or a write is begun and not yet
+-- done
 abbrev pub says_nothing : Reply → Bool
 says_nothing answer.Worn = true
 says_nothing answer.ScopeFull = true
@@ -65,9 +66,9 @@ write_settled seat handle None r = []
 write_settled seat handle (Some c) r = call_of seat handle (line.Write [] c.at c.bytes) r
 
 -- An answered event, behind the calls and the claims before it: a make, a turn on an object and a
--- pin are calls of their seat, with no name. A claim that is refused is a write that is refused, and
--- the settling of one that was granted is its write. Every other event is none. (A pin of an object
--- that is far, or that has as many pins as its word counts, is a call that was refused.)
+-- pin are calls of their seat, with no name. A claim that is refused is a write that is refused,
+-- and the settling of one that was granted is its write. Every other event is none. (A pin of an
+-- object that is far, or that has as many pins as its word counts, is a call that was refused.)
 abbrev pub called_as : List Called → List ClaimCall → Event → Reply → List Called
 called_as before claims (event.Turn seat (job.Make bytes)) r =
     call_of seat (handle_given r) (line.Make [] bytes) r
@@ -106,8 +107,8 @@ AreBegun claims seats = (seat at : ℕ) (c : OpenWriteState) → IsClaimAt seats
     ≡ Some (record { seat = seat; handle = c.handle; at = c.at; bytes = c.bytes })
 
 -- The plain map stands beside the world: after these calls it has of each object what the object
--- holds, for whoever knows the world; what is gone is exactly what was lost; and the open writes are
--- those of these claims.
+-- holds, for whoever knows the world; what is gone is exactly what was lost; and the open writes
+-- are those of these claims.
 pub record StandsBeside (calls : List Called) (claims : List ClaimCall) (w : WorldState) : Type 0
   where
     pub shown : Shown

@@ -59,7 +59,8 @@ pub data ClaimStep (seat h at : ℕ) (bytes : List ℕ) (w : WorldState) (r : Re
   refused : (r ≡ answer.Claimed → ⊥) → r ≡ claim_answer w.desk h at (length bytes) → new ≡ w
       → ClaimStep seat h at bytes w r new
   taken : MayClaim w.desk h at (length bytes) → r ≡ answer.Claimed
-      → r ≡ claim_answer w.desk h at (length bytes) → IsClaimTaken seat h at bytes w new → ClaimStep seat h at bytes w r new
+      → r ≡ claim_answer w.desk h at (length bytes) → IsClaimTaken seat h at bytes w new
+      → ClaimStep seat h at bytes w r new
 
 -- the seats, where this open write of a seat has one word more stored
 pub record IsCounted (seat at : ℕ) (c : OpenWriteState) (w new : WorldState) : Type 0 where

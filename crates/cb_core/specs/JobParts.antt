@@ -42,11 +42,13 @@ pub record PartLacks (D : Type 0) : Type 1 where
   pub evicts : Holding D → Holding D → Type 0
   pub alone : Job → Holding D → Holding D → Type 0
 
-abbrev pub BringStopsBy : {D : Type 0} → JobParts D → PartLacks D → ℕ → Holding D → Holding D → Type 0
+abbrev pub BringStopsBy : {D : Type 0} → JobParts D → PartLacks D → ℕ → Holding D → Holding D
+    → Type 0
 BringStopsBy p l h = RoomStops (p.swaps h) (l.swaps h) p.wins l.evicts most_evictions
 
 -- an object that was far was found so, and its bringing in lacked memory
-abbrev pub ComeStopsBy : {D : Type 0} → JobParts D → PartLacks D → ℕ → Holding D → Holding D → Type 0
+abbrev pub ComeStopsBy : {D : Type 0} → JobParts D → PartLacks D → ℕ → Holding D → Holding D
+    → Type 0
 ComeStopsBy {D = D} p l h a b =
     (m : Holding D) × p.finds h a answer.NotHere m × BringStopsBy p l h m b
 

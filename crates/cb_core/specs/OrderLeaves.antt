@@ -2,7 +2,9 @@
 use Rattle.std.specs.Prelude.{◌≡◌, List, [], Option, None, Result, Ok, Err}
 use Rattle.cb_member.specs.declared.no_memory.NoMemory.{NoMemory}
 use Rattle.cb_types.specs.declared.config.Config.{Config}
+use Rattle.cb_types.specs.declared.job.Job.{Job}
 use Rattle.cb_types.specs.declared.order.Kept.{Kept}
+use Rattle.cb_types.specs.declared.reply.Reply.{Reply}
 use Rattle.cb_world.specs.declared.event.Event.{Event}
 use Rattle.cb_world.specs.declared.shown.Shown.{Shown}
 use Rattle.cb_world.specs.FarState.{FarState}
@@ -15,11 +17,12 @@ use Rattle.cb_evict.specs.declared.gathering.Gathered.{Gathered}
 use Rattle.cb_evict.specs.Gathering.{gathered_order}
 use Rattle.cb_swapin.specs.declared.fetching.Fetching.{Fetching}
 use Rattle.cb_swapin.specs.FetchStep.{fetching_order}
+use Rattle.cb_core.specs.Ordered.{EndsWith}
 use Rattle.cb_core.specs.Parts.{Holding}
 use Rattle.cb_core.specs.TurnLeaves.{IsOneTurnOn, TurnLeaves}
 
--- The turn leaves what every turn leaves, and writes no version; and for all that the desk showed and
--- that was sound, the order that it hands out is kept afterwards.
+-- The turn leaves what every turn leaves, and writes no version; and for all that the desk showed
+-- and that was sound, the order that it hands out is kept afterwards.
 pub record HandsOrder {D : Type 0} (run : D → List Event → D → Type 0) (shows : D → Shown → Type 0)
     (c : Config) (a b : Holding D) (handed : Option Kept) : Type 0 where
   pub leaves : TurnLeaves run shows c a b (λ more. more ≡ [])
@@ -55,3 +58,11 @@ pub record LeavesWith {D : Type 0} (run : D → List Event → D → Type 0) (sh
   pub leaves : TurnLeaves run shows c a b (λ more. more ≡ [])
   pub kept : (s : Shown) → shows a.desk s → Sound s a.far → KeepsOrder s a.far order
       → KeepsOrder (played leaves.events s) b.far keeps
+
+-- What a turn of such a job comes to for a seat that kept `order` before it, by its outcome, and
+-- what it leaves.
+pub record TurnsWith {D : Type 0} (run : D → List Event → D → Type 0) (shows : D → Shown → Type 0)
+    (c : Config) (job : Job) (order : Option Kept) (a : Holding D) (keeps : Option Kept)
+    (result : Result Reply NoMemory) (b : Holding D) : Type 0 where
+  pub ends : EndsWith run shows c job order a keeps result b
+  pub leaves : LeavesWith run shows c a b order keeps

@@ -27,8 +27,8 @@ pub record OrderParts (D : Type 0) : Type 1 where
   pub lands : Option Kept → Holding D → Reply → Holding D → Type 0
   pub wins : Holding D → Eviction → Holding D → Type 0
 
--- An object is looked at. Of one that is not far the reply tells where it is, and the seat keeps what
--- it kept; the rows of one that is far are handed out.
+-- An object is looked at. Of one that is not far the reply tells where it is, and the seat keeps
+-- what it kept; the rows of one that is far are handed out.
 pub data FetchesBy {D : Type 0} (p : OrderParts D) (h : ℕ) (order : Option Kept) (a : Holding D)
     (r : Reply) (keeps : Option Kept) (b : Holding D) : Type 0 where
   not_far : p.finds h a r b → (r ≡ answer.NotHere → ⊥) → keeps ≡ order
@@ -61,7 +61,8 @@ DoesWithBy p Gather order a r keeps b = (g : Gathered) × p.gathers a g b × (r 
     × (keeps ≡ gathered_order order g)
 DoesWithBy p Install order a r keeps b = p.installs order a r keeps b
 DoesWithBy p (Fetch handle) order a r keeps b = FetchesBy p handle.n order a r keeps b
-DoesWithBy p Land order a r keeps b = WithRoom (p.frames a) (p.lands order) p.wins most_evictions a r b
+DoesWithBy p Land order a r keeps b =
+    WithRoom (p.frames a) (p.lands order) p.wins most_evictions a r b
     × (keeps ≡ landed_order order r)
 DoesWithBy p job order a r keeps b = ⊥
 
@@ -82,8 +83,8 @@ StopsWithBy p l Land order a b =
     RoomStops (p.lands order) (l.lands order) p.wins l.evicts most_evictions a b
 StopsWithBy p l job order a b = ⊥
 
--- The job runs the order that the seat keeps before it does anything: an install runs one to encode,
--- and a landing one to decode.
+-- The job runs the order that the seat keeps before it does anything: an install runs one to
+-- encode, and a landing one to decode.
 abbrev pub RunsOrder : Job → Option Kept → Type 0
 RunsOrder job order = ((o : EncodeOrder) × (job ≡ Install) × (order ≡ Some (Encode o)))
     ⊎ ((o : DecodeOrder) × (job ≡ Land) × (order ≡ Some (Decode o)))

@@ -29,7 +29,8 @@ use Rattle.cb_core.specs.Turned.{EvictLacks, FindsWhere, WinsRoom, counted, once
 -- some spans begin to leave, with their rows handed out
 abbrev pub Gathers : {D : Type 0} → (D → List Event → D → Type 0) → (D → Shown → Type 0)
     → Holding D → Gathered → Holding D → Type 0
-Gathers run shows a g b = Performs (λ es. run a.desk es b.desk) (λ s. shows a.desk s × Sound s a.far)
+Gathers run shows a g b =
+    Performs (λ es. run a.desk es b.desk) (λ s. shows a.desk s × Sound s a.far)
     (GatherRule a.far b.far g) (λ t. Sound t b.far) (GatherEffect a.far b.far g)
 
 -- the batch that is leaving gets the parities of the order that a seat keeps
@@ -50,8 +51,8 @@ Lands run shows order a r b = Performs (λ es. run a.desk es b.desk)
     (λ s. shows a.desk s × Sound s a.far) (LandRule order a.far b.far r)
     (λ t. Sound t b.far) (LandEffect order a.far b.far r)
 
-abbrev pub desk_orders : {D : Type 0} → (D → List Event → D → Type 0) → (D → Shown → Type 0) → Config
-    → OrderParts D
+abbrev pub desk_orders : {D : Type 0} → (D → List Event → D → Type 0) → (D → Shown → Type 0)
+    → Config → OrderParts D
 desk_orders run shows c = record {
   frames = λ a. c.frames;
   gathers = Gathers run shows;
@@ -68,8 +69,8 @@ abbrev pub DoesWith : {D : Type 0} → (D → List Event → D → Type 0) → (
 DoesWith run shows c = DoesWithBy (desk_orders run shows c)
 
 -- A fetch over any desk: an object is looked at, and the rows of one that is far are handed out.
-pub data FetchRun {D : Type 0} (run : D → List Event → D → Type 0) (shows : D → Shown → Type 0) (h : ℕ)
-    (a : Holding D) (g : Fetching) (b : Holding D) : Type 0 where
+pub data FetchRun {D : Type 0} (run : D → List Event → D → Type 0) (shows : D → Shown → Type 0)
+    (h : ℕ) (a : Holding D) (g : Fetching) (b : Holding D) : Type 0 where
   not_far : (r : Reply) → g ≡ fetching.Answer r → FindsWhere run shows h a r b
       → (r ≡ answer.NotHere → ⊥) → FetchRun run shows h a g b
   was_far : (m : Holding D) → FindsWhere run shows h a answer.NotHere m
@@ -97,7 +98,8 @@ pub data InstallTurn (far : FarState) (r : Reply) (order keeps : Option Kept) (n
 -- ---- want of memory
 
 -- rows that lack memory, and a landing that does, change nothing
-abbrev pub NothingDone : {D : Type 0} → (D → List Event → D → Type 0) → Holding D → Holding D → Type 0
+abbrev pub NothingDone : {D : Type 0} → (D → List Event → D → Type 0) → Holding D → Holding D
+    → Type 0
 NothingDone run a b = run a.desk [] b.desk × (b.far ≡ a.far)
 
 -- a fetch of an object that was far
@@ -129,8 +131,8 @@ pub record StoppedWith {D : Type 0} (run : D → List Event → D → Type 0) (s
 -- is counted and nothing is done; or its job found no memory.
 pub data StopsAt {D : Type 0} (run : D → List Event → D → Type 0) (shows : D → Shown → Type 0)
     (c : Config) (job : Job) (order : Option Kept) (a b : Holding D) : Type 0 where
-  in_run : a.far.counts.turns < 2 ^ 40 → RunsOrder job order → NothingDone run (once_counted a job) b
-      → StopsAt run shows c job order a b
+  in_run : a.far.counts.turns < 2 ^ 40 → RunsOrder job order
+      → NothingDone run (once_counted a job) b → StopsAt run shows c job order a b
   in_part : StoppedWith run shows c job order a b → StopsAt run shows c job order a b
 
 -- ---- what a seat keeps behind such a turn, by its outcome
@@ -159,7 +161,8 @@ land_keeps order (Err e) = order
 abbrev pub EndsWith : {D : Type 0} → (D → List Event → D → Type 0) → (D → Shown → Type 0) → Config
     → Job → Option Kept → Holding D → Option Kept → Result Reply NoMemory → Holding D → Type 0
 EndsWith run shows c job order a keeps (Ok r) b = TurnedWith run shows c job order a r keeps b
-EndsWith run shows c job order a keeps (Err e) b = (keeps ≡ order) × StopsAt run shows c job order a b
+EndsWith run shows c job order a keeps (Err e) b = (keeps ≡ order)
+    × StopsAt run shows c job order a b
 
 -- An install, at the far state alone: the order could be run or not.
 abbrev pub InstallEnds : FarState → Option Kept → Option Kept → Result Reply NoMemory → FarState

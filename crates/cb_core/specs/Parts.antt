@@ -64,7 +64,8 @@ NeverDeclined a refusal b = (refusal ≡ None) × (b ≡ a)
 pub data BringsIn {D : Type 0} (call bringing : Holding D → Reply → Holding D → Type 0)
     (a : Holding D) (r : Reply) (b : Holding D) : Type 0 where
   not_far : call a r b → (r ≡ answer.NotHere → ⊥) → BringsIn call bringing a r b
-  was_far : (m : Holding D) → call a answer.NotHere m → bringing m r b → BringsIn call bringing a r b
+  was_far : (m : Holding D) → call a answer.NotHere m → bringing m r b
+      → BringsIn call bringing a r b
 
 -- An operation for which room is won, and which found no memory at one of its parts: at the
 -- operation, or at an eviction. The evictions before it stay.

@@ -22,7 +22,7 @@ pub data BroughtToRead {D : Type 0} (run : D → List Event → D → Type 0) (s
       → BroughtToRead run shows c handle a r b
 
 -- a first call that found no memory is counted
-pub record StoppedToRead {D : Type 0} (run : D → List Event → D → Type 0) (shows : D → Shown → Type 0)
-    (c : Config) (handle : Handle) (a b : Holding D) : Type 0 where
+pub record StoppedToRead {D : Type 0} (run : D → List Event → D → Type 0)
+    (shows : D → Shown → Type 0) (c : Config) (handle : Handle) (a b : Holding D) : Type 0 where
   pub few : a.far.counts.turns < 2 ^ 40
   pub stops : ComeLacks run shows c handle.n (once_counted a (Read handle)) b

@@ -246,7 +246,8 @@ Step w (event.Turn seat job) r new = SeatTurn seat job w r new
 -- The world leads by these events, with these replies, to another.
 abbrev pub Leads : WorldState → List Event → List Reply → WorldState → Type 0
 Leads w [] [] new = new ≡ w
-Leads w (e ∷ es) (r ∷ rs) new = (between : WorldState) × Step w e r between × Leads between es rs new
+Leads w (e ∷ es) (r ∷ rs) new = (between : WorldState) × Step w e r between
+    × Leads between es rs new
 Leads w es rs new = ⊥
 
 -- ---- want of memory
@@ -303,7 +304,8 @@ still_lacks = record {
 -- where a job that found no memory stopped
 abbrev pub StillStops : Job → Holding Words → Holding Words → Type 0
 StillStops = StopsBy still_parts still_lacks
-    (λ h. CallStops (StillRead h) (StillReadLacks h) NeverDeclined (StillBring h) (StillBringLacks h))
+    (λ h. CallStops (StillRead h) (StillReadLacks h) NeverDeclined (StillBring h)
+        (StillBringLacks h))
 
 -- a claim that found no memory changed nothing; every other step has its reply
 abbrev pub AtomicStops : Atomic → WorldState → WorldState → Type 0
@@ -325,8 +327,8 @@ still_order_lacks = record {
   evicts = StillEvictLacks;
 }
 
--- Where such a turn stopped: the order that the seat keeps could not be run, and the turn is counted
--- and nothing is done; or a part of its job found no memory.
+-- Where such a turn stopped: the order that the seat keeps could not be run, and the turn is
+-- counted and nothing is done; or a part of its job found no memory.
 pub data OrderStops (job : Job) (order : Option Kept) (a b : Holding Words) : Type 0 where
   in_run : RunsOrder job order → b ≡ once_counted a job → OrderStops job order a b
   in_part : StopsWithBy still_orders still_order_lacks job order (once_counted a job) b

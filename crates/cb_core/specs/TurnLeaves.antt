@@ -39,8 +39,8 @@ pub record SoundAfter (es : List Event) (s : Shown) (far new : FarState)
 
 -- A turn leads from one holding to another by events of its desk. The far state is as it is
 -- configured and counted, it has no other code, and is at most one turn further. And for all that
--- the desk showed and that was sound: it is sound afterwards, every order that was kept is kept, and
--- these versions are written.
+-- the desk showed and that was sound: it is sound afterwards, every order that was kept is kept,
+-- and these versions are written.
 pub record TurnLeaves {D : Type 0} (run : D → List Event → D → Type 0) (shows : D → Shown → Type 0)
     (c : Config) (a b : Holding D) (writes : List Entry → Type 0) : Type 0 where
   pub events : List Event

@@ -62,8 +62,8 @@ Operates run shows rule effect a r b = Performs (λ es. run a.desk es b.desk)
     (effect a.far b.far r)
 
 -- the calls on objects in local memory
-abbrev pub Makes : {D : Type 0} → (D → List Event → D → Type 0) → (D → Shown → Type 0) → Config → List ℕ
-    → Holding D → Reply → Holding D → Type 0
+abbrev pub Makes : {D : Type 0} → (D → List Event → D → Type 0) → (D → Shown → Type 0) → Config
+    → List ℕ → Holding D → Reply → Holding D → Type 0
 Makes run shows c bytes = Operates run shows (λ far new r. MakeRule c.handles bytes far new r)
     (λ far new r. MakeEffect bytes far new r)
 
@@ -81,7 +81,8 @@ WritesObject run shows h at bytes =
 
 abbrev pub Frees : {D : Type 0} → (D → List Event → D → Type 0) → (D → Shown → Type 0) → ℕ
     → Holding D → Reply → Holding D → Type 0
-Frees run shows h = Operates run shows (λ far new r. FreeRule h far new r) (λ far new r. FreeEffect h r)
+Frees run shows h = Operates run shows (λ far new r. FreeRule h far new r)
+    (λ far new r. FreeEffect h r)
 
 -- a look at where an object is: Stays where it is here
 abbrev pub FindsWhere : {D : Type 0} → (D → List Event → D → Type 0) → (D → Shown → Type 0) → ℕ
@@ -91,15 +92,15 @@ FindsWhere run shows h =
     (λ far new r. IsStill)
 
 -- a far object is looked at before a write of so many bytes: the write is declined by the length of
--- its word, which is that of a far object, and by its version word, which is read before any word is
--- stored
+-- its word, which is that of a far object, and by its version word, which is read before any word
+-- is stored
 abbrev pub IsDeclined : ℕ → ℕ → ℕ → FarState → Option Reply → List Event → Type 0
 IsDeclined h at count far declined es = ((is_gone far h ≡ true) × (declined ≡ None) × (es ≡ []))
     ⊎ ((is_gone far h ≡ false) × ((w v : ℕ) × IsFound h w es × (state_of w ≡ state.Far)
     × IsTold h v es × SettlesLast es × (declined ≡ write_refusal false (len_of w) v at count)))
 
-abbrev pub Declines : {D : Type 0} → (D → List Event → D → Type 0) → (D → Shown → Type 0) → ℕ → ℕ → ℕ
-    → Holding D → Option Reply → Holding D → Type 0
+abbrev pub Declines : {D : Type 0} → (D → List Event → D → Type 0) → (D → Shown → Type 0) → ℕ → ℕ
+    → ℕ → Holding D → Option Reply → Holding D → Type 0
 Declines run shows h at count a declined b = (b.far ≡ a.far) × Performs (λ es. run a.desk es b.desk)
     (λ s. shows a.desk s × Sound s a.far) (IsDeclined h at count a.far declined)
     (λ t. Sound t b.far) IsStill
@@ -107,12 +108,14 @@ Declines run shows h at count a declined b = (b.far ≡ a.far) × Performs (λ e
 -- an eviction
 abbrev pub Evicts : {D : Type 0} → (D → List Event → D → Type 0) → (D → Shown → Type 0) → Config
     → Holding D → Reply → Holding D → Type 0
-Evicts run shows c = Operates run shows (λ far new r. EvictRule far new r) (λ far new r. EvictEffect far new r)
+Evicts run shows c =
+    Operates run shows (λ far new r. EvictRule far new r) (λ far new r. EvictEffect far new r)
 
 -- one that makes room, and tells both counts where it is refused
 abbrev pub WinsRoom : {D : Type 0} → (D → List Event → D → Type 0) → (D → Shown → Type 0) → Config
     → Holding D → Eviction → Holding D → Type 0
-WinsRoom run shows c a e b = Performs (λ es. run a.desk es b.desk) (λ s. shows a.desk s × Sound s a.far)
+WinsRoom run shows c a e b =
+    Performs (λ es. run a.desk es b.desk) (λ s. shows a.desk s × Sound s a.far)
     (CountsRule a.far b.far e) (λ t. Sound t b.far) (EvictEffect a.far b.far (reply_of e))
 
 -- and the answer to whom room is won for: that there is no room, or none yet
@@ -125,19 +128,23 @@ TriesRoom run shows c a refusal b =
 -- committed or given up
 abbrev pub Begins : {D : Type 0} → (D → List Event → D → Type 0) → (D → Shown → Type 0) → Config
     → Holding D → Reply → Holding D → Type 0
-Begins run shows c = Operates run shows (λ far new r. BeginRule far new r) (λ far new r. BeginEffect far new r)
+Begins run shows c =
+    Operates run shows (λ far new r. BeginRule far new r) (λ far new r. BeginEffect far new r)
 
 abbrev pub Ships : {D : Type 0} → (D → List Event → D → Type 0) → (D → Shown → Type 0)
     → Holding D → Reply → Holding D → Type 0
-Ships run shows = Operates run shows (λ far new r. ShipRule far new r) (λ far new r. ShipEffect far new r)
+Ships run shows = Operates run shows (λ far new r. ShipRule far new r)
+    (λ far new r. ShipEffect far new r)
 
 abbrev pub Commits : {D : Type 0} → (D → List Event → D → Type 0) → (D → Shown → Type 0)
     → Holding D → Reply → Holding D → Type 0
-Commits run shows = Operates run shows (λ far new r. CommitRule far new r) (λ far new r. CommitEffect far new r)
+Commits run shows = Operates run shows (λ far new r. CommitRule far new r)
+    (λ far new r. CommitEffect far new r)
 
 abbrev pub Aborts : {D : Type 0} → (D → List Event → D → Type 0) → (D → Shown → Type 0)
     → Holding D → Reply → Holding D → Type 0
-Aborts run shows = Operates run shows (λ far new r. AbortRule far new r) (λ far new r. AbortEffect far new)
+Aborts run shows = Operates run shows (λ far new r. AbortRule far new r)
+    (λ far new r. AbortEffect far new)
 
 -- a swap-in of the position at which a far object has its home
 abbrev pub Swaps : {D : Type 0} → (D → List Event → D → Type 0) → (D → Shown → Type 0) → ℕ
@@ -152,8 +159,8 @@ abbrev pub Brings : {D : Type 0} → (D → List Event → D → Type 0) → (D 
 Brings run shows c h = WithRoom c.frames (Swaps run shows h) (WinsRoom run shows c) most_evictions
 
 -- a filter of an object in local memory
-abbrev pub Filters : {D : Type 0} → (D → List Event → D → Type 0) → (D → Shown → Type 0) → Config → ℕ
-    → Holding D → Reply → Holding D → Type 0
+abbrev pub Filters : {D : Type 0} → (D → List Event → D → Type 0) → (D → Shown → Type 0) → Config
+    → ℕ → Holding D → Reply → Holding D → Type 0
 Filters run shows c h = Operates run shows (λ far new r. FilterRule c.frames h far new r)
     (λ far new r. FilterEffect h far new r)
 
@@ -163,8 +170,8 @@ abbrev pub AtFar : {D : Type 0} → (D → List Event → D → Type 0)
 AtFar run step a r b = run a.desk [] b.desk × step a.far b.far r
 
 -- an object is brought in where it is far; the reply tells where it is: Stays where it is here
-abbrev pub ComesIn : {D : Type 0} → (D → List Event → D → Type 0) → (D → Shown → Type 0) → Config → ℕ
-    → Holding D → Reply → Holding D → Type 0
+abbrev pub ComesIn : {D : Type 0} → (D → List Event → D → Type 0) → (D → Shown → Type 0) → Config
+    → ℕ → Holding D → Reply → Holding D → Type 0
 ComesIn run shows c h = BringsIn (FindsWhere run shows h) (Brings run shows c h)
 
 -- a job that is one call; every job that has no row works at the far state alone
@@ -193,8 +200,8 @@ desk_parts run shows c = record {
   alone = λ job. DoesAlone run shows c job;
 }
 
--- What a job does once the turn is counted. An object that is to be read is first brought in; `reads`
--- says how it is read then.
+-- What a job does once the turn is counted. An object that is to be read is first brought in;
+-- `reads` says how it is read then.
 abbrev pub Does : {D : Type 0} → (D → List Event → D → Type 0) → (D → Shown → Type 0)
     → (ℕ → Holding D → Reply → Holding D → Type 0) → Config → Job
     → Holding D → Reply → Holding D → Type 0

@@ -25,8 +25,8 @@ use Rattle.cb_core.specs.declared.event.Event.TheVariants as event
 use Rattle.cb_core.specs.Holding.{NoOtherHolds}
 use Rattle.cb_core.specs.Step.{Step}
 
--- The object has its home in a set that has lost more shards than it has parities: the set's number,
--- and all that it lost, in order of position, each as its node and the epoch of the crash.
+-- The object has its home in a set that has lost more shards than it has parities: the set's
+-- number, and all that it lost, in order of position, each as its node and the epoch of the crash.
 pub record IsInLost (far : FarState) (h : ℕ) (id : SetId) (losses : List Loss) : Type 0 where
   pub home : Home
   pub set : SetState
@@ -50,8 +50,8 @@ brought_by (job.Swap handle) = Some handle.n
 brought_by (job.Fetch handle) = Some handle.n
 brought_by other = None
 
--- Over any desk a turn is answered Unavailable exactly where it is made for an object that it brings
--- in, and that has its home in a set that has lost more shards than it has parities.
+-- Over any desk a turn is answered Unavailable exactly where it is made for an object that it
+-- brings in, and that has its home in a set that has lost more shards than it has parities.
 pub record TurnTells (job : Job) (far : FarState) (r : Reply) : Type 0 where
   pub only : (id : SetId) (losses : List Loss) → r ≡ answer.Unavailable id losses
       → (h : ℕ) × (brought_by job ≡ Some h) × IsInLost far h id losses
@@ -65,8 +65,8 @@ pub record IsSetLost (far : FarState) (id : SetId) (losses : List Loss) : Type 0
   pub all : losses ≡ lost far.members set.shards
   pub many : parities set < length losses
 
--- Over any desk the landing of a row is answered Unavailable exactly where the position of its order
--- is live and the order's set has lost more shards than it has parities.
+-- Over any desk the landing of a row is answered Unavailable exactly where the position of its
+-- order is live and the order's set has lost more shards than it has parities.
 pub record LandTells (order : Option Kept) (far : FarState) (r : Reply) : Type 0 where
   pub only : (id : SetId) (losses : List Loss) → r ≡ answer.Unavailable id losses
       → (o : DecodeOrder) × (order ≡ Some (Decode o)) × (id ≡ record { n = o.set })
@@ -86,8 +86,8 @@ abbrev pub IsTurnMade : WorldState → Event → Type 0
 IsTurnMade w (event.Turn seat job) = NoOtherHolds w.seats seat × (w.far.counts.turns < 2 ^ 40)
 IsTurnMade w (event.Step seat atomic) = ⊥
 
--- the event is a landing of the order that its seat keeps, whose position is live, and whose set has
--- lost more shards than it has parities
+-- the event is a landing of the order that its seat keeps, whose position is live, and whose set
+-- has lost more shards than it has parities
 abbrev pub IsLandLost : WorldState → Event → SetId → List Loss → Type 0
 IsLandLost w (event.Turn seat j) id losses = (o : DecodeOrder) × (j ≡ job.Land)
     × (order_of w.seats seat ≡ Some (Decode o)) × (id ≡ record { n = o.set })

@@ -44,7 +44,8 @@ pub(crate) fn make_with_room<D: Desk>(
         (Makes (λ d es e. D.run d es e) (λ d s. D.shows d s) (D.settings desk.old) bytes.now)
         (WinsRoom (λ d es e. D.run d es e) (λ d s. D.shows d s) (D.settings desk.old))
         most_evictions
-        (record { desk = desk.old; far = far.old }) reply (record { desk = desk.new; far = far.new })) }
+        (record { desk = desk.old; far = far.old }) reply
+        (record { desk = desk.new; far = far.new })) }
     ensures error { OnErr result (RoomStops
         (Makes (λ d es e. D.run d es e) (λ d s. D.shows d s) (D.settings desk.old) bytes.now)
         (MakeLacks (λ d es e. D.run d es e) (D.settings desk.old) bytes.now)
@@ -99,7 +100,8 @@ fn bring<D: Desk>(desk: &mut D, far: &mut Far, h: Handle) -> Result<Reply, NoMem
     requires sound { (s : Shown) × D.shows desk.old s × Sound s far.old }
     ensures brings { IfOk result (λ reply. Brings
         (λ d es e. D.run d es e) (λ d s. D.shows d s) (D.settings desk.old) h.n
-        (record { desk = desk.old; far = far.old }) reply (record { desk = desk.new; far = far.new })) }
+        (record { desk = desk.old; far = far.old }) reply
+        (record { desk = desk.new; far = far.new })) }
     ensures error { OnErr result (BringLacks
         (λ d es e. D.run d es e) (λ d s. D.shows d s) (D.settings desk.old) h.n
         (record { desk = desk.old; far = far.old }) (record { desk = desk.new; far = far.new })) }
@@ -138,7 +140,8 @@ pub(crate) fn land_with_room<D: Desk>(
         (Lands (λ d es e. D.run d es e) (λ d s. D.shows d s) (done_order done.entry))
         (WinsRoom (λ d es e. D.run d es e) (λ d s. D.shows d s) (D.settings desk.old))
         most_evictions
-        (record { desk = desk.old; far = far.old }) reply (record { desk = desk.new; far = far.new })) }
+        (record { desk = desk.old; far = far.old }) reply
+        (record { desk = desk.new; far = far.new })) }
     ensures error { OnErr result (RoomStops
         (Lands (λ d es e. D.run d es e) (λ d s. D.shows d s) (done_order done.entry))
         (NothingDone (λ d es e. D.run d es e))
@@ -179,7 +182,8 @@ pub(crate) fn write_anywhere<D: Desk>(
         (WritesObject (λ d es e. D.run d es e) (λ d s. D.shows d s) h.n at bytes.now)
         (Declines (λ d es e. D.run d es e) (λ d s. D.shows d s) h.n at (length bytes.now))
         (Brings (λ d es e. D.run d es e) (λ d s. D.shows d s) (D.settings desk.old) h.n)
-        (record { desk = desk.old; far = far.old }) reply (record { desk = desk.new; far = far.new })) }
+        (record { desk = desk.old; far = far.old }) reply
+        (record { desk = desk.new; far = far.new })) }
     ensures error { OnErr result (CallStops
         (WritesObject (λ d es e. D.run d es e) (λ d s. D.shows d s) h.n at bytes.now)
         NeverLacks

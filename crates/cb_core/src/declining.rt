@@ -20,7 +20,8 @@ pub(crate) fn find<D: Desk>(desk: &mut D, far: &Far, h: Handle) -> Reply
     ensures away { result ≡ answer.NotHere → (s : Shown) → D.shows desk.old s
         → (len v : ℕ) × (words : List ℕ) × (object_at s h.n ≡ is.Far len v words) }
     ensures finds { FindsWhere (λ d es e. D.run d es e) (λ d s. D.shows d s) h.n
-        (record { desk = desk.old; far = far.now }) result (record { desk = desk.new; far = far.now }) }
+        (record { desk = desk.old; far = far.now }) result
+        (record { desk = desk.new; far = far.now }) }
 {
     let _far = far;
     match unpack(desk.word(h)).state {

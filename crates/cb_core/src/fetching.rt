@@ -103,15 +103,15 @@ fn rows_of_home(far: &mut Far, h: Handle) -> Result<Fetching, NoMemory>
 }
 
 /// A turn of the holder of the far lock with the job Land: it is counted, and the position of an
-/// order that was run is brought in with the order's row; None stands for a seat that keeps no order
-/// to decode. The order is one that was kept until now. No row is given out. Where no frame is free,
-/// room is won as for a swap. Where 2^40 turns were counted it answers Worn, and neither counts nor
-/// does anything.
+/// order that was run is brought in with the order's row; None stands for a seat that keeps no
+/// order to decode. The order is one that was kept until now. No row is given out. Where no frame
+/// is free, room is won as for a swap. Where 2^40 turns were counted it answers Worn, and neither
+/// counts nor does anything.
 ///
 /// Answers NoOrder where there is no order, Changed with the order's set where that is gone or the
 /// position is not live, Unavailable exactly where the set has lost more shards than it has
-/// parities, NoRoom as `turn` does, and else Swapped: the seat keeps no order then. Where there is no
-/// memory, the turn is counted, and the evictions that were made stay.
+/// parities, NoRoom as `turn` does, and else Swapped: the seat keeps no order then. Where there is
+/// no memory, the turn is counted, and the evictions that were made stay.
 pub fn land<D: Desk>(
     alloc: Global,
     desk: &mut D,

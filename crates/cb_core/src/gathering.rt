@@ -20,13 +20,13 @@ use cb_types::{Job, NoMemory, Reply};
 use cb_world::{Desk, Far};
 use std::alloc::Global;
 
-/// A turn of the holder of the far lock with the job Gather: it is counted, and spans begin to leave
-/// as by a begin, but without parities; an order is handed out to make them elsewhere. That order is
-/// kept from here: its rows are those of the spans as they stand in memory. Where 2^40 turns were
-/// counted it answers Worn, and neither counts nor does anything.
+/// A turn of the holder of the far lock with the job Gather: it is counted, and spans begin to
+/// leave as by a begin, but without parities; an order is handed out to make them elsewhere. That
+/// order is kept from here: its rows are those of the spans as they stand in memory. Where 2^40
+/// turns were counted it answers Worn, and neither counts nor does anything.
 ///
-/// The answers are those of `begin`, with the order in place of Batch. Where there is no memory, the
-/// turn is counted and nothing else has changed.
+/// The answers are those of `begin`, with the order in place of Batch. Where there is no memory,
+/// the turn is counted and nothing else has changed.
 pub fn gather<D: Desk>(alloc: Global, desk: &mut D, far: &mut Far) -> Result<Gathered, NoMemory>
     requires config { IsAccepted (D.settings desk.old) }
     requires configured { IsConfigured (D.settings desk.old) far.old }

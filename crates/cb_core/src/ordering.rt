@@ -12,7 +12,7 @@ ghost use Rattle.cb_world.specs.World.{AreCounted, IsConfigured};
 ghost use Rattle.cb_evict.specs.InstallRule.{kept_behind};
 ghost use Rattle.cb_core.specs.Jobs.{IsJob, NeedsNoOrder};
 ghost use Rattle.cb_core.specs.Ordered.{EndsWith, InstallEnds, fetch_answer, fetch_keeps, gather_answer, gather_keeps, land_keeps};
-ghost use Rattle.cb_core.specs.OrderLeaves.{InstallLeaves, LeavesWith};
+ghost use Rattle.cb_core.specs.OrderLeaves.{InstallLeaves, LeavesWith, TurnsWith};
 ghost use Rattle.cb_core.specs.OrderParts.{encode_in};
 ghost use Rattle.cb_core.specs.Turned.{counted};
 
@@ -74,12 +74,10 @@ fn gather_with<D: Desk>(
     requires configured { IsConfigured (D.settings desk.old) far.old }
     requires counted { AreCounted far.old }
     requires sound { (s : Shown) × D.shows desk.old s × Sound s far.old }
-    ensures ends { EndsWith (λ d es e. D.run d es e) (λ d s. D.shows d s) (D.settings desk.old)
-        job.Gather order (record { desk = desk.old; far = far.old }) result.0 result.1
+    ensures turned { TurnsWith (λ d es e. D.run d es e) (λ d s. D.shows d s)
+        (D.settings desk.old) job.Gather order (record { desk = desk.old; far = far.old }) result.0
+        result.1
         (record { desk = desk.new; far = far.new }) }
-    ensures leaves { LeavesWith (λ d es e. D.run d es e) (λ d s. D.shows d s)
-        (D.settings desk.old) (record { desk = desk.old; far = far.old })
-        (record { desk = desk.new; far = far.new }) order result.0 }
 {
     let gathered = gather(alloc, desk, far);
     behind_gather(order, gathered)
@@ -116,12 +114,10 @@ fn fetch_with<D: Desk>(
     requires handle { h.n < (D.settings desk.old).handles }
     requires counted { AreCounted far.old }
     requires sound { (s : Shown) × D.shows desk.old s × Sound s far.old }
-    ensures ends { EndsWith (λ d es e. D.run d es e) (λ d s. D.shows d s) (D.settings desk.old)
-        (job.Fetch h) order (record { desk = desk.old; far = far.old }) result.0 result.1
+    ensures turned { TurnsWith (λ d es e. D.run d es e) (λ d s. D.shows d s)
+        (D.settings desk.old) (job.Fetch h) order (record { desk = desk.old; far = far.old })
+        result.0 result.1
         (record { desk = desk.new; far = far.new }) }
-    ensures leaves { LeavesWith (λ d es e. D.run d es e) (λ d s. D.shows d s)
-        (D.settings desk.old) (record { desk = desk.old; far = far.old })
-        (record { desk = desk.new; far = far.new }) order result.0 }
 {
     let fetched = fetch(alloc, desk, far, h);
     behind_fetch(order, fetched)
@@ -252,12 +248,10 @@ fn land_with<D: Desk>(
     requires counted { AreCounted far.old }
     requires kept { (s : Shown) × D.shows desk.old s × Sound s far.old
         × KeepsOrder s far.old order }
-    ensures ends { EndsWith (λ d es e. D.run d es e) (λ d s. D.shows d s) (D.settings desk.old)
-        job.Land order (record { desk = desk.old; far = far.old }) result.0 result.1
+    ensures turned { TurnsWith (λ d es e. D.run d es e) (λ d s. D.shows d s)
+        (D.settings desk.old) job.Land order (record { desk = desk.old; far = far.old }) result.0
+        result.1
         (record { desk = desk.new; far = far.new }) }
-    ensures leaves { LeavesWith (λ d es e. D.run d es e) (λ d s. D.shows d s)
-        (D.settings desk.old) (record { desk = desk.old; far = far.old })
-        (record { desk = desk.new; far = far.new }) order result.0 }
 {
     match order {
         Some(Kept::Decode(order)) => land_run(alloc, desk, far, order),
@@ -284,12 +278,10 @@ fn land_run<D: Desk>(
     requires counted { AreCounted far.old }
     requires kept { (s : Shown) × D.shows desk.old s × Sound s far.old
         × IsDecodeKept far.old order }
-    ensures ends { EndsWith (λ d es e. D.run d es e) (λ d s. D.shows d s) (D.settings desk.old)
-        job.Land (Some (Decode order)) (record { desk = desk.old; far = far.old }) result.0 result.1
+    ensures turned { TurnsWith (λ d es e. D.run d es e) (λ d s. D.shows d s)
+        (D.settings desk.old) job.Land (Some (Decode order))
+        (record { desk = desk.old; far = far.old }) result.0 result.1
         (record { desk = desk.new; far = far.new }) }
-    ensures leaves { LeavesWith (λ d es e. D.run d es e) (λ d s. D.shows d s)
-        (D.settings desk.old) (record { desk = desk.old; far = far.old })
-        (record { desk = desk.new; far = far.new }) (Some (Decode order)) result.0 }
 {
     match run_decode(alloc, order) {
         Ok(done) => land_made(alloc, desk, far, done),
@@ -309,12 +301,10 @@ fn land_made<D: Desk>(
     requires counted { AreCounted far.old }
     requires kept { (s : Shown) × D.shows desk.old s × Sound s far.old
         × IsDecodeKept far.old done.order }
-    ensures ends { EndsWith (λ d es e. D.run d es e) (λ d s. D.shows d s) (D.settings desk.old)
-        job.Land (Some (Decode done.order)) (record { desk = desk.old; far = far.old }) result.0
+    ensures turned { TurnsWith (λ d es e. D.run d es e) (λ d s. D.shows d s)
+        (D.settings desk.old) job.Land (Some (Decode done.order))
+        (record { desk = desk.old; far = far.old }) result.0
         result.1 (record { desk = desk.new; far = far.new }) }
-    ensures leaves { LeavesWith (λ d es e. D.run d es e) (λ d s. D.shows d s)
-        (D.settings desk.old) (record { desk = desk.old; far = far.old })
-        (record { desk = desk.new; far = far.new }) (Some (Decode done.order)) result.0 }
 {
     let ended = land(alloc, desk, far, Some(&done));
     behind_land(Some(Kept::Decode(done.into_order())), ended)

@@ -31,7 +31,8 @@ pub fn bring_to_read<D: Desk>(desk: &mut D, far: &mut Far, h: Handle) -> Result<
     requires handle { h.n < (D.settings desk.old).handles }
     requires counted { AreCounted far.old }
     requires sound { (s : Shown) × D.shows desk.old s × Sound s far.old }
-    ensures brought { IfOk result (λ reply. BroughtToRead (λ d es e. D.run d es e) (λ d s. D.shows d s)
+    ensures brought { IfOk result
+        (λ reply. BroughtToRead (λ d es e. D.run d es e) (λ d s. D.shows d s)
         (D.settings desk.old) h (record { desk = desk.old; far = far.old }) reply
         (record { desk = desk.new; far = far.new })) }
     ensures no_frame { IfOk result (λ reply. reply ≡ answer.NoFrame → ⊥) }
@@ -66,7 +67,8 @@ pub(crate) fn read_anywhere<D: Desk>(
     ensures reads { IfOk result (λ reply. OnceHere
         (ComesIn (λ d es e. D.run d es e) (λ d s. D.shows d s) (D.settings desk.old) h.n)
         (Reads (λ d es e. D.run d es e) (λ d s. D.shows d s) h.n)
-        (record { desk = desk.old; far = far.old }) reply (record { desk = desk.new; far = far.new })) }
+        (record { desk = desk.old; far = far.old }) reply
+        (record { desk = desk.new; far = far.new })) }
     ensures error { OnErr result (OnceHereStops
         (ComesIn (λ d es e. D.run d es e) (λ d s. D.shows d s) (D.settings desk.old) h.n)
         (ComeLacks (λ d es e. D.run d es e) (λ d s. D.shows d s) (D.settings desk.old) h.n)

@@ -35,8 +35,8 @@ use std::alloc::Global;
 /// after the calls before it, and the map goes on standing beside the world. Of an object that a
 /// seat has claimed the world holds what it had at the claim; and an object is gone exactly where
 /// it is far and its set has lost more shards than it has parities. From the empty world the calls
-/// are legal by themselves too: each object has a history, each answer is true of it, and no version
-/// falls.
+/// are legal by themselves too: each object has a history, each answer is true of it, and no
+/// version falls.
 ///
 /// Each event leaves an object that has a pin before and after at its place, with its length, its
 /// version and its bytes. So an object that has a pin before the first event, after the last and

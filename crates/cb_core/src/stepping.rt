@@ -18,11 +18,11 @@ use cb_types::{Job, Kept, NoMemory, Reply};
 use cb_world::{Seats, World};
 use std::alloc::Global;
 
-/// One event: a seat takes an atomic step, or makes a turn. The world stays sound. A turn is refused
-/// with Held, and not counted, where another seat holds the far lock. Where there is no memory, a
-/// claim changed nothing, and a turn is counted, and what its parts did before stays: a span may
-/// have left or come in, and each object holds what it held. Between events a batch may be leaving,
-/// whose objects are Moving until it is committed or given up.
+/// One event: a seat takes an atomic step, or makes a turn. The world stays sound. A turn is
+/// refused with Held, and not counted, where another seat holds the far lock. Where there is no
+/// memory, a claim changed nothing, and a turn is counted, and what its parts did before stays: a
+/// span may have left or come in, and each object holds what it held. Between events a batch may be
+/// leaving, whose objects are Moving until it is committed or given up.
 ///
 /// The event has no other reply from that world, and leads to no other world: every word, every row
 /// at the nodes and all counts are fixed.
@@ -33,8 +33,8 @@ use std::alloc::Global;
 /// and nothing else changes.
 ///
 /// Unavailable is answered exactly where a turn is to bring in a far object whose set has lost more
-/// shards than it has parities, or to land an order of such a set, and tells the set and all that it
-/// lost.
+/// shards than it has parities, or to land an order of such a set, and tells the set and all that
+/// it lost.
 pub fn step(alloc: Global, world: &mut World, event: &Event) -> Result<Reply, NoMemory>
     requires sound { IsSoundWorld world.old }
     requires event { IsEvent world.old.desk.settings event.now }

@@ -20,28 +20,28 @@ pub returns-in-Gather-clause-ends : goal.returns-in-Gather-clause-ends
 returns-in-Gather-clause-ends g c = subst (λ (j : Job). EndsWith (λ d es e. g.D.Desk.run d es e) (λ d s. g.D.Desk.shows d s)
     (g.D.Desk.settings c.args.desk.now)
     j c.args.order (holding c.args.desk.now c.args.far.now) c.gather_with.result.0 c.gather_with.result.1
-    (holding c.gather_with.new.desk c.gather_with.new.far)) (sym c.in-Gather.is) c.gather_with.ensures.ends
+    (holding c.gather_with.new.desk c.gather_with.new.far)) (sym c.in-Gather.is) c.gather_with.ensures.turned.ends
 
 pub returns-in-Gather-clause-leaves : goal.returns-in-Gather-clause-leaves
-returns-in-Gather-clause-leaves g c = c.gather_with.ensures.leaves
+returns-in-Gather-clause-leaves g c = c.gather_with.ensures.turned.leaves
 
 pub returns-in-Fetch-clause-ends : goal.returns-in-Fetch-clause-ends
 returns-in-Fetch-clause-ends g c = subst (λ (j : Job). EndsWith (λ d es e. g.D.Desk.run d es e) (λ d s. g.D.Desk.shows d s)
     (g.D.Desk.settings c.args.desk.now)
     j c.args.order (holding c.args.desk.now c.args.far.now) c.fetch_with.result.0 c.fetch_with.result.1
-    (holding c.fetch_with.new.desk c.fetch_with.new.far)) (sym c.in-Fetch.is) c.fetch_with.ensures.ends
+    (holding c.fetch_with.new.desk c.fetch_with.new.far)) (sym c.in-Fetch.is) c.fetch_with.ensures.turned.ends
 
 pub returns-in-Fetch-clause-leaves : goal.returns-in-Fetch-clause-leaves
-returns-in-Fetch-clause-leaves g c = c.fetch_with.ensures.leaves
+returns-in-Fetch-clause-leaves g c = c.fetch_with.ensures.turned.leaves
 
 pub returns-in-Land-clause-ends : goal.returns-in-Land-clause-ends
 returns-in-Land-clause-ends g c = subst (λ (j : Job). EndsWith (λ d es e. g.D.Desk.run d es e) (λ d s. g.D.Desk.shows d s)
     (g.D.Desk.settings c.args.desk.now)
     j c.args.order (holding c.args.desk.now c.args.far.now) c.land_with.result.0 c.land_with.result.1
-    (holding c.land_with.new.desk c.land_with.new.far)) (sym c.in-Land.is) c.land_with.ensures.ends
+    (holding c.land_with.new.desk c.land_with.new.far)) (sym c.in-Land.is) c.land_with.ensures.turned.ends
 
 pub returns-in-Land-clause-leaves : goal.returns-in-Land-clause-leaves
-returns-in-Land-clause-leaves g c = c.land_with.ensures.leaves
+returns-in-Land-clause-leaves g c = c.land_with.ensures.turned.leaves
 
 pub returns-in-Install-clause-ends : goal.returns-in-Install-clause-ends
 returns-in-Install-clause-ends g c = subst (λ (j : Job). EndsWith (λ d es e. g.D.Desk.run d es e) (λ d s. g.D.Desk.shows d s)
