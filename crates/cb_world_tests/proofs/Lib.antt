@@ -4,6 +4,7 @@ pub mod Makes
 pub mod Orders
 pub mod ScrubbedWorld
 pub mod SplitArrays
+mod WorkedKeeping
 mod WorkedPacked
 mod WorkedShards
 mod WorkedSmall

@@ -11,8 +11,12 @@ use Rattle.std.proofs.Math.Dec.{ltb}
 use Rattle.cb_class.specs.declared.class.Class.{Class}
 use Rattle.cb_class.specs.Class.{IsClassOf, bytes_of, pages_of, slots_of, words_of}
 use Rattle.cb_frame.specs.FreeFrames.{IsFreeFrame}
+use Rattle.cb_gf256.specs.InRange.{IsInRange}
+use Rattle.cb_gf256.specs.Rows.{HaveLength}
+use Rattle.cb_member.specs.declared.names.Shard.{Shard}
 use Rattle.cb_ptr.specs.declared.word.State.TheVariants as word
 use Rattle.cb_ptr.specs.Word.{hot_of, pins_of, state_of}
+use Rattle.cb_set.specs.SetState.{SetState}
 use Rattle.cb_span.specs.declared.temp.Temp.TheVariants.{Cold}
 use Rattle.cb_span.specs.Contents.{Contents, IsSpan, handle_at, live_count, span_of}
 use Rattle.cb_span.specs.Places.{slot_place}
@@ -26,6 +30,8 @@ use Rattle.cb_world.specs.declared.object.Object.TheVariants as is
 use Rattle.cb_world.specs.declared.seats.Pin.{Pin}
 use Rattle.cb_world.specs.declared.shown.Shown.{Shown}
 use Rattle.cb_world.specs.Empty.{empty_far, empty_shown}
+use Rattle.cb_world.specs.FarSound.{IsShardOf, Owner}
+use Rattle.cb_world.specs.FarSound.Owner.{of_joining, of_leaving, of_set}
 use Rattle.cb_world.specs.FarState.{FarState, span_in}
 use Rattle.cb_world.specs.LocalSound.{AreFrames, AreKnown, ArePlaced, HasSlot, IsStamped, LiesAt, LiesOver, NamesObject}
 use Rattle.cb_world.specs.Memory.{IsPacked, memory_byte, window, words_for}
@@ -33,11 +39,12 @@ use Rattle.cb_world.specs.Orders.{AreOrdersKept, KeepsOrder}
 use Rattle.cb_world.specs.Packed.{AreFreedLater, ArePacked, IsFreedLater, IsPackedAs}
 use Rattle.cb_world.specs.Plain.{Words, word_at}
 use Rattle.cb_world.specs.Seats.{IsClaimAt, OpenWriteState, SeatState, all_pins_on, idle_seat, pins_among}
+use Rattle.cb_world.specs.Sets.{set_in}
 use Rattle.cb_world.specs.Shown.{Fits, never, object_at, version_at}
 use Rattle.cb_world.specs.Sound.{Sound}
 use Rattle.cb_world.specs.StillDesk.{window_length}
 use Rattle.cb_world.specs.World.{ArePinned, IsKnown, IsSoundWorld, WorldState}
-use Rattle.cb_world.proofs.Laws.{KeepsAway, empty_sound, empty_world_sound, some_same, sound_near}
+use Rattle.cb_world.proofs.Laws.{KeepsAway, claimed_stay, empty_sound, empty_world_sound, local_stays, some_same, sound_near, unsurveyed}
 
 -- ---- a word is the byte 0a with zeros behind it, or with 0b; the object has one byte
 abbrev bare : List ℕ
@@ -105,22 +112,27 @@ abbrev shown : Object → ℕ → List ℕ → Shown
 shown o v memory =
     record { first = 1; objects = o ∷ []; hots = false ∷ []; versions = v ∷ []; memory = memory }
 
--- one handle was made
-abbrev made_one : Bool → Option Contents → FarState
-made_one free span =
-    record (empty_far 1 one) { made = 1; frames = free ∷ []; spans = span ∷ [] }
+-- in one turn four numbers of sets were drawn, whose sets are gone
+abbrev drawn : FarState
+drawn = record (empty_far 1 one) {
+  counts = record { turns = 1; by_job = 1 ∷ replicate 22 0; sets = 4; keys = 0 };
+}
 
-abbrev keeping : Option Kept → SeatState
+-- and one handle was made
+abbrev made_one : Bool → Option Contents → FarState
+made_one free span = record drawn { made = 1; frames = free ∷ []; spans = span ∷ [] }
+
+abbrev pub keeping : Option Kept → SeatState
 keeping order = record idle_seat { order = order }
 
-abbrev seats : Option Kept → List SeatState
+abbrev pub seats : Option Kept → List SeatState
 seats order = replicate 64 (keeping order)
 
 abbrev world : ℕ → ℕ → List ℕ → Bool → Option Contents → Option Kept → WorldState
 world w v memory free span order =
     record { desk = desk w v memory; far = made_one free span; seats = seats order }
 
-none_some : {A : Type 0} (x : A) → None ≡ Some x → ⊥
+pub none_some : {A : Type 0} (x : A) → None ≡ Some x → ⊥
 none_some x e = cc
 
 none_on : (order : Option Kept) (h : ℕ) → all_pins_on h (seats order) ≡ 0
@@ -212,8 +224,8 @@ sound_with w v memory free span order s none calm known kept = record {
   one = λ a b held other. absurd (held_not _ (none_holds order a 64) held);
   orders = kept;
   counted = record {
-    kinds = length-replicate {A = ℕ} 23 0;
-    jobs = sum_by-replicate (λ (n : ℕ). n) 23 0;
+    kinds = refl;
+    jobs = refl;
     turns = omega arith;
     sets = omega arith;
     keys = omega arith;
@@ -223,11 +235,60 @@ sound_with w v memory free span order s none calm known kept = record {
   };
 }
 
--- the far part is that of the empty world
+-- the far part is that of the empty world, but for the numbers that were drawn
 empty : Sound (empty_shown 1 one) (empty_far 1 one)
 empty = empty_sound 1 one (lit≤ tt) (lit< tt)
 
-same_away : (free : Bool) (span : Option Contents) → KeepsAway (empty_far 1 one) (made_one free span)
+no_set : (id : ℕ) (set : SetState) → set_in (empty_far 1 one).sets id ≡ Some set → ⊥
+no_set id set there = omega (arith, empty.away.sound.sets.numbered id set there)
+
+nobody : (o : Owner) (shard : Shard) → IsShardOf drawn o shard → ⊥
+nobody (of_set id p) shard is = no_set id is.0 is.1
+nobody (of_leaving p) shard is = none_some is.0 is.1
+nobody (of_joining p) shard is = none_some is.0 is.1
+
+nobody_before : (o : Owner) (shard : Shard) → IsShardOf (empty_far 1 one) o shard → ⊥
+nobody_before (of_set id p) shard is = no_set id is.0 is.1
+nobody_before (of_leaving p) shard is = none_some is.0 is.1
+nobody_before (of_joining p) shard is = none_some is.0 is.1
+
+drawn_sound : Sound (empty_shown 1 one) drawn
+drawn_sound = record {
+  here = local_stays (empty_shown 1 one) (empty_far 1 one) drawn refl refl refl refl empty.here;
+  noted = λ batch there. absurd (none_some batch there);
+  claimed = claimed_stay (empty_shown 1 one) (empty_far 1 one) drawn refl refl empty.claimed;
+  away = record {
+    sound = record {
+      sets = record {
+        shaped = λ id set there. absurd (no_set id set there);
+        worded = λ id set there. absurd (no_set id set there);
+        live = λ id p set there. absurd (no_set id set there);
+        kept = λ id set there. absurd (no_set id set there);
+        numbered = λ id set there. absurd (no_set id set there);
+      };
+      away = record {
+        away = empty.away.sound.away.away;
+        home = empty.away.sound.away.home;
+        named = empty.away.sound.away.named;
+      };
+      rows = record {
+        members = empty.away.sound.rows.members;
+        counted = empty.away.sound.rows.counted;
+        room = empty.away.sound.rows.room;
+        owned = λ node key row there. let was = empty.away.sound.rows.owned node key row there in
+            absurd (nobody_before was.0 was.1 was.2);
+        one = λ o q a b of with same. absurd (nobody o a of);
+        drawn = λ o a of. absurd (nobody o a of);
+        current = λ o a of. absurd (nobody o a of);
+      };
+      batch = λ batch there. absurd (none_some batch there);
+    };
+    join = λ pair there. absurd (none_some pair there);
+    survey = unsurveyed drawn;
+  };
+}
+
+same_away : (free : Bool) (span : Option Contents) → KeepsAway drawn (made_one free span)
 same_away free span = record {
   sets = refl;
   homes = refl;
@@ -397,7 +458,7 @@ known_if_packed memory sized packed = record {
     fit = fit;
   };
   hots = hots;
-  sound = sound_near (empty_shown 1 one) (here memory) (empty_far 1 one) far empty
+  sound = sound_near (empty_shown 1 one) (here memory) drawn far drawn_sound
       (record { known = known_of memory; frames = are_frames; placed = placed_in memory sized })
       (same_away false (Some span))
       (elim [ zero ↦ inr (record { before = tt; after = tt }) | suc h ↦ inl refl ])
@@ -442,14 +503,19 @@ zero_packed zero below = λ here p past inside.
     subst (λ (q : ℕ). memory_byte (window (memory_with 0) 0 128) q ≡ 0) e last_byte
 zero_packed (suc h) below = absurd (omega (arith, below))
 
-none_kept : (s : Shown) (far : FarState) → AreOrdersKept s far (seats None)
-none_kept s far = λ seat. by seat 64
+-- each seat keeps it, where one does
+pub each_keeps : (s : Shown) (far : FarState) (order : Option Kept) → KeepsOrder s far order
+    → AreOrdersKept s far (seats order)
+each_keeps s far order kept = λ seat. by seat 64
   where
-    by : (seat n : ℕ) → KeepsOrder s far (get_or (replicate n (keeping None)) seat idle_seat).order
+    by : (seat n : ℕ) → KeepsOrder s far (get_or (replicate n (keeping order)) seat idle_seat).order
     by zero zero = tt
-    by zero (suc n) = tt
+    by zero (suc n) = kept
     by (suc seat) zero = tt
     by (suc seat) (suc n) = by seat n
+
+none_kept : (s : Shown) (far : FarState) → AreOrdersKept s far (seats None)
+none_kept s far = each_keeps s far None tt
 
 zero_behind : IsSoundWorld (here_world 0 None)
 zero_behind = sound_if_packed 0 None zero_packed (none_kept _ _)
@@ -482,19 +548,70 @@ byte_behind x = refused (object_at x.shown 0) (x.known.shows.fit 0 (lit< tt))
     refused (is.Here len place) fit p = at_end len place fit.1 fit.2 (p refl)
     refused (is.Claimed len place v words) fit p = let e : word.Here ≡ word.Moving = fit.4 in cc
 
--- ---- an order in every seat, beside the object with a zero behind it: the world is sound, if only the
--- order is kept, and one that has no rows is not
-abbrev encoding : Kept
-encoding = work.Encode (record { set = 3; k = 1; r = 1; rows = [] })
+-- ---- an order in every seat, beside the object with a zero behind it: the world is sound, where the
+-- order's number was drawn, and it is not where it was not
+abbrev encoding : ℕ → Kept
+encoding n = work.Encode (record { set = n; k = 1; r = 1; rows = [] ∷ [] })
+
+abbrev decoding : ℕ → Kept
+decoding n = work.Decode
+    (record { set = n; position = 0; k = 1; r = 1; present = 1 ∷ []; rows = [] ∷ [] })
 
 sound_with_orders : (order : Option Kept)
     → AreOrdersKept (here (memory_with 0)) (made_one false (Some span)) (seats order)
     → IsSoundWorld (here_world 0 order)
 sound_with_orders order kept = sound_if_packed 0 order zero_packed kept
 
--- no set has the order's number
-order_not_drawn : IsSoundWorld (here_world 0 (Some encoding)) → ⊥
-order_not_drawn x = let n : 3 < 0 = (x.orders 0).drawn in omega (arith, n)
+least_code : IsInRange 1 1
+least_code = record {
+  data_least = lit≤ tt;
+  data_most = lit≤ tt;
+  parities_least = lit≤ tt;
+  parities_most = lit≤ tt;
+}
+
+empty_row : HaveLength 0 ([] ∷ [])
+empty_row zero d below = refl
+empty_row (suc k) d below = absurd (omega (arith, below))
+
+-- its batch was given up
+kept_to_encode : IsSoundWorld (here_world 0 (Some (encoding 3)))
+kept_to_encode = sound_with_orders (Some (encoding 3)) (each_keeps _ _ (Some (encoding 3)) (record {
+  fits = record { range = least_code; count = refl; lengths = empty_row };
+  drawn = lit< tt;
+  code = λ batch there same. absurd (none_some batch there);
+  rows = λ batch there same. absurd (none_some batch there);
+}))
+
+undrawn_to_encode : IsSoundWorld (here_world 0 (Some (encoding 4))) → ⊥
+undrawn_to_encode x = let n : 4 < 4 = (x.orders 0).drawn in omega (arith, n)
+
+-- its set was dropped
+kept_to_decode : IsSoundWorld (here_world 0 (Some (decoding 3)))
+kept_to_decode = sound_with_orders (Some (decoding 3)) (each_keeps _ _ (Some (decoding 3)) (record {
+  fits = record {
+    range = least_code;
+    positions = record {
+      count = refl;
+      ascend = λ i below. absurd (omega (arith, below));
+      below = below;
+    };
+    wanted = lit< tt;
+    count = refl;
+    lengths = empty_row;
+  };
+  drawn = lit< tt;
+  apart = λ batch there same. none_some batch there;
+  code = λ set there. absurd (no_set 3 set there);
+  rows = λ set there. absurd (no_set 3 set there);
+}))
+  where
+    below : (i d : ℕ) → i < 1 → get_or (1 ∷ []) i d < 2
+    below zero d first = lit< tt
+    below (suc i) d first = absurd (omega (arith, first))
+
+undrawn_to_decode : IsSoundWorld (here_world 0 (Some (decoding 4))) → ⊥
+undrawn_to_decode x = let n : 4 < 4 = (x.orders 0).drawn in omega (arith, n)
 
 -- ---- makes give the version 1: an object that was made and freed, at the version 1 or 2
 abbrev zeros : List ℕ
@@ -602,7 +719,7 @@ sound_if_later v some later = sound_with 0 v zeros true None None (freed_at v) r
         fit = fit;
       };
       hots = hots;
-      sound = sound_near (empty_shown 1 one) (freed_at v) (empty_far 1 one) no_span empty
+      sound = sound_near (empty_shown 1 one) (freed_at v) drawn no_span drawn_sound
           (record { known = freed_known v some; frames = no_frames; placed = none_placed v })
           (same_away true None)
           (elim [ zero ↦ inr (record { before = tt; after = tt }) | suc h ↦ inl refl ])

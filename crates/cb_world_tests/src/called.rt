@@ -7,9 +7,9 @@ ghost use Rattle.cb_shared.specs.Turning.{KnowsOf};
 ghost use Rattle.cb_world_tests.specs.Callers.{IsCaller, IsKnownAmong};
 
 use crate::asking::{Asks, By, Call, Deed};
-use crate::coding::{coded, fetch_alone};
+use crate::coding::{fetch_alone, installed, landed};
 use crate::pinned::{look, words_under};
-use crate::told::{Told, told_by, told_of_write, told_while};
+use crate::told::{Plain, Told, told_by, told_of_write, told_while};
 use cb_member::NodeId;
 use cb_shared::{Pass, PinAnswer, Shared};
 use cb_types::{Config, Handle, Job, NoMemory};
@@ -60,7 +60,7 @@ pub(crate) fn turn_on<R: Wait>(
 {
     match job_of(shared.config(), h, deed) {
         Some(job) => told_by(shared.turn(rt, alloc, pass, &job)),
-        None => Ok(Told::Other),
+        None => Ok(Told::Just(Plain::Other)),
     }
 }
 
@@ -70,10 +70,10 @@ fn leave(shared: &Shared, objects: &[Handle], pass: &mut Pass) -> Told
     ensures caller { IsCaller shared.now objects.now pass.new }
 {
     if pass.share() <= 1 {
-        return Told::Other;
+        return Told::Just(Plain::Other);
     }
     mem::forget(shared.split(pass, 1));
-    Told::Left
+    Told::Just(Plain::Left)
 }
 
 /// A call on an object; a write is from the first byte on.
@@ -101,7 +101,7 @@ fn called<R: Wait>(
         Call::Turn(deed) => turn_on(rt, alloc, shared, objects, pass, h, deed),
         Call::Fetch => fetch_alone(rt, alloc, shared, objects, pass, h),
         Call::Leave => Ok(leave(shared, objects, pass)),
-        Call::Install | Call::Land => Ok(Told::Other),
+        Call::Install | Call::Land => Ok(Told::Just(Plain::Other)),
     }
 }
 
@@ -127,7 +127,11 @@ fn second_called<R: Wait>(
 {
     match by {
         By::Beside => called_beside(rt, alloc, shared, objects, first, second, h, call, bytes),
-        By::Between(between) => coded(rt, alloc, shared, objects, first, second, h, call, between),
+        By::Between(between) => match call {
+            Call::Install => installed(rt, alloc, shared, objects, first, second, between),
+            Call::Land => landed(rt, alloc, shared, objects, first, second, h, between),
+            _ => Ok(Told::Just(Plain::Other)),
+        },
         _ => called(rt, alloc, shared, objects, second, h, call, bytes),
     }
 }
@@ -158,7 +162,7 @@ fn called_beside<R: Wait>(
             shared.unpin(second, pin);
             told_while(before, told, behind)
         }
-        _ => Ok(Told::Other),
+        _ => Ok(Told::Just(Plain::Other)),
     }
 }
 
@@ -180,7 +184,7 @@ fn called_by_two<R: Wait>(
 {
     let whole = first.share();
     if whole <= 1 {
-        return Ok(Told::Other);
+        return Ok(Told::Just(Plain::Other));
     }
     let mut second = shared.split(first, 1);
     let is_apart = first.share() + 1 == whole && second.share() == 1;
@@ -200,7 +204,7 @@ fn called_by_two<R: Wait>(
     if is_apart && first.share() == whole {
         told
     } else {
-        Ok(Told::Other)
+        Ok(Told::Just(Plain::Other))
     }
 }
 
@@ -224,7 +228,7 @@ impl<'a, R: Wait> Asks for Caller<'a, R> {
     fn ask(&mut self, i: usize, by: By, call: Call, bytes: &[u8]) -> Result<Told, NoMemory> {
         let (rt, alloc, shared, objects) = (self.rt, self.alloc, self.shared, self.objects);
         if i >= objects.len() {
-            return Ok(Told::Other);
+            return Ok(Told::Just(Plain::Other));
         }
         let h = objects[i];
         match by {

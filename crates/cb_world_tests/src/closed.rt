@@ -6,7 +6,7 @@ ghost use Rattle.cb_shared.specs.Passes.{IsPassOf};
 use crate::bodies::len_shared;
 use crate::merges::given_in;
 use crate::notes::{FREED, Note, last, last_word};
-use crate::told::{Told, told_of};
+use crate::told::{Plain, Told, told_of};
 use cb_core::{Event, step};
 use cb_shared::{CloseRefused, Pass, Shared};
 use cb_types::{Config, Handle, Job, NoMemory, Reply};
@@ -47,13 +47,13 @@ fn version_of(world: &World, h: Handle) -> u64
 /// What a read of an object is to tell by its last version.
 fn wanted(notes: &[Note], object: usize) -> Told {
     match last_word(notes, object) {
-        Some(FREED) => Told::Freed,
+        Some(FREED) => Told::Just(Plain::Freed),
         Some(word) => Told::Bytes {
             version: last(notes, object),
             len: len_shared(object),
             word,
         },
-        None => Told::Other,
+        None => Told::Just(Plain::Other),
     }
 }
 

@@ -8,9 +8,9 @@ ghost use Rattle.cb_swapin.specs.declared.fetching.Fetching.TheVariants as fetch
 ghost use Rattle.cb_shared.specs.Passes.{record_of};
 ghost use Rattle.cb_world_tests.specs.Callers.{IsCaller, IsKnownAmong};
 
-use crate::asking::{Between, Call, Made};
+use crate::asking::{Between, Made};
 use crate::called::turn_on;
-use crate::told::{Told, told_by, told_of};
+use crate::told::{Plain, Told, told_by, told_of};
 use cb_core::{Fetching, Gathered};
 use cb_orders::{DecodeDone, EncodeDone, run_decode, run_encode};
 use cb_shared::{Pass, Shared};
@@ -105,7 +105,7 @@ fn install_run<R: Wait>(
 
 /// A batch begins, its order is run, the second pass makes turns, and the parities are installed:
 /// what the install tells.
-fn installed<R: Wait>(
+pub(crate) fn installed<R: Wait>(
     rt: &R,
     alloc: Global,
     shared: &Shared,
@@ -120,13 +120,13 @@ fn installed<R: Wait>(
     ensures second { IsCaller shared.now objects.now second.new }
 {
     let Some(order) = gathered(rt, alloc, shared, objects, first)? else {
-        return Ok(Told::Other);
+        return Ok(Told::Just(Plain::Other));
     };
     let Ok(done) = run_encode(alloc, order) else {
         return Err(NoMemory);
     };
     if !are_made(rt, alloc, shared, objects, second, between)? {
-        return Ok(Told::Other);
+        return Ok(Told::Just(Plain::Other));
     }
     let reply = install_run(rt, shared, objects, first, done);
     Ok(told_of(&reply))
@@ -176,8 +176,8 @@ pub(crate) fn fetch_alone<R: Wait>(
     ensures caller { IsCaller shared.now objects.now pass.new }
 {
     match fetched(rt, alloc, shared, objects, pass, h)? {
-        Some(_) => Ok(Told::Fetched),
-        None => Ok(Told::Other),
+        Some(_) => Ok(Told::Just(Plain::Fetched)),
+        None => Ok(Told::Just(Plain::Other)),
     }
 }
 
@@ -201,7 +201,7 @@ fn land_run<R: Wait>(
 
 /// The rows of an object are handed out in an order, it is run, the second pass makes turns, and the
 /// row is landed: what the landing tells.
-fn landed<R: Wait>(
+pub(crate) fn landed<R: Wait>(
     rt: &R,
     alloc: Global,
     shared: &Shared,
@@ -218,38 +218,13 @@ fn landed<R: Wait>(
     ensures second { IsCaller shared.now objects.now second.new }
 {
     let Some(order) = fetched(rt, alloc, shared, objects, first, h)? else {
-        return Ok(Told::Other);
+        return Ok(Told::Just(Plain::Other));
     };
     let Ok(done) = run_decode(alloc, order) else {
         return Err(NoMemory);
     };
     if !are_made(rt, alloc, shared, objects, second, between)? {
-        return Ok(Told::Other);
+        return Ok(Told::Just(Plain::Other));
     }
     told_by(land_run(rt, alloc, shared, objects, first, done))
-}
-
-/// What a pass is told by an order, between whose two turns the second pass makes its own.
-pub(crate) fn coded<R: Wait>(
-    rt: &R,
-    alloc: Global,
-    shared: &Shared,
-    objects: &[Handle],
-    first: &mut Pass,
-    second: &mut Pass,
-    h: Handle,
-    call: Call,
-    between: Between,
-) -> Result<Told, NoMemory>
-    requires caller { IsCaller shared.now objects.now first.old }
-    requires second { IsCaller shared.now objects.now second.old }
-    requires among { IsKnownAmong h objects.now }
-    ensures caller { IsCaller shared.now objects.now first.new }
-    ensures second { IsCaller shared.now objects.now second.new }
-{
-    match call {
-        Call::Install => installed(rt, alloc, shared, objects, first, second, between),
-        Call::Land => landed(rt, alloc, shared, objects, first, second, h, between),
-        _ => Ok(Told::Other),
-    }
 }

@@ -1,5 +1,5 @@
 //! What passes wrote and read of objects, and whether it is one history.
-use crate::told::Told;
+use crate::told::{Number, Plain, Told};
 use cb_types::NoMemory;
 
 /// The object that may be freed.
@@ -20,7 +20,7 @@ pub(crate) struct Note {
 /// The version that a call told of, written with this word or read with its own.
 fn note_of(object: usize, word: u64, told: Told) -> Option<Note> {
     match told {
-        Told::Version(version) => Some(Note {
+        Told::Count(Number::Version, version) => Some(Note {
             object,
             version,
             word,
@@ -39,8 +39,8 @@ fn note_of(object: usize, word: u64, told: Told) -> Option<Note> {
 /// Whether no call is wrong that tells so.
 fn is_right(object: usize, told: Told) -> bool {
     match told {
-        Told::Torn | Told::Worn | Told::Other => false,
-        Told::Freed => object == MORTAL,
+        Told::Just(Plain::Torn) | Told::Just(Plain::Worn) | Told::Just(Plain::Other) => false,
+        Told::Just(Plain::Freed) => object == MORTAL,
         _ => true,
     }
 }

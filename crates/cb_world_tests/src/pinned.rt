@@ -2,7 +2,7 @@
 ghost use Rattle.cb_shared.specs.Passes.{IsPinOf};
 ghost use Rattle.cb_world_tests.specs.Callers.{IsCaller, IsKnownAmong};
 
-use crate::told::Told;
+use crate::told::{Plain, Told};
 use cb_shared::{Pass, Pin, PinAnswer, Shared};
 use cb_types::Handle;
 
@@ -26,7 +26,7 @@ pub(crate) fn words_under(shared: &Shared, objects: &[Handle], pass: &mut Pass, 
 /// What a pin tells whose words are so, joined bit by bit: by or, and by and.
 fn told_pin(pin: &Pin, any: u64, every: u64) -> Told {
     if any != every {
-        return Told::Torn;
+        return Told::Just(Plain::Torn);
     }
     Told::Bytes {
         version: pin.version(),
@@ -56,9 +56,11 @@ pub(crate) fn look(
             shared.unpin(pass, pin);
             told
         }
-        PinAnswer::Freed => Told::Freed,
-        PinAnswer::ScopeFull => Told::Full,
-        PinAnswer::NotHere => Told::Other,
-        PinAnswer::Moving | PinAnswer::Crowded | PinAnswer::Raced { .. } => Told::Later,
+        PinAnswer::Freed => Told::Just(Plain::Freed),
+        PinAnswer::ScopeFull => Told::Just(Plain::Full),
+        PinAnswer::NotHere => Told::Just(Plain::Other),
+        PinAnswer::Moving | PinAnswer::Crowded | PinAnswer::Raced { .. } => Told::Just(
+            Plain::Later,
+        ),
     }
 }

@@ -1,7 +1,7 @@
 //! What is done on one thread: tables of calls and of what they tell.
 use crate::asking::{Asks, Between, By, Call, Deed};
 use crate::bodies::{Body, Course};
-use crate::told::Told;
+use crate::told::{Number, Plain, Told};
 use cb_types::NoMemory;
 
 /// The number of an object, who calls, a call on it, one byte for a write, and what the call is to
@@ -25,9 +25,27 @@ static TWO_PASSES: [Line; 5] = [
             word: 1,
         },
     ),
-    (0, By::Beside, Call::WriteHere, 2, Told::Pinned(1)),
-    (0, By::Beside, Call::Turn(Deed::Evict), 0, Told::NoSpans(0)),
-    (0, By::Itself, Call::WriteHere, 2, Told::Version(2)),
+    (
+        0,
+        By::Beside,
+        Call::WriteHere,
+        2,
+        Told::Count(Number::Pinned, 1),
+    ),
+    (
+        0,
+        By::Beside,
+        Call::Turn(Deed::Evict),
+        0,
+        Told::Count(Number::NoSpans, 0),
+    ),
+    (
+        0,
+        By::Itself,
+        Call::WriteHere,
+        2,
+        Told::Count(Number::Version, 2),
+    ),
     (
         0,
         By::Second,
@@ -54,7 +72,13 @@ static CALLS: [Line; 7] = [
             word: 0x201,
         },
     ),
-    (0, By::Itself, Call::Write, 3, Told::Version(2)),
+    (
+        0,
+        By::Itself,
+        Call::Write,
+        3,
+        Told::Count(Number::Version, 2),
+    ),
     (
         0,
         By::Itself,
@@ -66,21 +90,51 @@ static CALLS: [Line; 7] = [
             word: 0x203,
         },
     ),
-    (0, By::Itself, Call::Free, 0, Told::Version(3)),
-    (0, By::Itself, Call::Read, 0, Told::Freed),
-    (0, By::Itself, Call::Look, 0, Told::Freed),
-    (0, By::Itself, Call::WriteHere, 0, Told::Freed),
+    (
+        0,
+        By::Itself,
+        Call::Free,
+        0,
+        Told::Count(Number::Version, 3),
+    ),
+    (0, By::Itself, Call::Read, 0, Told::Just(Plain::Freed)),
+    (0, By::Itself, Call::Look, 0, Told::Just(Plain::Freed)),
+    (0, By::Itself, Call::WriteHere, 0, Told::Just(Plain::Freed)),
 ];
 
 /// The first of two objects is moved to a span of its own.
-const FILTERED: Line = (0, By::Itself, Call::Turn(Deed::Filter), 0, Told::Moved);
+const FILTERED: Line = (
+    0,
+    By::Itself,
+    Call::Turn(Deed::Filter),
+    0,
+    Told::Just(Plain::Moved),
+);
 
 /// Both leave, and the nodes crash on which they are.
 static LOST: [Line; 4] = [
     FILTERED,
-    (0, By::Itself, Call::Turn(Deed::Evict), 0, Told::Set(0)),
-    (0, By::Itself, Call::Turn(Deed::Crash(0)), 0, Told::Epoch(1)),
-    (0, By::Itself, Call::Turn(Deed::Crash(1)), 0, Told::Epoch(2)),
+    (
+        0,
+        By::Itself,
+        Call::Turn(Deed::Evict),
+        0,
+        Told::Count(Number::Set, 0),
+    ),
+    (
+        0,
+        By::Itself,
+        Call::Turn(Deed::Crash(0)),
+        0,
+        Told::Count(Number::Epoch, 1),
+    ),
+    (
+        0,
+        By::Itself,
+        Call::Turn(Deed::Crash(1)),
+        0,
+        Told::Count(Number::Epoch, 2),
+    ),
 ];
 
 /// Both are read back.
@@ -113,93 +167,174 @@ static READS: [Line; 2] = [
 const ALONE: By = By::Between((None, None));
 
 /// The rows of a batch are put one after another.
-const FIRST: Line = (0, By::Itself, Call::Turn(Deed::Ship), 0, Told::Shipped(0));
+const FIRST: Line = (
+    0,
+    By::Itself,
+    Call::Turn(Deed::Ship),
+    0,
+    Told::Count(Number::Shipped, 0),
+);
 
-const SECOND: Line = (0, By::Itself, Call::Turn(Deed::Ship), 0, Told::Shipped(1));
+const SECOND: Line = (
+    0,
+    By::Itself,
+    Call::Turn(Deed::Ship),
+    0,
+    Told::Count(Number::Shipped, 1),
+);
 
-const THIRD: Line = (0, By::Itself, Call::Turn(Deed::Ship), 0, Told::Shipped(2));
+const THIRD: Line = (
+    0,
+    By::Itself,
+    Call::Turn(Deed::Ship),
+    0,
+    Told::Count(Number::Shipped, 2),
+);
 
-const FOURTH: Line = (0, By::Itself, Call::Turn(Deed::Ship), 0, Told::Shipped(3));
+const FOURTH: Line = (
+    0,
+    By::Itself,
+    Call::Turn(Deed::Ship),
+    0,
+    Told::Count(Number::Shipped, 3),
+);
 
 /// A batch gets its parities by an order, is shipped and committed.
 static BATCH: [Line; 7] = [
     FILTERED,
-    (0, ALONE, Call::Install, 0, Told::Done),
+    (0, ALONE, Call::Install, 0, Told::Just(Plain::Done)),
     FIRST,
     SECOND,
     THIRD,
     FOURTH,
-    (0, By::Itself, Call::Turn(Deed::Commit), 0, Told::Set(0)),
+    (
+        0,
+        By::Itself,
+        Call::Turn(Deed::Commit),
+        0,
+        Told::Count(Number::Set, 0),
+    ),
 ];
 
 /// A second pass gives the batch up.
-const ABORTED: Between = (Some((0, Deed::Abort, Told::Done)), None);
+const ABORTED: Between = (Some((0, Deed::Abort, Told::Just(Plain::Done))), None);
 
 /// And begins the next one.
 const BEGUN_ANEW: Between = (
-    Some((0, Deed::Abort, Told::Done)),
-    Some((0, Deed::Begin, Told::Batch(2))),
+    Some((0, Deed::Abort, Told::Just(Plain::Done))),
+    Some((0, Deed::Begin, Told::Count(Number::Batch, 2))),
 );
 
 /// It makes turns that leave the batch as it is.
 const FILTERS: Between = (
-    Some((0, Deed::Filter, Told::Later)),
-    Some((0, Deed::Rebuild, Told::Whole)),
+    Some((0, Deed::Filter, Told::Just(Plain::Later))),
+    Some((0, Deed::Rebuild, Told::Just(Plain::Whole))),
 );
 
 /// The order of a batch that was given up is not installed, nor where another one is leaving; where
 /// other turns were made, it is.
 static BATCHES: [Line; 10] = [
     FILTERED,
-    (0, By::Between(ABORTED), Call::Install, 0, Told::NoBatch),
+    (
+        0,
+        By::Between(ABORTED),
+        Call::Install,
+        0,
+        Told::Just(Plain::NoBatch),
+    ),
     (
         0,
         By::Between(BEGUN_ANEW),
         Call::Install,
         0,
-        Told::Changed(1),
+        Told::Count(Number::Changed, 1),
     ),
-    (0, By::Itself, Call::Turn(Deed::Abort), 0, Told::Done),
-    (0, By::Between(FILTERS), Call::Install, 0, Told::Done),
+    (
+        0,
+        By::Itself,
+        Call::Turn(Deed::Abort),
+        0,
+        Told::Just(Plain::Done),
+    ),
+    (
+        0,
+        By::Between(FILTERS),
+        Call::Install,
+        0,
+        Told::Just(Plain::Done),
+    ),
     FIRST,
     SECOND,
     THIRD,
     FOURTH,
-    (0, By::Itself, Call::Turn(Deed::Commit), 0, Told::Set(3)),
+    (
+        0,
+        By::Itself,
+        Call::Turn(Deed::Commit),
+        0,
+        Told::Count(Number::Set, 3),
+    ),
 ];
 
 /// The rows of an object are handed out, and no more.
-static FETCH: [Line; 1] = [(0, By::Itself, Call::Fetch, 0, Told::Fetched)];
+static FETCH: [Line; 1] = [(0, By::Itself, Call::Fetch, 0, Told::Just(Plain::Fetched))];
 
 /// Its row is made again by an order, and landed.
-static LAND: [Line; 1] = [(0, ALONE, Call::Land, 0, Told::Swapped)];
+static LAND: [Line; 1] = [(0, ALONE, Call::Land, 0, Told::Just(Plain::Swapped))];
 
 /// So, where a second pass makes the row again too.
 const REBUILT: Between = (
-    Some((0, Deed::Rebuild, Told::Whole)),
-    Some((1, Deed::Filter, Told::Stays)),
+    Some((0, Deed::Rebuild, Told::Just(Plain::Whole))),
+    Some((1, Deed::Filter, Told::Just(Plain::Stays))),
 );
 
-static REBUILD: [Line; 1] = [(0, By::Between(REBUILT), Call::Land, 0, Told::Swapped)];
+static REBUILD: [Line; 1] = [(
+    0,
+    By::Between(REBUILT),
+    Call::Land,
+    0,
+    Told::Just(Plain::Swapped),
+)];
 
 /// But not where it frees both objects, with which their set is gone.
 const FREED: Between = (
-    Some((1, Deed::Free, Told::Version(2))),
-    Some((0, Deed::Free, Told::Version(2))),
+    Some((1, Deed::Free, Told::Count(Number::Version, 2))),
+    Some((0, Deed::Free, Told::Count(Number::Version, 2))),
 );
 
-static FREES: [Line; 1] = [(0, By::Between(FREED), Call::Land, 0, Told::Changed(0))];
+static FREES: [Line; 1] = [(
+    0,
+    By::Between(FREED),
+    Call::Land,
+    0,
+    Told::Count(Number::Changed, 0),
+)];
 
 /// Nor where a third node crashes.
-const CRASHED: Between = (Some((0, Deed::Crash(2), Told::Epoch(3))), None);
+const CRASHED: Between = (
+    Some((0, Deed::Crash(2), Told::Count(Number::Epoch, 3))),
+    None,
+);
 
-static LOSES: [Line; 1] = [(0, By::Between(CRASHED), Call::Land, 0, Told::Lost)];
+static LOSES: [Line; 1] = [(
+    0,
+    By::Between(CRASHED),
+    Call::Land,
+    0,
+    Told::Just(Plain::Lost),
+)];
 
 /// The end of the versions.
 static WEARS: [Line; 3] = [
-    (0, By::Itself, Call::WriteHere, 2, Told::Version(u64::MAX)),
-    (0, By::Itself, Call::WriteHere, 3, Told::Worn),
-    (0, By::Itself, Call::Free, 0, Told::Worn),
+    (
+        0,
+        By::Itself,
+        Call::WriteHere,
+        2,
+        Told::Count(Number::Version, u64::MAX),
+    ),
+    (0, By::Itself, Call::WriteHere, 3, Told::Just(Plain::Worn)),
+    (0, By::Itself, Call::Free, 0, Told::Just(Plain::Worn)),
 ];
 
 /// One pin of an object, and one more than the pass may have.
@@ -218,8 +353,8 @@ const PIN: Line = (
 static PINS: [Line; 16] = [PIN; 16];
 
 static FILLS: [Line; 2] = [
-    (0, By::Itself, Call::Hold, 0, Told::Full),
-    (0, By::Itself, Call::Leave, 0, Told::Left),
+    (0, By::Itself, Call::Hold, 0, Told::Just(Plain::Full)),
+    (0, By::Itself, Call::Leave, 0, Told::Just(Plain::Left)),
 ];
 
 /// Whether each line is answered so.
@@ -244,21 +379,29 @@ fn tables_of(body: Body) -> (&'static [Line], &'static [Line]) {
         Body::Crashes => (&LOST, &READS),
         Body::Wears => (&WEARS, &NONE),
         Body::Fills => (&PINS, &FILLS),
-        Body::Order(course) => tables_by(course),
+        Body::Order(course) => (before(course), behind(course)),
         Body::Values | Body::Crew(_) => (&NONE, &NONE),
     }
 }
 
-/// So, of an order.
-fn tables_by(course: Course) -> (&'static [Line], &'static [Line]) {
+/// Of an order: what comes before it.
+fn before(course: Course) -> &'static [Line] {
     match course {
-        Course::Batch => (&BATCH, &NONE),
-        Course::Batches => (&BATCHES, &NONE),
-        Course::Fetch => (&LOST, &FETCH),
-        Course::Land => (&LOST, &LAND),
-        Course::Rebuild => (&LOST, &REBUILD),
-        Course::Frees => (&LOST, &FREES),
-        Course::Loses => (&LOST, &LOSES),
+        Course::Batch | Course::Batches => &NONE,
+        _ => &LOST,
+    }
+}
+
+/// The order, and what comes behind it.
+fn behind(course: Course) -> &'static [Line] {
+    match course {
+        Course::Batch => &BATCH,
+        Course::Batches => &BATCHES,
+        Course::Fetch => &FETCH,
+        Course::Land => &LAND,
+        Course::Rebuild => &REBUILD,
+        Course::Frees => &FREES,
+        Course::Loses => &LOSES,
     }
 }
 

@@ -2,36 +2,43 @@
 use cb_shared::WriteAnswer;
 use cb_types::{NoMemory, Reply};
 
-/// What a call was answered.
+/// What a number is that a call tells.
 #[derive(Clone, Copy, PartialEq, Eq)]
-pub(crate) enum Told {
+pub(crate) enum Number {
     /// The object was written or freed, and has this version.
-    Version(u64),
-    /// The object's version, its length, and the word that each eight of its bytes are.
-    Bytes { version: u64, len: usize, word: u64 },
+    Version,
+    /// So many pins are in the way.
+    Pinned,
+    /// Spans left as the set with this number.
+    Set,
+    /// So many spans are loose, which are too few.
+    NoSpans,
+    /// A batch with this number began.
+    Batch,
+    /// The row of this position was put.
+    Shipped,
+    /// The set with this number is another one, or is gone.
+    Changed,
+    Epoch,
+}
+
+/// What a call tells without a number.
+#[derive(Clone, Copy, PartialEq, Eq)]
+pub(crate) enum Plain {
     /// Two words of the object differ.
     Torn,
     Freed,
     Worn,
-    Pinned(u32),
     Moved,
     /// The object is far, or no span is better for it.
     Stays,
-    Set(u64),
-    NoSpans(u32),
-    /// A batch with this number began.
-    Batch(u64),
-    Shipped(u32),
     Done,
     NoBatch,
-    /// The set with this number is another one, or is gone.
-    Changed(u64),
     /// An order was handed out.
     Fetched,
     Swapped,
     /// The set has lost too many shards.
     Lost,
-    Epoch(u64),
     /// A row was made again, or none was lost.
     Whole,
     /// The pass has as many pins as it may have.
@@ -44,27 +51,29 @@ pub(crate) enum Told {
     Other,
 }
 
-/// The first eight bytes as a word, the least first.
-fn word_of(bytes: &[u8]) -> u64 {
-    let mut word = 0u64;
-    for byte in bytes.iter().rev() {
-        word = (word << 8) | u64::from(*byte);
-    }
-    word
+/// What a call was answered. An enum of few variants, since its comparison is proved for all pairs.
+#[derive(Clone, Copy, PartialEq, Eq)]
+pub(crate) enum Told {
+    Count(Number, u64),
+    Just(Plain),
+    /// The object's version, its length, and the word that each eight of its bytes are.
+    Bytes { version: u64, len: usize, word: u64 },
 }
 
 /// An object with these bytes.
 fn shown(version: u64, bytes: &[u8]) -> Told {
-    let word = word_of(bytes);
-    for part in bytes.chunks(8) {
-        if word_of(part) != word {
-            return Told::Torn;
+    let mut first = [0u8; 8];
+    for i in 0..bytes.len() {
+        if i < 8 {
+            first[i] = bytes[i];
+        } else if bytes[i] != first[i % 8] {
+            return Told::Just(Plain::Torn);
         }
     }
     Told::Bytes {
         version,
         len: bytes.len(),
-        word,
+        word: u64::from_le_bytes(first),
     }
 }
 
@@ -79,38 +88,38 @@ pub(crate) fn told_by(reply: Result<Reply, NoMemory>) -> Result<Told, NoMemory> 
 /// What a reply tells.
 pub(crate) fn told_of(reply: &Reply) -> Told {
     match reply {
-        Reply::Version { version } => Told::Version(*version),
+        Reply::Version { version } => Told::Count(Number::Version, *version),
         Reply::Bytes { version, bytes } => shown(*version, bytes.as_slice()),
-        Reply::Freed => Told::Freed,
-        Reply::Worn => Told::Worn,
-        Reply::Pinned { count } => Told::Pinned(*count),
-        Reply::Moved => Told::Moved,
-        Reply::Same | Reply::NotHere | Reply::NoSlot { .. } => Told::Stays,
-        Reply::Set { set } => Told::Set(set.n),
-        Reply::NoSpans { loose } => Told::NoSpans(*loose),
-        Reply::Batch { set } => Told::Batch(set.n),
-        Reply::Shipped { position } => Told::Shipped(*position),
-        Reply::Done => Told::Done,
-        Reply::NoBatch => Told::NoBatch,
-        Reply::Changed { set } => Told::Changed(set.n),
-        Reply::Swapped { .. } => Told::Swapped,
-        Reply::Unavailable { .. } => Told::Lost,
-        Reply::EpochAt { epoch } => Told::Epoch(epoch.n),
-        Reply::Rebuilt { .. } | Reply::Whole { .. } => Told::Whole,
-        Reply::Moving => Told::Later,
-        _ => Told::Other,
+        Reply::Freed => Told::Just(Plain::Freed),
+        Reply::Worn => Told::Just(Plain::Worn),
+        Reply::Pinned { count } => Told::Count(Number::Pinned, u64::from(*count)),
+        Reply::Moved => Told::Just(Plain::Moved),
+        Reply::Same | Reply::NotHere | Reply::NoSlot { .. } => Told::Just(Plain::Stays),
+        Reply::Set { set } => Told::Count(Number::Set, set.n),
+        Reply::NoSpans { loose } => Told::Count(Number::NoSpans, u64::from(*loose)),
+        Reply::Batch { set } => Told::Count(Number::Batch, set.n),
+        Reply::Shipped { position } => Told::Count(Number::Shipped, u64::from(*position)),
+        Reply::Done => Told::Just(Plain::Done),
+        Reply::NoBatch => Told::Just(Plain::NoBatch),
+        Reply::Changed { set } => Told::Count(Number::Changed, set.n),
+        Reply::Swapped { .. } => Told::Just(Plain::Swapped),
+        Reply::Unavailable { .. } => Told::Just(Plain::Lost),
+        Reply::EpochAt { epoch } => Told::Count(Number::Epoch, epoch.n),
+        Reply::Rebuilt { .. } | Reply::Whole { .. } => Told::Just(Plain::Whole),
+        Reply::Moving => Told::Just(Plain::Later),
+        _ => Told::Just(Plain::Other),
     }
 }
 
 /// What a write in place tells.
 pub(crate) fn told_of_write(answer: WriteAnswer) -> Told {
     match answer {
-        WriteAnswer::Ok { version } => Told::Version(version),
-        WriteAnswer::Freed => Told::Freed,
-        WriteAnswer::Worn => Told::Worn,
-        WriteAnswer::Pinned { count } => Told::Pinned(count),
-        WriteAnswer::Moving | WriteAnswer::Raced { .. } => Told::Later,
-        WriteAnswer::NotHere | WriteAnswer::Range { .. } => Told::Other,
+        WriteAnswer::Ok { version } => Told::Count(Number::Version, version),
+        WriteAnswer::Freed => Told::Just(Plain::Freed),
+        WriteAnswer::Worn => Told::Just(Plain::Worn),
+        WriteAnswer::Pinned { count } => Told::Count(Number::Pinned, u64::from(count)),
+        WriteAnswer::Moving | WriteAnswer::Raced { .. } => Told::Just(Plain::Later),
+        WriteAnswer::NotHere | WriteAnswer::Range { .. } => Told::Just(Plain::Other),
     }
 }
 
@@ -120,8 +129,8 @@ pub(crate) fn told_while(
     told: Result<Told, NoMemory>,
     behind: Told,
 ) -> Result<Told, NoMemory> {
-    if before == Told::Torn || before != behind {
-        return Ok(Told::Torn);
+    if before == Told::Just(Plain::Torn) || before != behind {
+        return Ok(Told::Just(Plain::Torn));
     }
     told
 }
