@@ -395,7 +395,7 @@ module _ (c : Config) where
       still number None scope (Pin name) r v w are (pins_of_same v w goes.1)
       (ap (scope_after scope (Pin name)) goes.0) goes.0
   line_scoped number apart (Some h) scope (Pin name) r v w named are goes =
-      pin_scoped number apart scope name h (named name refl) v w are r goes
+      pin_scoped number apart scope name h (named name refl) v w are r goes.0
   line_scoped number apart None scope (Peek name) r v w named are goes =
       still number None scope (Peek name) r v w are (pins_of_same v w goes.1) refl goes.0
   line_scoped number apart (Some h) scope (Peek name) r v w named are goes =

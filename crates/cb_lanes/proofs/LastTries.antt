@@ -108,7 +108,7 @@ module _ (c : Config) where
   call_last h (line.Read name) r v w may x = read_goes h r v w x
   call_last h (line.Write name at bytes) r v w may x = write_goes h at bytes r v w x
   call_last h (line.Free name) r v w may x = free_goes h r v w x
-  call_last h (line.Pin name) r v w may x = pin_goes h r v w x
+  call_last h (line.Pin name) r v w may x = pin_goes h r v w x.0
   call_last h (line.Peek name) r v w may x =
       never (line.Peek name) r may (λ z. z)
   call_last h (line.Unpin name) r v w may x =

@@ -41,6 +41,7 @@ pub mod LinesFixed
 pub mod LossOrder
 pub mod WorkedGoes
 mod AskedTurns
+pub mod PinTurns
 mod Backing
 mod BringsBack
 pub mod LineParts
@@ -84,6 +85,7 @@ pub mod Stopping
 pub mod LaneStopping
 pub mod UntilLack
 pub mod WorkedPassing
+pub mod WorkedPinTurns
 pub mod WorkedAsking
 pub mod WorkedBodies
 pub mod WorkedRising

@@ -655,7 +655,7 @@ call_adds : (c : Config) (h : ℕ) (q : Request) (r : Reply) (v w : View)
 call_adds c h (Read name) r v w x = read_line c h name r v w x
 call_adds c h (Write name at bytes) r v w x = write_line c h at name bytes r v w x
 call_adds c h (Free name) r v w x = free_line c h name r v w x
-call_adds c h (Pin name) r v w x = pin_line c h name r v w x
+call_adds c h (Pin name) r v w x = pin_line c h name r v w x.0
 call_adds c h (Peek name) r v w x = peek_line h name r v w x
 call_adds c h (Unpin name) r v w x = unpin_line h name r v w x
 call_adds c h (Filter name) r v w x = filter_line c h name r v w x

@@ -166,7 +166,7 @@ module _ (c : Config) where
   call_reply h (Read name) r v w x = read_reply h name r v w x
   call_reply h (Write name at bytes) r v w x = write_reply h at name bytes r v w x
   call_reply h (Free name) r v w x = free_reply h name r v w x
-  call_reply h (Pin name) r v w x = pin_reply h name r v w x
+  call_reply h (Pin name) r v w x = pin_reply h name r v w x.0
   call_reply h (Peek name) r v w x = peek_reply h name r v w x
   call_reply h (Unpin name) r v w x = unpin_reply h name r v w x
   call_reply h (Filter name) r v w x = filter_reply h name r v w x

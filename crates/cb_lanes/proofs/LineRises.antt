@@ -110,7 +110,7 @@ module _ (c : Config) (v w : View) (r : Reply) where
       (ask_new c (Calls (job.Write (record { n = h }) at bytes)) v r w x)
   call_higher h (Free name) x = free_higher h name r v
       (ask_new c (Calls (job.Free (record { n = h }))) v r w x)
-  call_higher h (Pin name) x = pin_higher c h name r v w x
+  call_higher h (Pin name) x = pin_higher c h name r v w x.0
   call_higher h (Peek name) x = peek_higher h name r v (ask_new c (Peeks h) v r w x)
   call_higher h (Unpin name) x = unpin_higher h name r v
   call_higher h (Filter name) x = filter_higher h name r v

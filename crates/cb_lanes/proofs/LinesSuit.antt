@@ -315,7 +315,7 @@ module _ (c : Config) (v w : View) (r : Reply) where
       (not_written c h at bytes r (grown x.1.before v) x.1.last x.1.ends_so)
   call_suits h (Free name) knows read all reply x =
       free_suits w.seen h name r reply (not_told (again_in x.1.last.turns) r x.1.ends_so.0)
-  call_suits h (Pin name) knows read all reply x = pin_suits w.seen h name r reply (not_pin c h r v w x)
+  call_suits h (Pin name) knows read all reply x = pin_suits w.seen h name r reply (not_pin c h r v w x.0)
   call_suits h (Peek name) knows read all reply x =
       peek_suits w.seen h name r reply (not_peek h r v w x) (peek_shows h r v w read all x)
   call_suits h (Unpin name) knows read all reply x = unpin_suits w.seen h name r reply (not_unpin h r v w x)

@@ -251,7 +251,8 @@ module _ (c : Config) (lines : List Line) (lane : ℕ) (named : Option (List ℕ
         unmade_stands (Pin p) p r refl same x,
       )
       pin_comes (Some h) at x adds =
-          own_pin c lines lane named later state v m all z leads grew p h own at (stood (Some h) at) same r x.0 adds room
+          own_pin c lines lane named later state v m all z leads grew p h own at (stood (Some h) at) same r
+          x.0.0 adds room
 
       peek_comes : (o : Option ℕ) → handle p ≡ o → ObjectGoes (goes_own c) o (Peek p) v r m
           → LineAdds v m (told_as o (Peek p) r) → Comes (Peek p) r

@@ -77,7 +77,7 @@ module _ (c : Config) where
 
   ask_own : (ask : Ask) (r : Reply) (v m : View) → goes_in c ask v r m → OwnMore v m
   ask_own (Calls j) r v m x = call_own j r v m x
-  ask_own (Pins h) r v m x = pin_own h r v m x
+  ask_own (Pins h) r v m x = pin_own h r v m x.0
   ask_own (Peeks h) r v m (inl x) = own_same v m x.left
   ask_own (Peeks h) r v m (inr x) = λ k has. subst (λ (z : View). Has k z.own) (sym x.peeks.left) has
   ask_own (Unpins h) r v m (inl x) = own_same v m x.left

@@ -16,7 +16,6 @@ use Rattle.cb_world.specs.declared.event.Event.{Event}
 use Rattle.cb_rule.specs.declared.turn.Turn.{Turn}
 use Rattle.cb_rule.specs.declared.view.Look.{Look}
 use Rattle.cb_rule.specs.declared.view.View.{View}
-use Rattle.cb_rule.specs.Lists.{Each}
 use Rattle.cb_rule.specs.Steps.{look_at, with_look}
 use Rattle.cb_record.specs.Deeds.{deed, happened, happening}
 use Rattle.cb_record.specs.Parts.{Grows, Part, grown, nothing_more}
@@ -35,6 +34,7 @@ use Rattle.cb_script.specs.declared.script.Line.{Line}
 use Rattle.cb_types.specs.declared.answer.Answer.{Answer}
 use Rattle.cb_lanes.proofs.ByAsk.{by_ask, line_less}
 use Rattle.cb_lanes.proofs.ByPass.{goes_by, line_by}
+use Rattle.cb_lanes.proofs.Lists.{each_both}
 
 -- ---- what holds of an error
 pub err_always : {T E : Type 0} (r : Result T E) (P : Type 0) → P → OnErr r P
@@ -92,11 +92,6 @@ line_stopped c h q a b x = line_by (asked_or_not (stops_in c)) the_record h q a 
     answer.Unmade (λ ask y. ask_stopped c ask a b y) h q x)
 
 -- ---- looks and turns alone
-each_both : {A : Type 0} (P : A → Type 0) (xs ys : List A) → Each P xs → Each P ys
-    → Each P (xs ++ ys)
-each_both P [] ys a b = b
-each_both P (x ∷ xs) ys a b = (a.0, each_both P xs ys a.1 b)
-
 abbrev idle_part : List Look → List Turn → Part
 idle_part looks turns = record nothing_more { looks = looks; turns = turns }
 
@@ -180,7 +175,7 @@ idle_look h word v = record {
   grows = look_part h word v;
 }
 
-idle_pin : (c : Config) (h : ℕ) (v w : View) → PinStops c h v w → AddsIdly v w
+pub idle_pin : (c : Config) (h : ℕ) (v w : View) → PinStops c h v w → AddsIdly v w
 idle_pin c h v w x = idle_both v x.between w
     (idle_vain (AtThis h) _ x.in_vain.0 v x.between x.in_vain.1 x.in_vain.2)
     (idle_both x.between (with_look h x.lacks.word x.between) w (idle_look h x.lacks.word x.between)
@@ -188,7 +183,7 @@ idle_pin c h v w x = idle_both v x.between w
 
 idle_ask : (c : Config) (ask : Ask) (v w : View) → stops_in c ask v w → AddsIdly v w
 idle_ask c (Calls j) v w x = idle_call c j v w x
-idle_ask c (Pins h) v w x = idle_pin c h v w x
+idle_ask c (Pins h) v w x = idle_pin c h v w x.0
 idle_ask c (Peeks h) v w x = idle_same v w x
 idle_ask c (Unpins h) v w x = absurd x
 idle_ask c Leaves v w x = absurd x

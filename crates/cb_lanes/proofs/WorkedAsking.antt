@@ -27,6 +27,7 @@ use Rattle.cb_lanes.specs.LineGoes.{Calls, Pins}
 use Rattle.cb_lanes.specs.Passing.{CallGives, IsPinnedOnce, PinEnds, PinGoes, PinTries, PinsAtLast}
 use Rattle.cb_lanes.specs.Passing.{goes_in}
 use Rattle.cb_lanes.proofs.WorkedPassing.{two}
+use Rattle.cb_lanes.proofs.WorkedPinTurns.{gets_a_fetch, gets_a_swap}
 
 -- the pointer word of an object of 8 bytes at place 5, Here and Moving; and of one that is Far
 abbrev calm : ℕ
@@ -366,9 +367,40 @@ pins_in_vain (d, x, is) = eqb-false 1 0 refl (ap (λ (v : View). v.ever) is
     ∙ ap (λ (e : Part). 0 + e.ever) x.part)
 
 -- ---- what is asked of a pass
+abbrev turns_in : Part → List Turn
+turns_in d = d.turns
+
+one_more : (d : Part) (t : Turn) → d.turns ≡ t ∷ [] → (grown d far).turns ≡ t ∷ []
+one_more d t is = ap (λ (ts : List Turn). ts ++ []) is
+
 asks_a_call : goes_in two (Calls (job.Read one)) part answer.Freed
     (grown (sum nothing_more (looked_freed 1 3 0)) part)
 asks_a_call = reads
 
 asks_a_pin : goes_in two (Pins 1) part (answer.Version 3) late
-asks_a_pin = pin_goes
+asks_a_pin = (pin_goes, ([], refl, tt))
+
+-- a pin by a turn that fetches the object, and one that swaps it in at once
+asks_to_fetch : (d : Part) → TurnAdds two (job.Fetch one) (Ok answer.Worn) far d
+    → goes_in two (Pins 1) part answer.Worn (grown d far)
+asks_to_fetch d adds = (
+  (lit< tt, tries_and_lacks d adds),
+  gets_a_fetch adds.turn part (grown d far) (one_more d adds.turn (ap turns_in adds.part))
+      adds.job_is,
+)
+
+swaps_at_once : (d : Part) → TurnAdds two (job.Swap one) (Ok answer.Worn) far d
+    → PinGoes two 1 part answer.Worn (grown d far)
+swaps_at_once d adds = (
+  lit< tt,
+  record {
+    between = far;
+    in_vain = (looked 1 away, vain_look 1 away (IsUnanswered (Brings 1)), refl);
+    ends_so = ends_unswapped d adds;
+  },
+)
+
+asks_to_swap : (d : Part) → TurnAdds two (job.Swap one) (Ok answer.Worn) far d
+    → goes_in two (Pins 1) part answer.Worn (grown d far) → ⊥
+asks_to_swap d adds x = gets_a_swap adds.turn part (grown d far)
+    (one_more d adds.turn (ap turns_in adds.part)) adds.job_is x.1

@@ -216,7 +216,7 @@ full_and_pins w x = let few = x.0 in omega (arith, few)
 
 -- ---- what is asked of a pass
 asks_a_pin : goes_in two (Pins 1) full answer.ScopeFull full
-asks_a_pin = is_full
+asks_a_pin = (is_full, ([], refl, tt))
 
 asks_a_peek : goes_in two (Peeks 1) pinning (answer.Bytes 4 eight) peeking
 asks_a_peek = shows

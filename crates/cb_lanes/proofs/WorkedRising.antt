@@ -155,7 +155,7 @@ rising : LaneRises 1 names lines part
 rising given called = record {
   own = (refl, (refl, tt));
   rises = lane_rises two names lines part then_peeked then_peeked refl
-      (first_pin, pins, (then_peeked, peeks, refl)) (λ h n freed has. has)
+      (first_pin, (pins, ([], refl, tt)), (then_peeked, peeks, refl)) (λ h n freed has. has)
       (λ h last n freed gone has. absurd (none_freed h last gone)) given called;
 }
 

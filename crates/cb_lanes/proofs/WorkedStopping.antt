@@ -27,13 +27,14 @@ use Rattle.cb_shared.proofs.Laws.{grown_nothing, so_far}
 use Rattle.cb_shared.specs.Joining.{unpinned_all}
 use Rattle.cb_shared.specs.Recalls.{Recalls}
 use Rattle.cb_lanes.specs.LaneStops.{AddsIdly, LaneStops, LinesStop}
-use Rattle.cb_lanes.specs.LineGoes.{Leaves, Peeks}
+use Rattle.cb_lanes.specs.LineGoes.{Leaves, Peeks, Pins}
 use Rattle.cb_lanes.specs.Scoped.{AreOneToOne, IsMadeAs}
 use Rattle.cb_lanes.specs.Stopping.{AskStops, BringsNot, LineStops, PinStops, stops_in}
 use Rattle.cb_lanes.proofs.LaneStopping.{lane_stops}
-use Rattle.cb_lanes.proofs.Stopping.{idle_line, idle_next}
+use Rattle.cb_lanes.proofs.Stopping.{idle_next, idle_pin}
 use Rattle.cb_lanes.proofs.WorkedBodies.{part}
 use Rattle.cb_lanes.proofs.WorkedPassing.{pinning, two}
+use Rattle.cb_lanes.proofs.WorkedPinTurns.{gets_a_fetch, gets_a_swap}
 
 abbrev a : List ℕ
 a = 97 ∷ []
@@ -209,12 +210,21 @@ stops_a_pin t is none = record {
 stops_without_a_look : PinStops two 1 (blank two) (blank two) → ⊥
 stops_without_a_look x = let less = looks_more x.between (blank two) x.lacks in omega (arith, less)
 
+-- the turns of a pin come in their order
+stops_fetching : (t : Turn) → t.job ≡ job.Fetch (the_handle 1) → t.reply ≡ None
+    → stops_in two (Pins 1) (blank two) (grown (turned t) far)
+stops_fetching t is none =
+    (stops_a_pin t is none, gets_a_fetch t (blank two) (grown (turned t) far) refl is)
+
+stops_swapping : (t : Turn) → t.job ≡ job.Swap (the_handle 1)
+    → stops_in two (Pins 1) (blank two) (grown (turned t) far) → ⊥
+stops_swapping t is x = gets_a_swap t (blank two) (grown (turned t) far) refl is x.1
+
 -- behind an entry
 stops_behind_an_entry : (w : View) (e : Entry) → w.written ≡ e ∷ []
     → PinStops two 1 (blank two) w → ⊥
 stops_behind_an_entry w e is x = one_zero (ap (λ (es : List Entry). length es)
-    (sym is ∙ ap (λ (v : View). v.written)
-    (idle_line two (Some 1) (Pin a) (blank two) w (inr x)).grows))
+    (sym is ∙ ap (λ (v : View). v.written) (idle_pin two 1 (blank two) w x).grows))
 
 -- ---- the line behind those that were answered
 abbrev lines : List Line

@@ -11,10 +11,12 @@ use Rattle.cb_types.specs.declared.request.Request.{Request}
 use Rattle.cb_rule.specs.declared.view.View.{View}
 use Rattle.cb_rule.specs.Steps.{with_look}
 use Rattle.cb_shared.specs.Calls.{AtNone, Brings, ReadStops, StopsBy, TurnStops, WriteStops}
+use Rattle.cb_shared.specs.Fetching.{GetsTurns}
 use Rattle.cb_shared.specs.Turning.{TurnBy}
 use Rattle.cb_lanes.specs.LineGoes.{Ask, Calls, Goes, Leaves, LineGoes, ObjectGoes, Peeks, Pins}
 use Rattle.cb_lanes.specs.LineGoes.{Unpins}
 use Rattle.cb_lanes.specs.Passing.{PinsInVain}
+use Rattle.cb_lanes.specs.PinTurns.{AreBringing}
 
 -- a turn that found no memory, and nothing else
 abbrev pub TurnLacks : Config → Job → View → View → Type 0
@@ -44,10 +46,11 @@ CallStops c j v w = TurnLacks c j v w
 abbrev pub Stops : Type 0 → Type 1
 Stops A = Ask → A → A → Type 0
 
--- what is asked of a pass: a peek changes nothing, and the end of a pin takes no memory
+-- what is asked of a pass: the turns of a pin come in their order; a peek changes nothing, and the
+-- end of a pin takes no memory
 abbrev pub stops_in : Config → Stops View
 stops_in c (Calls j) v w = CallStops c j v w
-stops_in c (Pins h) v w = PinStops c h v w
+stops_in c (Pins h) v w = PinStops c h v w × GetsTurns (AreBringing h) v w
 stops_in c (Peeks h) v w = w ≡ v
 stops_in c (Unpins h) v w = ⊥
 stops_in c Leaves v w = ⊥
