@@ -38,7 +38,7 @@ mod CallSteps
 mod FarSteps
 mod Fetches
 mod WriteParts
-mod Landings
+mod WriteTurns
 mod WorkedGround
 mod WorkedRights
 mod WorkedPins
