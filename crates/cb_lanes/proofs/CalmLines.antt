@@ -1,6 +1,5 @@
 -- A line is answered with no want of room and no loss where its world makes it easy.
 use Rattle.std.proofs.Common.{◌≡◌, ℕ, ◌^◌, ◌<◌, List, Option, None, Some, refl, sym, subst}
-use Rattle.std.proofs.lemmas.Option.{same_Some, none-some}
 use Rattle.cb_ptr.specs.declared.word.State.{State}
 use Rattle.cb_ptr.specs.declared.word.State.TheVariants as state
 use Rattle.cb_ptr.specs.Word.{state_of, pins_of}
@@ -34,7 +33,7 @@ use Rattle.cb_lanes.specs.LineStep.{LineStep, ObjectStep, OtherStep, IsInReply, 
 use Rattle.cb_lanes.specs.LineStep.{not_pinned, shown, PinLine, at_once, stays_far, swapped_in}
 use Rattle.cb_lanes.specs.declared.side.Side.{Side}
 use Rattle.cb_lanes.proofs.EasyLines.{IsEasyLine, job_whole}
-use Rattle.cb_lanes.proofs.LineKeeps.{line_alone}
+use Rattle.cb_lanes.proofs.LineKeeps.{line_alone, line_within}
 use Rattle.cb_lanes.proofs.Lone.{turn_alone}
 use Rattle.cb_lanes.proofs.Recounting.{turn_beside}
 
@@ -73,29 +72,6 @@ peek_calm seat h w new r (shown at newest reply same) = eased_as r _ tt reply
 abbrev pub LineMakesWithin : ℕ → Request → Type 0
 LineMakesWithin most (Make name bytes) = MakesWithin most (job.Make bytes)
 LineMakesWithin most request = Unit {0}
-
--- the job of a line about no object is no make
-job_within : (most : ℕ) (request : Request) (j : Job) → job_of request ≡ Some j → MakesWithin most j
-job_within most request j e = by request e
-  where
-    is : (i : Job) → MakesWithin most i → Some i ≡ Some j → MakesWithin most j
-    is i x e = subst (MakesWithin most) (same_Some i j e) x
-
-    by : (q : Request) → job_of q ≡ Some j → MakesWithin most j
-    by Evict e = is job.Evict tt e
-    by Begin e = is job.Begin tt e
-    by Ship e = is job.Ship tt e
-    by Commit e = is job.Commit tt e
-    by Abort e = is job.Abort tt e
-    by Pair e = is job.Pair tt e
-    by Patch e = is job.Patch tt e
-    by Merge e = is job.Merge tt e
-    by Part e = is job.Part tt e
-    by Compact e = is job.Compact tt e
-    by Rebuild e = is job.Rebuild tt e
-    by (Crash node) e = is (job.Crash node) tt e
-    by (Join node) e = is (job.Join node) tt e
-    by q e = absurd (none-some j e)
 
 -- facts that make it easy, also behind each eviction of a turn
 module _ {most : ℕ} (E : Holding Words → Type 0) (keeps : KeepsEasy most E) (w : WorldState)
@@ -158,7 +134,7 @@ module _ {most : ℕ} (E : Holding Words → Type 0) (keeps : KeepsEasy most E) 
       event_calm seat (job.Make bytes) new r tt within tt x
   go nodes side seat handle Leave new r line within ready x = eased_as r _ tt x.0
   go nodes side seat handle request new r line within ready x = other_calm side seat handle request
-      (job_of request) new r (job_whole nodes request line) (job_within most request)
+      (job_of request) new r (job_whole nodes request line) (line_within most request)
       (line_alone request) ready x
 
 pub line_calm : {most : ℕ} (E : Holding Words → Type 0) → KeepsEasy most E → (nodes : List ℕ)

@@ -28,7 +28,7 @@ use Rattle.cb_script.specs.declared.script.Line.{Line}
 use Rattle.cb_shared.specs.declared.answers.WriteAnswer.{WriteAnswer}
 use Rattle.cb_shared.specs.declared.answers.WriteAnswer.TheVariants as place
 use Rattle.cb_shared.specs.Calls.{IsLack, SaysAs, WriteCallEnds, WriteFinds, again_in, the_handle}
-use Rattle.cb_lanes.proofs.AskedTurns.{OwnOrLack, brings_lack, write_own}
+use Rattle.cb_shared.proofs.Laws.{OwnOrLack, brings_lack, write_own}
 use Rattle.cb_shared.specs.Turning.{PinsTold}
 use Rattle.cb_lanes.specs.declared.body.Named.{Named}
 use Rattle.cb_lanes.specs.Asked.{asked}

@@ -40,8 +40,8 @@ pub mod Eases
 pub mod LinesFixed
 pub mod LossOrder
 pub mod WorkedGoes
-mod AskedTurns
 pub mod PinTurns
+mod Lacks
 mod Backing
 mod BringsBack
 pub mod LineParts

@@ -49,12 +49,11 @@ use Rattle.cb_shared.specs.declared.reading.ReadAnswer.TheVariants as found
 use Rattle.cb_shared.specs.Reading.{FindsGone, IsReadHere, looked, looked_freed, read_once}
 use Rattle.cb_shared.specs.Turning.{DidAs, FindsAtLast, JobReads, TurnAdds, TurnBy, made_by_turn}
 use Rattle.cb_shared.specs.Turning.{turn_part}
-use Rattle.cb_shared.proofs.Laws.{asked_alone, freed_part}
+use Rattle.cb_shared.proofs.Laws.{OwnOrLack, asked_alone, freed_part, read_own, write_own}
 use Rattle.cb_lanes.specs.Names.{IsOnObject}
 use Rattle.cb_lanes.specs.LineGoes.{CallGoes, LineGoes, job_of}
 use Rattle.cb_lanes.specs.Passing.{CallGives, IsNewestPin, IsNotPinned, LeaveGoes, PeekGoes}
 use Rattle.cb_lanes.specs.Passing.{PinEnds, PinGoes, PinsAtLast, UnpinGoes, goes_in, peeks_of}
-use Rattle.cb_lanes.proofs.AskedTurns.{OwnOrLack, read_own, write_own}
 use Rattle.cb_lanes.proofs.Backing.{vain_backs, ends_back, IsByTurn}
 use Rattle.cb_lanes.proofs.Backing.{IsLast, is_last, turn_backs, its_turn, still_backs}
 use Rattle.cb_lanes.proofs.BringsBack.{bring_backs, pin_by_bringing, read_by_bringing}

@@ -2,10 +2,8 @@
 use Rattle.std.proofs.Common.{◌≡◌, ℕ, Bool, List, [], ◌∷◌, ◌++◌, Option, None, Some, Ok, inl, inr, subst}
 use Rattle.std.specs.List.{AllByRecursion}
 use Rattle.cb_ptr.specs.Word.{state_of}
-use Rattle.cb_member.specs.declared.names.Loss.{Loss}
 use Rattle.cb_types.specs.declared.answer.Answer.{Answer}
 use Rattle.cb_types.specs.declared.config.Config.{Config}
-use Rattle.cb_types.specs.declared.handle.SetId.{SetId}
 use Rattle.cb_types.specs.declared.job.Job.{Job}
 use Rattle.cb_types.specs.declared.job.Job.TheVariants as job
 use Rattle.cb_types.specs.declared.reply.Reply.{Reply}
@@ -29,13 +27,13 @@ use Rattle.cb_shared.specs.declared.answers.WriteAnswer.TheVariants as place
 use Rattle.cb_core.specs.Jobs.{NeedsNoOrder}
 use Rattle.cb_shared.specs.Turning.{DidAs, ReadsByPin, Slate, TurnAdds, TurnBy, slate_run}
 use Rattle.cb_shared.specs.Turning.{slate_shows}
-use Rattle.cb_shared.proofs.Laws.{asked_alone, read_lacks}
-use Rattle.cb_lanes.proofs.AskedTurns.{OwnOrLack, brings_lack, write_own}
+use Rattle.cb_shared.proofs.Laws.{OwnOrLack, asked_alone, brings_lack, read_lacks, write_own}
 use Rattle.cb_lanes.specs.declared.body.Named.{Named}
 use Rattle.cb_lanes.specs.Asked.{HasLineReply}
 use Rattle.cb_lanes.specs.Bodies.{LinesGo, handle_behind}
 use Rattle.cb_lanes.specs.LineGoes.{CallGoes, LineGoes}
 use Rattle.cb_lanes.specs.Passing.{PeekGoes, PinEnds, PinGoes, UnpinGoes, goes_in}
+use Rattle.cb_lanes.proofs.Lacks.{by_lack}
 use Rattle.cb_lanes.proofs.TurnReplies.{so, room_for, write_where, turned_so, free_as, filter_as}
 use Rattle.cb_lanes.proofs.TurnReplies.{evict_rule, begin_rule, ship_rule, commit_rule, abort_rule}
 use Rattle.cb_lanes.proofs.TurnReplies.{rebuild_step, crash_turn, join_turn}
@@ -69,23 +67,14 @@ module _ (c : Config) where
       free_as (state_of y.rule.reply.word) h y.rule.reply.word name y.events r y.rule.reply.answer) tt
       x.ends_so.1
 
-  -- why an object can't be brought in, for a line that may be told so
-  lack_reply : (q : Request) (again : Bool) (r : Reply)
-      → ((set : SetId) (lost : List Loss) → IsReplyOf q (answer.Unavailable set lost))
-      → ((frames loose nodes : ℕ) → IsReplyOf q (answer.NoRoom frames loose nodes))
-      → IsReplyOf q answer.Worn → IsLack again r → IsReplyOf q r
-  lack_reply q again (answer.Unavailable set lost) away room worn x = away set lost
-  lack_reply q again answer.Worn away room worn x = worn
-  lack_reply q again (answer.NoRoom frames loose nodes) away room worn x = room frames loose nodes
-  lack_reply q again r away room worn x = absurd x
-
+  -- why an object can't be brought in may be told to these lines
   read_ends : (h : ℕ) (name : List ℕ) (r : Reply) (v : View) (d : Part) → ReadCallEnds c h r v d
       → IsReplyOf (Read name) r
   read_ends h name (answer.Bytes version bytes) v d x = tt
   read_ends h name answer.Freed v d x = tt
   read_ends h name r v d x =
-      lack_reply (Read name) (again_in d.turns) r (λ set lost. tt) (λ frames loose nodes. tt) tt
-      (read_lacks c h r v d (λ t. t) x)
+      by_lack (IsReplyOf (Read name)) (λ set lost. tt) (λ frames loose nodes. tt) tt
+      (again_in d.turns) r (read_lacks c h r v d (λ t. t) x)
 
   read_reply : (h : ℕ) (name : List ℕ) (r : Reply) (v w : View) → ReadGives c h r v w
       → IsReplyOf (Read name) r
@@ -122,8 +111,8 @@ module _ (c : Config) where
       by (inl y) = turn_reply work (Write name at bytes) r v d tt
           (λ a b z. write_where slate_run slate_shows c name bytes h at a b r (here_again _ r y.0) z)
           tt y.1
-      by (inr y) = lack_reply (Write name at bytes) (again_in d.turns) r (λ set lost. tt)
-          (λ frames loose nodes. tt) tt (brings_lack c h r v d y)
+      by (inr y) = by_lack (IsReplyOf (Write name at bytes)) (λ set lost. tt)
+          (λ frames loose nodes. tt) tt (again_in d.turns) r (brings_lack c h r v d y)
 
   write_reply : (h at : ℕ) (name bytes : List ℕ) (r : Reply) (v w : View)
       → WriteAnswers c h at bytes r v w → IsReplyOf (Write name at bytes) r
@@ -142,8 +131,8 @@ module _ (c : Config) where
   pin_ends h name (answer.Version version) v w x = tt
   pin_ends h name answer.Freed v w x = tt
   pin_ends h name answer.ScopeFull v w x = tt
-  pin_ends h name r v w x = lack_reply (Pin name) (again_in x.0.turns) r (λ set lost. tt)
-      (λ frames loose nodes. tt) tt (brings_lack c h r v x.0 x.1.turned)
+  pin_ends h name r v w x = by_lack (IsReplyOf (Pin name)) (λ set lost. tt)
+      (λ frames loose nodes. tt) tt (again_in x.0.turns) r (brings_lack c h r v x.0 x.1.turned)
 
   pin_reply : (h : ℕ) (name : List ℕ) (r : Reply) (v w : View) → PinGoes c h v r w
       → IsReplyOf (Pin name) r

@@ -20,7 +20,7 @@ use Rattle.cb_shared.specs.Reading.{IsReadHere}
 use Rattle.cb_shared.specs.Turning.{JobReads}
 use Rattle.cb_lanes.specs.LineGoes.{CallGoes, Calls, LineGoes, Peeks}
 use Rattle.cb_lanes.specs.Passing.{IsPinnedOnce, PinGoes, goes_in}
-use Rattle.cb_lanes.proofs.AskedTurns.{OwnOrLack, brings_lack, read_own}
+use Rattle.cb_shared.proofs.Laws.{OwnOrLack, brings_lack, read_own}
 use Rattle.cb_lanes.proofs.LineParts.{about, make_handle}
 use Rattle.cb_lanes.proofs.LineVersions.{by_line}
 use Rattle.cb_lanes.proofs.PinsRead.{has_grown}

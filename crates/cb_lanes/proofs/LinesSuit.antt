@@ -31,10 +31,9 @@ use Rattle.cb_record.specs.Upheld.{IsSeenLong}
 use Rattle.cb_record.proofs.Laws.{has_left}
 use Rattle.cb_shared.specs.Calls.{IsAnswer, IsLack, ReadCallEnds, ReadGives, SaysAs, WriteCallEnds}
 use Rattle.cb_shared.specs.Calls.{again_in}
-use Rattle.cb_lanes.proofs.AskedTurns.{brings_lack, write_told}
+use Rattle.cb_shared.proofs.Laws.{brings_lack, read_lacks, write_told}
 use Rattle.cb_shared.specs.declared.answers.WriteAnswer.{WriteAnswer}
 use Rattle.cb_shared.specs.declared.answers.WriteAnswer.TheVariants as place
-use Rattle.cb_shared.proofs.Laws.{read_lacks}
 use Rattle.cb_lanes.specs.declared.body.Named.{Named}
 use Rattle.cb_lanes.specs.Asked.{HasLineReply}
 use Rattle.cb_lanes.specs.Bodies.{AreNamesOf, KnowsNames, LaneGoes, LinesGo, handle_behind}

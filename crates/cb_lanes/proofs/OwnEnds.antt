@@ -36,8 +36,8 @@ use Rattle.cb_shared.specs.declared.answers.WriteAnswer.{WriteAnswer}
 use Rattle.cb_shared.specs.declared.answers.WriteAnswer.TheVariants as place
 use Rattle.cb_shared.specs.Calls.{IsLack, SaysAs, WriteAnswers, WriteCallEnds, WriteFinds, again_in}
 use Rattle.cb_shared.specs.Calls.{the_handle}
-use Rattle.cb_lanes.proofs.AskedTurns.{OwnOrLack, brings_lack, write_own}
-use Rattle.cb_shared.proofs.Laws.{asked_alone}
+use Rattle.cb_shared.proofs.Laws.{OwnOrLack, asked_alone, brings_lack, write_own}
+use Rattle.cb_lanes.proofs.Lacks.{by_lack}
 use Rattle.cb_shared.specs.Turning.{ReadsByPin, Slate, TurnAdds, held_by, slate_run}
 use Rattle.cb_shared.specs.Turning.{slate_shows}
 
@@ -250,10 +250,8 @@ module _ (h at : ℕ) (bytes : List ℕ) (r : Reply) (of_word : IsOfWord r) wher
 
   -- why an object can't be brought in says nothing of its word
   lack_word : (again : Bool) (q : Reply) → IsLack again q → IsOfWord q → ⊥
-  lack_word again (answer.Unavailable set lost) lack is = is
-  lack_word again (answer.NoRoom frames loose nodes) lack is = is
-  lack_word again answer.Worn lack is = is
-  lack_word again q lack is = absurd lack
+  lack_word = by_lack (λ (q : Reply). IsOfWord q → ⊥) (λ set lost is. is)
+      (λ frames loose nodes is. is) (λ is. is)
 
   ends_saw : (c : Config) (u : View) (d : Part) (m : View)
       → ((l : Look) → Has l d.looks → Has l m.looks) → ((t : Turn) → Has t d.turns → Has t m.turns)

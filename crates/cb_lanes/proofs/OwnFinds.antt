@@ -25,7 +25,7 @@ use Rattle.cb_shared.specs.Reading.{FindsGone, IsReadHere}
 use Rattle.cb_shared.specs.Turning.{FindsAtLast, FindsFreedAfter, JobReads, TurnAdds, made_by_turn}
 use Rattle.cb_shared.specs.Turning.{object_of, turn_part, with_own}
 use Rattle.cb_lanes.specs.Passing.{IsPinnedOnce, PinGoes}
-use Rattle.cb_lanes.proofs.AskedTurns.{OwnOrLack, brings_lack, read_own, write_own}
+use Rattle.cb_shared.proofs.Laws.{OwnOrLack, brings_lack, read_own, write_own}
 
 -- a state of the record with these entries and own handles, by which the version was the newest
 pub record SawNewest (h version : ℕ) (v : View) : Type 0 where

@@ -36,7 +36,7 @@ use Rattle.cb_lanes.specs.KeepsOwn.{KeepsOwn, last_in}
 use Rattle.cb_lanes.specs.LineGoes.{Calls}
 use Rattle.cb_lanes.specs.Passing.{PeekGoes, PinGoes, UnpinGoes}
 use Rattle.cb_lanes.specs.Scopes.{named_on, newest_on, without_newest}
-use Rattle.cb_lanes.proofs.AskedTurns.{brings_lack}
+use Rattle.cb_shared.proofs.Laws.{brings_lack}
 use Rattle.cb_lanes.proofs.LineParts.{LineAdds, told_as}
 use Rattle.cb_lanes.proofs.OwnObjects.{last_hit}
 use Rattle.cb_lanes.proofs.OwnSays.{OwnAt, comes_next, free_one, free_reply, goes_own, peek_reply}

@@ -36,8 +36,7 @@ use Rattle.cb_shared.specs.declared.answers.WriteAnswer.{WriteAnswer}
 use Rattle.cb_shared.specs.declared.answers.WriteAnswer.TheVariants as place
 use Rattle.cb_shared.specs.Calls.{ReadGives, SaysAs, TurnGives, WriteAnswers, the_handle}
 use Rattle.cb_shared.specs.Calls.{IsAnswerTo, again_in}
-use Rattle.cb_lanes.proofs.AskedTurns.{brings_lack, write_told}
-use Rattle.cb_shared.proofs.Laws.{read_lacks}
+use Rattle.cb_shared.proofs.Laws.{brings_lack, read_lacks, write_told}
 use Rattle.cb_lanes.specs.Alone.{change_alone, free_alone, peek_alone, pin_alone, pin_object}
 use Rattle.cb_lanes.specs.Alone.{read_alone, unpin_alone, write_alone}
 use Rattle.cb_lanes.specs.AloneUntil.{is_lack}

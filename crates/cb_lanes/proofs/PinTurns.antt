@@ -1,6 +1,7 @@
 -- The turns of a pin come in the order in which they bring its object in.
 use Rattle.std.proofs.Common.{◌≡◌, ℕ, Bool, true, false, List, [], ◌∷◌, ◌++◌, Option, None, Some}
-use Rattle.std.proofs.Common.{Result, Ok, Err, append_assoc, sym, refl, ap, ◌∙◌, subst}
+use Rattle.std.proofs.Common.{Result, Ok, Err, append_assoc, sym, refl, ap, ◌∙◌, subst, ◌⊎◌}
+use Rattle.std.proofs.Common.{inl, inr}
 use Rattle.std.proofs.lemmas.List.{append_cancel_right}
 use Rattle.std.specs.Result.{IfOk, OnErr}
 use Rattle.cb_member.specs.declared.no_memory.NoMemory.{NoMemory}
@@ -14,16 +15,17 @@ use Rattle.cb_rule.specs.Lists.{Each}
 use Rattle.cb_record.specs.Parts.{Part}
 use Rattle.cb_shared.specs.declared.answers.PinAnswer.{PinAnswer}
 use Rattle.cb_shared.specs.declared.answers.PinAnswer.TheVariants as found
-use Rattle.cb_shared.specs.Calls.{AtNone, Brings, IsInVain, StopsBy, TriesBy, the_handle}
+use Rattle.cb_shared.specs.Calls.{AtNone, Brings, IsInVain, StopsBy, TriesBy, TurnLacks}
+use Rattle.cb_shared.specs.Calls.{the_handle}
 use Rattle.cb_shared.specs.Fetching.{AreBringingTo, AreDone, AreFetches, GetsTurns, brought_in_by}
 use Rattle.cb_shared.specs.Fetching.{job_behind, job_to_fetch}
 use Rattle.cb_shared.specs.Pinning.{PinGives}
 use Rattle.cb_lanes.specs.PinTurns.{AreBringing, AreTried}
-use Rattle.cb_lanes.proofs.AskedTurns.{each_brings}
+use Rattle.cb_shared.proofs.Laws.{each_brings}
 use Rattle.cb_lanes.proofs.Lists.{each_both, each_map}
 
 -- ---- turns of jobs that bring an object in
-abbrev AreToBring : ℕ → List Turn → Type 0
+abbrev pub AreToBring : ℕ → List Turn → Type 0
 AreToBring h ts = Each (λ (t : Turn). Brings h t.job) ts
 
 vain_to_bring : (h : ℕ) (vain : Turn → Type 0) → ((t : Turn) → vain t → Brings h t.job) → (d : Part)
@@ -50,22 +52,32 @@ turns_then : (ts us : List Turn) (v m w : View) → m.turns ≡ ts ++ v.turns �
 turns_then ts us v m w got more =
     more ∙ ap (λ (xs : List Turn). us ++ xs) got ∙ sym (append_assoc us ts v.turns)
 
-stops_to_bring : (h : ℕ) (v w : View) → StopsBy AtNone (Brings h) v w
+pub stops_to_bring : (c : Config) (h : ℕ) (v w : View) → StopsBy c AtNone (Brings h) v w
     → GetsTurns (AreToBring h) v w
-stops_to_bring h v w x = (
-  x.last.turns ++ x.tries.0.turns,
-  turns_then x.tries.0.turns x.last.turns v x.between w (ap (λ (z : View). z.turns) x.tries.2)
-      (ap (λ (z : View). z.turns) x.left),
-  each_both (λ (t : Turn). Brings h t.job) x.last.turns x.tries.0.turns
-      (vain_to_bring h _ (λ t y. y.0) x.last x.lacks)
-      (vain_to_bring h _ (λ t y. y.0) x.tries.0 x.tries.1),
-)
+stops_to_bring c h v w x = behind x.lacks
+  where
+    before : AreToBring h x.tries.0.turns
+    before = vain_to_bring h _ (λ t y. y.0) x.tries.0 x.tries.1
+
+    got : x.between.turns ≡ x.tries.0.turns ++ v.turns
+    got = ap (λ (z : View). z.turns) x.tries.2
+
+    behind : (w ≡ x.between) ⊎ ((j : Job) × Brings h j × TurnLacks c j x.between w)
+        → GetsTurns (AreToBring h) v w
+    behind (inl same) = (x.tries.0.turns, ap (λ (z : View). z.turns) same ∙ got, before)
+    behind (inr (j, may, (e, (d, adds, is)))) = (
+      (adds.turn ∷ []) ++ x.tries.0.turns,
+      turns_then x.tries.0.turns (adds.turn ∷ []) v x.between w got
+          (ap (λ (z : View). z.turns) is
+          ∙ ap (λ (p : Part). p.turns ++ x.between.turns) adds.part),
+      (subst (Brings h) (sym adds.job_is) may, before),
+    )
 
 bring_to_bring : (c : Config) (h : ℕ) (result : Result (Option Reply) NoMemory) (v w : View)
     → IfOk result (λ o. TriesBy c AtNone (Brings h) o v w)
-    → OnErr result (StopsBy AtNone (Brings h) v w) → GetsTurns (AreToBring h) v w
+    → OnErr result (StopsBy c AtNone (Brings h) v w) → GetsTurns (AreToBring h) v w
 bring_to_bring c h (Ok o) v w x y = tries_to_bring c h o v w x
-bring_to_bring c h (Err e) v w x y = stops_to_bring h v w y
+bring_to_bring c h (Err e) v w x y = stops_to_bring c h v w y
 
 -- ---- where they come in the order of a read's none of them reads it
 no_read : (h : ℕ) (j : Job) → Brings h j → j ≡ job.Read (the_handle h) → ⊥
@@ -144,7 +156,7 @@ pin_none h a v w x = tried_none h v w (pin_turns h a v w x)
 module _ (c : Config) (h : ℕ) (a : PinAnswer) (v m w : View) (pin : PinGives h a v m) where
   pub brings_behind : (result : Result (Option Reply) NoMemory)
       → IfOk result (λ o. TriesBy c AtNone (Brings h) o m w)
-      → OnErr result (StopsBy AtNone (Brings h) m w) → GetsTurns (AreFetches h false) m w
+      → OnErr result (StopsBy c AtNone (Brings h) m w) → GetsTurns (AreFetches h false) m w
       → GetsTurns (AreBringing h) v w
   brings_behind result x y are = bringing_then h v m w (pin_none h a v m pin)
       (brings_in_order h m w (bring_to_bring c h result m w x y) are)
@@ -154,7 +166,7 @@ module _ (c : Config) (h : ℕ) (a : PinAnswer) (v m w : View) (pin : PinGives h
       → IfOk result (λ o. o ≡ None → GetsTurns (AreBringingTo h b n) m w)
       → IfOk result (λ o. o ≡ None → GetsTurns (AreTried h) v w)
   tries_behind b n (Err e) x y = tt
-  tries_behind b n (Ok o) x y none = tried_then h v m w (pin_none h a v m pin)
+  tries_behind b n (Ok o) x y = λ none. tried_then h v m w (pin_none h a v m pin)
       (tries_in_order h b n m w (tries_to_bring c h o m w x) (y none))
 
 pub only_bringing : (h : ℕ) (v w : View) → GetsTurns (AreTried h) v w → GetsTurns (AreBringing h) v w

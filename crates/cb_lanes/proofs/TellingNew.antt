@@ -17,7 +17,7 @@ use Rattle.cb_shared.specs.Calls.{IsLack, IsWrittenOnce, SaysAs, WriteCallEnds, 
 use Rattle.cb_shared.specs.Calls.{again_in, the_handle}
 use Rattle.cb_shared.specs.declared.answers.WriteAnswer.{WriteAnswer}
 use Rattle.cb_shared.specs.declared.answers.WriteAnswer.TheVariants as place
-use Rattle.cb_lanes.proofs.AskedTurns.{OwnOrLack, brings_lack, write_own}
+use Rattle.cb_shared.proofs.Laws.{OwnOrLack, brings_lack, write_own}
 use Rattle.cb_shared.specs.Turning.{TurnAdds}
 use Rattle.cb_lanes.specs.LineGoes.{Ask, Calls, Peeks}
 use Rattle.cb_lanes.specs.Passing.{PeekGoes, goes_in}

@@ -21,8 +21,7 @@ use Rattle.cb_shared.specs.Calls.{AtThis, Brings, FoundFar, IsAnswerTo, IsInVain
 use Rattle.cb_shared.specs.Calls.{again_in}
 use Rattle.cb_shared.specs.Reading.{looked, looked_freed}
 use Rattle.cb_shared.specs.Turning.{TurnAdds, with_own}
-use Rattle.cb_shared.proofs.Laws.{read_lacks, so_far, vain_look}
-use Rattle.cb_lanes.proofs.AskedTurns.{brings_lack, each_brings}
+use Rattle.cb_shared.proofs.Laws.{brings_lack, each_brings, read_lacks, so_far, vain_look}
 use Rattle.cb_lanes.specs.LineGoes.{Calls, Pins}
 use Rattle.cb_lanes.specs.Passing.{CallGives, IsPinnedOnce, PinEnds, PinGoes, PinTries, PinsAtLast}
 use Rattle.cb_lanes.specs.Passing.{goes_in}

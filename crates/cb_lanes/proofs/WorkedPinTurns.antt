@@ -1,5 +1,5 @@
 -- Worked turns of a pin: what meets each definition, and what breaks one of its parts alone.
-use Rattle.std.proofs.Common.{◌≡◌, List, [], ◌∷◌, Option, Some, refl, sym, ap, ◌∙◌, subst}
+use Rattle.std.proofs.Common.{◌≡◌, false, List, [], ◌∷◌, Option, Some, refl, sym, ap, ◌∙◌, subst}
 use Rattle.std.proofs.lemmas.Bool.{eqb-false}
 use Rattle.std.proofs.lemmas.List.{append_cancel_right}
 use Rattle.cb_types.specs.declared.job.Job.{Job}
@@ -88,7 +88,7 @@ module _ (t : Turn) where
   tried_to_swap x = swaps_first x.0
 
 -- ---- a record that got one turn
-one_turn : (P : List Turn → Type 0) (t : Turn) (v w : View) → w.turns ≡ t ∷ v.turns
+pub one_turn : (P : List Turn → Type 0) (t : Turn) (v w : View) → w.turns ≡ t ∷ v.turns
     → GetsTurns P v w → P (t ∷ [])
 one_turn P t v w got (ts, is, of) =
     subst P (append_cancel_right ts (t ∷ []) v.turns (sym is ∙ got)) of

@@ -1,13 +1,14 @@
 -- Worked lanes that found no memory: what meets each definition, and what breaks one of its parts
 -- alone.
 use Rattle.std.proofs.Common.{◌≡◌, ◌≢◌, ℕ, ◌<◌, List, [], ◌∷◌, ◌++◌, length, length-append, Option}
-use Rattle.std.proofs.Common.{None, Some, inl, inr, refl, sym, ap, ◌∙◌, subst, lit≤, arith}
+use Rattle.std.proofs.Common.{None, Some, inl, inr, refl, sym, ap, ◌∙◌, subst, arith}
 use Rattle.std.proofs.lemmas.Bool.{eqb-false}
 use Rattle.std.proofs.lemmas.List.{append-nil}
 use Rattle.cb_types.specs.declared.answer.Answer.{Answer}
 use Rattle.cb_types.specs.declared.request.Request.{Request}
 use Rattle.cb_types.specs.declared.job.Job.{Job}
 use Rattle.cb_types.specs.declared.job.Job.TheVariants as job
+use Rattle.cb_types.specs.Jobs.{job_index}
 use Rattle.cb_types.specs.declared.request.Request.TheVariants.{Evict, Leave, Peek, Pin, Read}
 use Rattle.cb_types.specs.declared.reply.Reply.{Reply}
 use Rattle.cb_types.specs.declared.reply.Reply.TheVariants as answer
@@ -22,8 +23,8 @@ use Rattle.cb_rule.specs.TriesAgain.{tries_again}
 use Rattle.cb_record.specs.Deeds.{Deed, deed, happened, happening}
 use Rattle.cb_record.specs.Parts.{Part, grown, nothing_more}
 use Rattle.cb_shared.specs.Calls.{AtNone, AtThis, Brings, IsAnswerTo, IsInVain, IsUnanswered}
-use Rattle.cb_shared.specs.Calls.{the_handle}
-use Rattle.cb_shared.proofs.Laws.{grown_nothing, so_far}
+use Rattle.cb_shared.specs.Calls.{TurnLacks, the_handle}
+use Rattle.cb_shared.proofs.Laws.{so_far, stops_idle}
 use Rattle.cb_shared.specs.Joining.{unpinned_all}
 use Rattle.cb_shared.specs.Recalls.{Recalls}
 use Rattle.cb_lanes.specs.LaneStops.{AddsIdly, LaneStops, LinesStop}
@@ -31,10 +32,11 @@ use Rattle.cb_lanes.specs.LineGoes.{Leaves, Peeks, Pins}
 use Rattle.cb_lanes.specs.Scoped.{AreOneToOne, IsMadeAs}
 use Rattle.cb_lanes.specs.Stopping.{AskStops, BringsNot, LineStops, PinStops, stops_in}
 use Rattle.cb_lanes.proofs.LaneStopping.{lane_stops}
+use Rattle.cb_lanes.proofs.PinTurns.{AreToBring, stops_to_bring}
 use Rattle.cb_lanes.proofs.Stopping.{idle_next, idle_pin}
 use Rattle.cb_lanes.proofs.WorkedBodies.{part}
 use Rattle.cb_lanes.proofs.WorkedPassing.{pinning, two}
-use Rattle.cb_lanes.proofs.WorkedPinTurns.{gets_a_fetch, gets_a_swap}
+use Rattle.cb_lanes.proofs.WorkedPinTurns.{gets_a_fetch, gets_a_swap, one_turn}
 
 abbrev a : List ℕ
 a = 97 ∷ []
@@ -127,28 +129,20 @@ far = with_look 1 away (blank two)
 abbrev turned : Turn → Part
 turned t = record nothing_more { turns = t ∷ [] }
 
--- a fetch found no memory
-no_memory : (t : Turn) → t.job ≡ job.Fetch (the_handle 1) → t.reply ≡ None
-    → BringsNot two 1 (blank two) (grown (turned t) far)
-no_memory t is none = record {
+-- a turn found no memory that was to bring it in
+lacks_by : (j : Job) → Brings 1 j → (w : View) → TurnLacks two j far w → BringsNot two 1 (blank two) w
+lacks_by j of w lacks = record {
   word = away;
   away = refl;
   lacks = record {
     between = far;
-    last = turned t;
     tries = so_far AtNone (IsUnanswered (Brings 1)) far;
-    lacks = record {
-      looks = [];
-      turns = t ∷ [];
-      at = tt;
-      of = ((inr (inl is), none), tt);
-      idle = ((λ i. happening (is i) (none i)), tt);
-      part = refl;
-    };
-    one = lit≤ tt;
-    left = refl;
+    lacks = inr (j, of, lacks);
   };
 }
+
+no_memory : (w : View) → TurnLacks two (job.Fetch (the_handle 1)) far w → BringsNot two 1 (blank two) w
+no_memory w lacks = lacks_by (job.Fetch (the_handle 1)) (inr (inl refl)) w lacks
 
 -- or there was none for the row, behind a fetch that handed out its order
 no_memory_for_a_row : (t : Turn) → t.job ≡ job.Fetch (the_handle 1)
@@ -159,11 +153,8 @@ no_memory_for_a_row t is told = record {
   away = refl;
   lacks = record {
     between = grown (turned t) far;
-    last = nothing_more;
     tries = (turned t, fetched, refl);
-    lacks = record { looks = []; turns = []; at = tt; of = tt; idle = tt; part = refl };
-    one = lit≤ tt;
-    left = grown_nothing (grown (turned t) far);
+    lacks = inl refl;
   };
 }
   where
@@ -181,44 +172,57 @@ no_memory_for_a_row t is told = record {
         no_answer x = subst (λ (j : Job). IsAnswerTo (tries_again t) j
             (answer.Fetched (record { n = 3 }) 0)) is x
 
+-- it was a turn of another job
+by_an_eviction : (t : Turn) → t.job ≡ job.Evict → BringsNot two 1 (blank two) (grown (turned t) far)
+    → ⊥
+by_an_eviction t is x = no_eviction (subst (Brings 1) is (one_turn (AreToBring 1) t
+    (with_look 1 x.word (blank two)) (grown (turned t) far) refl
+    (stops_to_bring two 1 (with_look 1 x.word (blank two)) (grown (turned t) far) x.lacks)).0)
+  where
+    no_eviction : Brings 1 job.Evict → ⊥
+    no_eviction (inl e) = eqb-false 6 4 refl (ap job_index e)
+    no_eviction (inr (inl e)) = eqb-false 6 21 refl (ap job_index e)
+    no_eviction (inr (inr e)) = eqb-false 6 22 refl (ap job_index e)
+
 found_here : (w : View) → (x : BringsNot two 1 (blank two) w) → x.word ≡ 2684420098 → ⊥
 found_here w x is = eqb-false 1 2 refl
     (ap state_number (sym x.away ∙ ap (λ (n : ℕ). state_of n) is))
 
 looks_more : (v w : View) → BringsNot two 1 v w → looks_in v < looks_in w
 looks_more v w x =
-    let y = x.lacks in
-    let first : looks_in w ≡ length (y.last.looks ++ y.between.looks) = ap looks_in y.left in
-    let then : looks_in y.between ≡ length (y.tries.0.looks ++ look_at 1 x.word ∷ v.looks) =
-    ap looks_in y.tries.2 in
-    let both = length-append y.last.looks y.between.looks in
-    let all = length-append y.tries.0.looks (look_at 1 x.word ∷ v.looks) in
-    omega (arith, first, then, both, all)
+    let z = stops_idle two AtNone (Brings 1) (with_look 1 x.word v) w x.lacks in
+    let all : looks_in w ≡ length (z.0.looks ++ look_at 1 x.word ∷ v.looks) = ap looks_in z.2 in
+    let both = length-append z.0.looks (look_at 1 x.word ∷ v.looks) in
+    omega (arith, all, both)
 
 unlooked : BringsNot two 1 (blank two) (blank two) → ⊥
 unlooked x = let less = looks_more (blank two) (blank two) x in omega (arith, less)
 
 -- behind looks and turns that came to nothing
-stops_a_pin : (t : Turn) → t.job ≡ job.Fetch (the_handle 1) → t.reply ≡ None
-    → PinStops two 1 (blank two) (grown (turned t) far)
-stops_a_pin t is none = record {
+stops_a_pin : (j : Job) → Brings 1 j → (w : View) → TurnLacks two j far w
+    → PinStops two 1 (blank two) w
+stops_a_pin j of w lacks = record {
   between = blank two;
   in_vain = so_far (AtThis 1) (IsUnanswered (Brings 1)) (blank two);
-  lacks = no_memory t is none;
+  lacks = lacks_by j of w lacks;
 }
 
 stops_without_a_look : PinStops two 1 (blank two) (blank two) → ⊥
 stops_without_a_look x = let less = looks_more x.between (blank two) x.lacks in omega (arith, less)
 
 -- the turns of a pin come in their order
-stops_fetching : (t : Turn) → t.job ≡ job.Fetch (the_handle 1) → t.reply ≡ None
-    → stops_in two (Pins 1) (blank two) (grown (turned t) far)
-stops_fetching t is none =
-    (stops_a_pin t is none, gets_a_fetch t (blank two) (grown (turned t) far) refl is)
+stops_fetching : (w : View) → TurnLacks two (job.Fetch (the_handle 1)) far w
+    → stops_in two (Pins 1) (blank two) w
+stops_fetching w (e, (d, adds, is)) = (
+  stops_a_pin (job.Fetch (the_handle 1)) (inr (inl refl)) w (e, (d, adds, is)),
+  gets_a_fetch adds.turn (blank two) w
+      (ap (λ (z : View). z.turns) is ∙ ap (λ (p : Part). p.turns ++ []) adds.part) adds.job_is,
+)
 
-stops_swapping : (t : Turn) → t.job ≡ job.Swap (the_handle 1)
-    → stops_in two (Pins 1) (blank two) (grown (turned t) far) → ⊥
-stops_swapping t is x = gets_a_swap t (blank two) (grown (turned t) far) refl is x.1
+stops_swapping : (w : View) → TurnLacks two (job.Swap (the_handle 1)) far w
+    → stops_in two (Pins 1) (blank two) w → ⊥
+stops_swapping w (e, (d, adds, is)) x = gets_a_swap adds.turn (blank two) w
+    (ap (λ (z : View). z.turns) is ∙ ap (λ (p : Part). p.turns ++ []) adds.part) adds.job_is x.1
 
 -- behind an entry
 stops_behind_an_entry : (w : View) (e : Entry) → w.written ≡ e ∷ []

@@ -1,8 +1,7 @@
 use Rattle.std.proofs.Common.{inr}
-use Rattle.std.proofs.lemmas.Result.{IfOk-weaker}
+use Rattle.std.proofs.lemmas.Result.{IfOk-weaker, on_err_weaker}
 use Rattle.cb_lanes.specs.LineGoes.{Pins}
 use Rattle.cb_lanes.proofs.ByPass.{stays_known}
-use Rattle.cb_lanes.proofs.Stopping.{err_then}
 use Rattle.cb_lanes.proofs.passing.PassCallerCaller.pin.Goals as goal
 
 pub pin-requires-clause-of : goal.pin-requires-clause-of
@@ -20,6 +19,6 @@ returns g c = let goes = IfOk-weaker c.pin.result _ _ (λ r x. (x, c.pin.ensures
   goes = goes;
   stays = stays_known c.args.self.now.shared.now.config (Pins c.args.handle.n) c.pin.result
       c.args.lane.now.pass.seat.me.0 c.pin.new.pass.seat.me.0 goes;
-  error = err_then c.pin.result _ _ (λ x. inr (x, c.pin.ensures.jobs)) c.pin.ensures.error;
+  error = on_err_weaker c.pin.result (λ x. inr (x, c.pin.ensures.jobs)) c.pin.ensures.error;
   well = (c.pin.ensures.of, c.pin.ensures.held);
 }
