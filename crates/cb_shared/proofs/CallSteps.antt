@@ -393,12 +393,17 @@ none_made : (job : Job) → made_by_turn job None ≡ []
 none_made (jobs.Make bytes) = refl
 none_made job = refl
 
+all_looks : (h : ℕ) (ls : List Look) → Each (λ (l : Look). l.handle ≡ h) ls
+    → Each (λ (l : Look). Unit {0}) ls
+all_looks h ls all =
+    each_map (λ (l : Look). l.handle ≡ h) (λ (l : Look). Unit {0}) (λ l is. tt) ls all
+
 -- a read that is part of such a turn leaves looks
 within_looks : (job : Job) (es : List Event) (e : NoMemory) (v : View) (d : Part)
     → JobReads job es (Err e) v d → LooksAlone (λ h. Unit {0}) d
 within_looks (jobs.Read h) es e v d (inl x) = no_looks (λ k. Unit {0}) d x.0
 within_looks (jobs.Read h) es e v d (inr x) =
-    (x.looks, each_map _ _ (λ l is. tt) x.looks x.on, x.part)
+    (x.looks, all_looks h.n x.looks x.on, x.part)
 within_looks job es e v d x = no_looks (λ k. Unit {0}) d x
 
 -- tries of any kind that came to nothing

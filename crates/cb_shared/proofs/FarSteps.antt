@@ -97,16 +97,9 @@ brings_land h = inr (inr refl)
 pub read_brings : (h : ℕ) (j : Job) → Brings h j → IsReadJob h j
 read_brings h j is = inl is
 
-pub write_own : (h at : ℕ) (bytes : List ℕ)
-    → IsWriteJob h at bytes (jobs.Write (the_handle h) at bytes)
-write_own h at bytes = inl refl
-
 pub write_fetch : (h at : ℕ) (bytes : List ℕ) (j : Job) → OfThis (jobs.Fetch (the_handle h)) j
     → IsWriteJob h at bytes j
 write_fetch h at bytes j is = inr (inl is)
-
-pub write_land : (h at : ℕ) (bytes : List ℕ) → IsWriteJob h at bytes jobs.Land
-write_land h at bytes = inr (inr refl)
 
 -- ---- one turn of such a job
 module _ (on : ℕ → Type 0) (may : Job → Type 0) (job : Job) (is : may job)

@@ -35,6 +35,7 @@ mod ReadKept
 mod Glanced
 mod Seeking
 mod CallSteps
+mod AskedTurns
 mod FarSteps
 mod Fetches
 mod WriteParts

@@ -491,11 +491,11 @@ adds_worn j v wrote reads knows notes none = record {
   part = refl;
 }
 
--- ---- a turn of the job Read that found no memory for the bytes: it is counted
+-- ---- a turn of the job Read that found no memory, and did its job up to there: it is counted
 abbrev begun_far : FarState
 begun_far = empty_far 3 two
 
-abbrev lacking : Turn
+abbrev pub lacking : Turn
 lacking = record (worn_turn (job.Read one)) {
   reply = None;
   took = begun_far;
@@ -508,19 +508,19 @@ lacking_part = turn_part lacking [] nothing_more nothing_more
 pub noted_lacking : NotesWritten lacking [] part
 noted_lacking = record { had = refl; left = refl; old = refl; ended = refl }
 
-pub adds_lacking : (e : NoMemory) (v : View) → ((h : ℕ) → Knows h v → 1 ≡ h)
+pub adds_lacking : (e : NoMemory) (v : View) → Did two lacking → ((h : ℕ) → Knows h v → 1 ≡ h)
     → NotesWritten lacking [] v → v.order ≡ None
     → TurnAdds two (job.Read one) (Err e) v lacking_part
-adds_lacking e v knows notes none = record {
+adds_lacking e v did knows notes kept = record {
   turn = lacking;
   more = [];
   within = nothing_more;
   later = nothing_more;
   job_is = refl;
   reply_is = refl;
-  before = sym none;
+  before = sym kept;
   agree = tt;
-  did = inl (record { few = lit< tt; stops = refl }, refl);
+  did = did;
   next = inl (lit< tt, refl);
   wrote = refl;
   notes = notes;

@@ -1,12 +1,13 @@
 -- Worked tries in vain, and reads by turns: what meets each definition, and what breaks one of its
 -- parts alone.
 use Rattle.std.proofs.Common.{◌≡◌, ℕ, true, false, List, [], ◌∷◌, ◌++◌, length, None}
-use Rattle.std.proofs.Common.{Some, Option, Ok, refl, sym, ap, ◌∙◌, ◌⊎◌, subst, inl, inr}
+use Rattle.std.proofs.Common.{Some, Option, Ok, refl, sym, ap, ◌∙◌, ◌⊎◌, ◌+◌, subst, inl, inr}
 use Rattle.std.proofs.Common.{arith}
 use Rattle.std.proofs.lemmas.Bool.{eqb-false}
 use Rattle.std.proofs.lemmas.Option.{none-some, same_Some}
 use Rattle.cb_ptr.specs.Word.{state_number}
 use Rattle.cb_member.specs.declared.no_memory.NoMemory.{NoMemory}
+use Rattle.cb_types.specs.declared.config.Config.{Config}
 use Rattle.cb_types.specs.declared.job.Job.{Job}
 use Rattle.cb_types.specs.declared.job.Job.TheVariants as jobs
 use Rattle.cb_types.specs.Jobs.{job_index}
@@ -30,8 +31,8 @@ use Rattle.cb_shared.proofs.DidAlone.{turn_alone}
 use Rattle.cb_shared.proofs.ReadParts.{grown_nothing}
 use Rattle.cb_shared.proofs.WorkedGround.{away, knows_made, moving, newest_made, part, two}
 use Rattle.cb_shared.proofs.WorkedCalls.{in_vain}
-use Rattle.cb_shared.proofs.WorkedTurns.{adds_lacking, adds_worn, lacking_part, noted_lacking}
-use Rattle.cb_shared.proofs.WorkedTurns.{worn_part, worn_turn}
+use Rattle.cb_shared.proofs.WorkedTurns.{adds_lacking, adds_worn, lacking, lacking_part}
+use Rattle.cb_shared.proofs.WorkedTurns.{noted_lacking, worn_part, worn_turn}
 
 abbrev pub swap : Job
 swap = jobs.Swap (the_handle 1)
@@ -173,14 +174,15 @@ read_of_another (of, x) = another_object of
 
 -- ---- a call that stopped for want of memory: a look that found the object moving, then a turn Read
 -- that found none; such a look alone; and one that found none to make the row
-read_lacked : (e : NoMemory) → TurnLacks two read part (grown lacking_part part)
-read_lacked e = (e, (lacking_part, adds_lacking e part knows_made noted_lacking refl, refl))
+read_lacked : (e : NoMemory) → Did two lacking → TurnLacks two read part (grown lacking_part part)
+read_lacked e did =
+    (e, (lacking_part, adds_lacking e part did knows_made noted_lacking refl, refl))
 
-stops : (e : NoMemory) → ReadStops two 1 part (grown lacking_part part)
-stops e = record {
+stops : (e : NoMemory) → Did two lacking → ReadStops two 1 part (grown lacking_part part)
+stops e did = record {
   between = part;
   tries = (nothing_more, vain_none (AtThis 1) (IsUnanswered (IsReadJob 1)), grown_nothing part);
-  lacks = inr (read, inr refl, read_lacked e);
+  lacks = inr (read, inr refl, read_lacked e did);
 }
 
 stops_at_a_look : ReadStops two 1 part (grown (looked 1 moving) part)
@@ -213,7 +215,7 @@ stops_before_its_row = record {
 -- what the last turn was, where there is one behind no tries
 module _ (on : ℕ → Type 0) (may : Job → Type 0) (t : Turn)
     (x : StopsBy two on may part (grown (turned t) part)) (is : x.between ≡ part) where
-  first : List Turn → Turn
+  abbrev first : List Turn → Turn
   first [] = t
   first (u ∷ us) = u
 

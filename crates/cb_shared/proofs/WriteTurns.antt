@@ -44,8 +44,8 @@ IsFetchTold h told ts =
 pub told_as : (h : ℕ) (way : Way) (told : Option Reply) (b m : Bool) (v w : View)
     → ((r : Option Reply) → IsWayTold way r → r ≡ told) → GetsTurns (IsFound h way b m) v w
     → GetsTurns (IsFetchTold h told) v w
-told_as h way told b m v w as (ts, got, (t, one, of, reply, after)) =
-    (ts, got, (t, one, of, as t.reply reply))
+told_as h way told b m v w only (ts, got, (t, one, of, reply, after)) =
+    (ts, got, (t, one, of, only t.reply reply))
 
 -- by the way: an order was handed out, or the row is not lost
 pub told_made : (h : ℕ) (way : Way) (o : DecodeOrder) (b m : Bool) (v w : View) → way ≡ ways.Made o

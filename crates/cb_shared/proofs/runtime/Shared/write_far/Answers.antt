@@ -7,8 +7,8 @@ use Rattle.cb_shared.specs.Calls.{AtNone, IsWriteJob, OfThis, TriesBy}
 use Rattle.cb_shared.specs.Passes.{record_of}
 use Rattle.cb_shared.specs.Ways.{HasWay, way_told}
 use Rattle.cb_shared.proofs.CallSteps.{err_always}
-use Rattle.cb_shared.proofs.FarSteps.{tries_by_wider, turn_stops, way_knows, write_fetch, write_land}
-use Rattle.cb_shared.proofs.FarSteps.{write_own, write_stops, write_tries}
+use Rattle.cb_shared.proofs.FarSteps.{tries_by_wider, turn_stops, way_knows, write_fetch}
+use Rattle.cb_shared.proofs.FarSteps.{write_stops, write_tries}
 use Rattle.cb_shared.proofs.Resting.{known_below}
 use Rattle.cb_shared.proofs.WriteTurns.{behind_at_most, behind_one, is_one, told_direct, told_made}
 use Rattle.cb_shared.proofs.WriteTurns.{write_first, write_told}
@@ -70,109 +70,118 @@ pub returns-then-is_inside-clause-of : goal.returns-then-is_inside-clause-of
 returns-then-is_inside-clause-of g c = c.land_order.ensures.of
 
 pub returns-then-is_inside-clause-write : goal.returns-then-is_inside-clause-write
-returns-then-is_inside-clause-write g c = write_tries c.args.self.now.config c.args.h.n c.args.at
-    c.args.bytes.now _ jobs.Land (write_land c.args.h.n c.args.at c.args.bytes.now) (λ k n. n) (λ q. refl)
-    c.land_order.result (record_of c.args.pass.now) (record_of c.find_way.new.pass)
-    (record_of c.land_order.new.pass) (ap way_told c.in-Made.is) c.in_ok-order.ensures.tries
+returns-then-is_inside-clause-write g c = let h = c.args.h.n in let a = c.args.at in let b = c.args.bytes.now in
+    let v = record_of c.args.pass.now in let w = record_of c.find_way.new.pass in
+    let u = record_of c.land_order.new.pass in
+    write_tries c.args.self.now.config h a b _ jobs.Land (inr (inr refl)) (λ k n. n)
+    (λ q. refl) c.land_order.result v w u (ap way_told c.in-Made.is) c.in_ok-order.ensures.tries
     c.land_order.ensures.turn
 
 pub returns-then-is_inside-clause-error : goal.returns-then-is_inside-clause-error
-returns-then-is_inside-clause-error g c = write_stops c.args.self.now.config c.args.h.n c.args.at
-    c.args.bytes.now _ jobs.Land (write_land c.args.h.n c.args.at c.args.bytes.now) (λ k n. n) (λ q. refl)
-    c.land_order.result (record_of c.args.pass.now) (record_of c.find_way.new.pass)
-    (record_of c.land_order.new.pass) (ap way_told c.in-Made.is) c.in_ok-order.ensures.tries
+returns-then-is_inside-clause-error g c = let h = c.args.h.n in let a = c.args.at in let b = c.args.bytes.now in
+    let v = record_of c.args.pass.now in let w = record_of c.find_way.new.pass in
+    let u = record_of c.land_order.new.pass in
+    write_stops c.args.self.now.config h a b _ jobs.Land (inr (inr refl)) (λ k n. n)
+    (λ q. refl) c.land_order.result v w u (ap way_told c.in-Made.is) c.in_ok-order.ensures.tries
     c.land_order.ensures.error
 
 pub returns-then-is_inside-clause-jobs : goal.returns-then-is_inside-clause-jobs
-returns-then-is_inside-clause-jobs g c = behind_at_most c.args.h.n (jobs.Write c.args.h c.args.at c.args.bytes.now) _ _ jobs.Land _
-    (inl (refl, c.is_inside.ensures.yes c.if-is_inside.true)) (λ r. refl) (record_of c.args.pass.now)
-    (record_of c.find_way.new.pass) (record_of c.land_order.new.pass)
-    (told_made c.args.h.n c.in_ok-order.field-0 c.in-Made.order c.args.patience.now.brought
-    c.find_way.new.patience.brought (record_of c.args.pass.now) (record_of c.find_way.new.pass)
-    c.in-Made.is c.in_ok-order.ensures.found)
+returns-then-is_inside-clause-jobs g c = let h = c.args.h.n in let a = c.args.at in let b = c.args.bytes.now in
+    let v = record_of c.args.pass.now in let w = record_of c.find_way.new.pass in
+    let u = record_of c.land_order.new.pass in
+    behind_at_most h (jobs.Write c.args.h a b) _ _ jobs.Land _
+    (inl (refl, c.is_inside.ensures.yes c.if-is_inside.true)) (λ r. refl) v w u (told_made h c.in_ok-order.field-0 c.in-Made.order
+    c.args.patience.now.brought c.find_way.new.patience.brought v w c.in-Made.is
+    c.in_ok-order.ensures.found)
     c.land_order.ensures.one
 
 pub returns-then-is_inside-clause-on : goal.returns-then-is_inside-clause-on
-returns-then-is_inside-clause-on g c = IfOk-weaker c.land_order.result _ _
-    (λ o x none. behind_one c.args.h.n (jobs.Write c.args.h c.args.at c.args.bytes.now) _ _ jobs.Land _
-    (inl (refl, c.is_inside.ensures.yes c.if-is_inside.true)) (λ r. refl) (record_of c.args.pass.now)
-    (record_of c.find_way.new.pass) (record_of c.land_order.new.pass)
-    (told_made c.args.h.n c.in_ok-order.field-0 c.in-Made.order c.args.patience.now.brought
-    c.find_way.new.patience.brought (record_of c.args.pass.now) (record_of c.find_way.new.pass)
-    c.in-Made.is c.in_ok-order.ensures.found)
-    (is_one jobs.Land c.find_way.new.patience.brought c.land_order.new.patience.brought
-    (record_of c.find_way.new.pass) (record_of c.land_order.new.pass) (x none))) c.land_order.ensures.brought
+returns-then-is_inside-clause-on g c = let h = c.args.h.n in let a = c.args.at in let b = c.args.bytes.now in
+    let v = record_of c.args.pass.now in let w = record_of c.find_way.new.pass in
+    let u = record_of c.land_order.new.pass in
+    IfOk-weaker c.land_order.result _ _ (λ o x none. behind_one h (jobs.Write c.args.h a b) _ _ jobs.Land _
+    (inl (refl, c.is_inside.ensures.yes c.if-is_inside.true)) (λ r. refl) v w u (told_made h c.in_ok-order.field-0 c.in-Made.order
+    c.args.patience.now.brought c.find_way.new.patience.brought v w c.in-Made.is
+    c.in_ok-order.ensures.found)
+    (is_one jobs.Land c.find_way.new.patience.brought c.land_order.new.patience.brought w u (x none)))
+    c.land_order.ensures.brought
 
 pub returns-else-is_inside-clause-of : goal.returns-else-is_inside-clause-of
 returns-else-is_inside-clause-of g c = c.write_by_turn.ensures.of
 
 pub returns-else-is_inside-clause-write : goal.returns-else-is_inside-clause-write
-returns-else-is_inside-clause-write g c = write_tries c.args.self.now.config c.args.h.n c.args.at
-    c.args.bytes.now _ (jobs.Write c.args.h c.args.at c.args.bytes.now) (write_own c.args.h.n c.args.at c.args.bytes.now) (λ k n. n) (λ q. refl)
-    c.write_by_turn.result (record_of c.args.pass.now) (record_of c.find_way.new.pass)
-    (record_of c.write_by_turn.new.pass) (ap way_told c.in-Made.is) c.in_ok-order.ensures.tries
+returns-else-is_inside-clause-write g c = let h = c.args.h.n in let a = c.args.at in let b = c.args.bytes.now in
+    let v = record_of c.args.pass.now in let w = record_of c.find_way.new.pass in
+    let u = record_of c.write_by_turn.new.pass in
+    write_tries c.args.self.now.config h a b _ (jobs.Write c.args.h a b) (inl refl) (λ k n. n)
+    (λ q. refl) c.write_by_turn.result v w u (ap way_told c.in-Made.is) c.in_ok-order.ensures.tries
     c.write_by_turn.ensures.turn
 
 pub returns-else-is_inside-clause-error : goal.returns-else-is_inside-clause-error
-returns-else-is_inside-clause-error g c = write_stops c.args.self.now.config c.args.h.n c.args.at
-    c.args.bytes.now _ (jobs.Write c.args.h c.args.at c.args.bytes.now) (write_own c.args.h.n c.args.at c.args.bytes.now) (λ k n. n) (λ q. refl)
-    c.write_by_turn.result (record_of c.args.pass.now) (record_of c.find_way.new.pass)
-    (record_of c.write_by_turn.new.pass) (ap way_told c.in-Made.is) c.in_ok-order.ensures.tries
+returns-else-is_inside-clause-error g c = let h = c.args.h.n in let a = c.args.at in let b = c.args.bytes.now in
+    let v = record_of c.args.pass.now in let w = record_of c.find_way.new.pass in
+    let u = record_of c.write_by_turn.new.pass in
+    write_stops c.args.self.now.config h a b _ (jobs.Write c.args.h a b) (inl refl) (λ k n. n)
+    (λ q. refl) c.write_by_turn.result v w u (ap way_told c.in-Made.is) c.in_ok-order.ensures.tries
     c.write_by_turn.ensures.error
 
 pub returns-else-is_inside-clause-jobs : goal.returns-else-is_inside-clause-jobs
-returns-else-is_inside-clause-jobs g c = behind_at_most c.args.h.n (jobs.Write c.args.h c.args.at c.args.bytes.now) _ _ (jobs.Write c.args.h c.args.at c.args.bytes.now) _
-    (inr (refl, c.is_inside.ensures.no c.if-is_inside.false)) (λ r. refl) (record_of c.args.pass.now)
-    (record_of c.find_way.new.pass) (record_of c.write_by_turn.new.pass)
-    (told_made c.args.h.n c.in_ok-order.field-0 c.in-Made.order c.args.patience.now.brought
-    c.find_way.new.patience.brought (record_of c.args.pass.now) (record_of c.find_way.new.pass)
-    c.in-Made.is c.in_ok-order.ensures.found)
+returns-else-is_inside-clause-jobs g c = let h = c.args.h.n in let a = c.args.at in let b = c.args.bytes.now in
+    let v = record_of c.args.pass.now in let w = record_of c.find_way.new.pass in
+    let u = record_of c.write_by_turn.new.pass in
+    behind_at_most h (jobs.Write c.args.h a b) _ _ (jobs.Write c.args.h a b) _
+    (inr (refl, c.is_inside.ensures.no c.if-is_inside.false)) (λ r. refl) v w u (told_made h c.in_ok-order.field-0 c.in-Made.order
+    c.args.patience.now.brought c.find_way.new.patience.brought v w c.in-Made.is
+    c.in_ok-order.ensures.found)
     c.write_by_turn.ensures.one
 
 pub returns-else-is_inside-clause-on : goal.returns-else-is_inside-clause-on
-returns-else-is_inside-clause-on g c = IfOk-weaker c.write_by_turn.result _ _
-    (λ o x none. behind_one c.args.h.n (jobs.Write c.args.h c.args.at c.args.bytes.now) _ _ (jobs.Write c.args.h c.args.at c.args.bytes.now) _
-    (inr (refl, c.is_inside.ensures.no c.if-is_inside.false)) (λ r. refl) (record_of c.args.pass.now)
-    (record_of c.find_way.new.pass) (record_of c.write_by_turn.new.pass)
-    (told_made c.args.h.n c.in_ok-order.field-0 c.in-Made.order c.args.patience.now.brought
-    c.find_way.new.patience.brought (record_of c.args.pass.now) (record_of c.find_way.new.pass)
-    c.in-Made.is c.in_ok-order.ensures.found) x)
+returns-else-is_inside-clause-on g c = let h = c.args.h.n in let a = c.args.at in let b = c.args.bytes.now in
+    let v = record_of c.args.pass.now in let w = record_of c.find_way.new.pass in
+    let u = record_of c.write_by_turn.new.pass in
+    IfOk-weaker c.write_by_turn.result _ _ (λ o x none. behind_one h (jobs.Write c.args.h a b) _ _ (jobs.Write c.args.h a b) _
+    (inr (refl, c.is_inside.ensures.no c.if-is_inside.false)) (λ r. refl) v w u (told_made h c.in_ok-order.field-0 c.in-Made.order
+    c.args.patience.now.brought c.find_way.new.patience.brought v w c.in-Made.is
+    c.in_ok-order.ensures.found) x)
     c.write_by_turn.ensures.on
 
 pub returns-in-Direct-clause-of : goal.returns-in-Direct-clause-of
 returns-in-Direct-clause-of g c = c.write_by_turn-in-Direct.ensures.of
 
 pub returns-in-Direct-clause-write : goal.returns-in-Direct-clause-write
-returns-in-Direct-clause-write g c = write_tries c.args.self.now.config c.args.h.n c.args.at
-    c.args.bytes.now _ (jobs.Write c.args.h c.args.at c.args.bytes.now) (write_own c.args.h.n c.args.at c.args.bytes.now) (λ k n. n) (λ q. refl)
-    c.write_by_turn-in-Direct.result (record_of c.args.pass.now) (record_of c.find_way.new.pass)
-    (record_of c.write_by_turn-in-Direct.new.pass) (ap way_told c.in-Direct.is) c.in_ok-order.ensures.tries
+returns-in-Direct-clause-write g c = let h = c.args.h.n in let a = c.args.at in let b = c.args.bytes.now in
+    let v = record_of c.args.pass.now in let w = record_of c.find_way.new.pass in
+    let u = record_of c.write_by_turn-in-Direct.new.pass in
+    write_tries c.args.self.now.config h a b _ (jobs.Write c.args.h a b) (inl refl) (λ k n. n)
+    (λ q. refl) c.write_by_turn-in-Direct.result v w u (ap way_told c.in-Direct.is) c.in_ok-order.ensures.tries
     c.write_by_turn-in-Direct.ensures.turn
 
 pub returns-in-Direct-clause-error : goal.returns-in-Direct-clause-error
-returns-in-Direct-clause-error g c = write_stops c.args.self.now.config c.args.h.n c.args.at
-    c.args.bytes.now _ (jobs.Write c.args.h c.args.at c.args.bytes.now) (write_own c.args.h.n c.args.at c.args.bytes.now) (λ k n. n) (λ q. refl)
-    c.write_by_turn-in-Direct.result (record_of c.args.pass.now) (record_of c.find_way.new.pass)
-    (record_of c.write_by_turn-in-Direct.new.pass) (ap way_told c.in-Direct.is) c.in_ok-order.ensures.tries
+returns-in-Direct-clause-error g c = let h = c.args.h.n in let a = c.args.at in let b = c.args.bytes.now in
+    let v = record_of c.args.pass.now in let w = record_of c.find_way.new.pass in
+    let u = record_of c.write_by_turn-in-Direct.new.pass in
+    write_stops c.args.self.now.config h a b _ (jobs.Write c.args.h a b) (inl refl) (λ k n. n)
+    (λ q. refl) c.write_by_turn-in-Direct.result v w u (ap way_told c.in-Direct.is) c.in_ok-order.ensures.tries
     c.write_by_turn-in-Direct.ensures.error
 
 pub returns-in-Direct-clause-jobs : goal.returns-in-Direct-clause-jobs
-returns-in-Direct-clause-jobs g c = behind_at_most c.args.h.n (jobs.Write c.args.h c.args.at c.args.bytes.now) _ _ (jobs.Write c.args.h c.args.at c.args.bytes.now) _
-    refl (λ r. refl) (record_of c.args.pass.now)
-    (record_of c.find_way.new.pass) (record_of c.write_by_turn-in-Direct.new.pass)
-    (told_direct c.args.h.n c.in_ok-order.field-0 c.args.patience.now.brought
-    c.find_way.new.patience.brought (record_of c.args.pass.now) (record_of c.find_way.new.pass)
-    c.in-Direct.is c.in_ok-order.ensures.found)
+returns-in-Direct-clause-jobs g c = let h = c.args.h.n in let a = c.args.at in let b = c.args.bytes.now in
+    let v = record_of c.args.pass.now in let w = record_of c.find_way.new.pass in
+    let u = record_of c.write_by_turn-in-Direct.new.pass in
+    behind_at_most h (jobs.Write c.args.h a b) _ _ (jobs.Write c.args.h a b) _
+    refl (λ r. refl) v w u (told_direct h c.in_ok-order.field-0
+    c.args.patience.now.brought c.find_way.new.patience.brought v w c.in-Direct.is
+    c.in_ok-order.ensures.found)
     c.write_by_turn-in-Direct.ensures.one
 
 pub returns-in-Direct-clause-on : goal.returns-in-Direct-clause-on
-returns-in-Direct-clause-on g c = IfOk-weaker c.write_by_turn-in-Direct.result _ _
-    (λ o x none. behind_one c.args.h.n (jobs.Write c.args.h c.args.at c.args.bytes.now) _ _ (jobs.Write c.args.h c.args.at c.args.bytes.now) _
-    refl (λ r. refl) (record_of c.args.pass.now)
-    (record_of c.find_way.new.pass) (record_of c.write_by_turn-in-Direct.new.pass)
-    (told_direct c.args.h.n c.in_ok-order.field-0 c.args.patience.now.brought
-    c.find_way.new.patience.brought (record_of c.args.pass.now) (record_of c.find_way.new.pass)
-    c.in-Direct.is c.in_ok-order.ensures.found) x)
+returns-in-Direct-clause-on g c = let h = c.args.h.n in let a = c.args.at in let b = c.args.bytes.now in
+    let v = record_of c.args.pass.now in let w = record_of c.find_way.new.pass in
+    let u = record_of c.write_by_turn-in-Direct.new.pass in
+    IfOk-weaker c.write_by_turn-in-Direct.result _ _ (λ o x none. behind_one h (jobs.Write c.args.h a b) _ _ (jobs.Write c.args.h a b) _
+    refl (λ r. refl) v w u (told_direct h c.in_ok-order.field-0
+    c.args.patience.now.brought c.find_way.new.patience.brought v w c.in-Direct.is
+    c.in_ok-order.ensures.found) x)
     c.write_by_turn-in-Direct.ensures.on
 
 pub returns-in-Told-clause-of : goal.returns-in-Told-clause-of
