@@ -16,9 +16,9 @@ pin-requires-clause-held g c = c.requires.well.1
 pub returns : goal.returns
 returns g c = let goes = IfOk-weaker c.pin.result _ _ (λ r x. (x, c.pin.ensures.jobs))
     c.pin.ensures.pin in record {
-  goes = goes;
-  stays = stays_known c.args.self.now.shared.now.config (Pins c.args.handle.n) c.pin.result
-      c.args.lane.now.pass.seat.me.0 c.pin.new.pass.seat.me.0 goes;
-  error = on_err_weaker c.pin.result (λ x. inr (x, c.pin.ensures.jobs)) c.pin.ensures.error;
-  well = (c.pin.ensures.of, c.pin.ensures.held);
-}
+      goes = goes;
+      stays = stays_known c.args.self.now.shared.now.config (Pins c.args.handle.n) c.pin.result
+          c.args.lane.now.pass.seat.me.0 c.pin.new.pass.seat.me.0 goes;
+      error = on_err_weaker c.pin.result (λ x. inr (x, c.pin.ensures.jobs)) c.pin.ensures.error;
+      well = (c.pin.ensures.of, c.pin.ensures.held);
+    }
