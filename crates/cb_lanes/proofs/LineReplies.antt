@@ -19,7 +19,7 @@ use Rattle.cb_core.specs.Parts.{Holding}
 use Rattle.cb_core.specs.Turned.{Does}
 use Rattle.cb_rule.specs.declared.view.View.{View}
 use Rattle.cb_record.specs.Parts.{Part, grown}
-use Rattle.cb_shared.specs.Calls.{IsAnswer, IsLack, ReadCallEnds, ReadGives, SaysAs, TurnGives}
+use Rattle.cb_shared.specs.Calls.{IsAnswer, ReadCallEnds, ReadGives, SaysAs, TurnGives}
 use Rattle.cb_shared.specs.Calls.{again_in}
 use Rattle.cb_shared.specs.Calls.{WriteAnswers, WriteCallEnds, the_handle}
 use Rattle.cb_shared.specs.declared.answers.WriteAnswer.{WriteAnswer}

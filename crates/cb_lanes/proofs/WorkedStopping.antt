@@ -9,7 +9,7 @@ use Rattle.cb_types.specs.declared.request.Request.{Request}
 use Rattle.cb_types.specs.declared.job.Job.{Job}
 use Rattle.cb_types.specs.declared.job.Job.TheVariants as job
 use Rattle.cb_types.specs.Jobs.{job_index}
-use Rattle.cb_types.specs.declared.request.Request.TheVariants.{Evict, Leave, Peek, Pin, Read}
+use Rattle.cb_types.specs.declared.request.Request.TheVariants.{Evict, Leave, Peek, Read}
 use Rattle.cb_types.specs.declared.reply.Reply.{Reply}
 use Rattle.cb_types.specs.declared.reply.Reply.TheVariants as answer
 use Rattle.cb_script.specs.declared.script.Line.{Line}
