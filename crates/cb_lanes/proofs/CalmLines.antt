@@ -94,11 +94,13 @@ module _ {most : ℕ} (E : Holding Words → Type 0) (keeps : KeepsEasy most E) 
       by (stays e here) = pin_here m new seat h r here again
       by (swapped f e here) = pin_here m new seat h r here again
 
-  object_calm : (side : Side) (seat : ℕ) (handle : Option ℕ) (request : Request) (new : WorldState) (r : Reply)
+  object_calm : (side : Side) (seat : ℕ) (handle : Option ℕ) (request : Request) (new : WorldState)
+      (r : Reply)
       → ((h : ℕ) → handle ≡ Some h → h < w.desk.settings.handles)
       → ObjectStep side seat handle request w r new → IsEased r
   object_calm side seat None request new r ready x = eased_as r _ tt x.0
-  object_calm side seat (Some h) (Pin name) new r ready x = pin_line_calm seat h new r (ready h refl) x
+  object_calm side seat (Some h) (Pin name) new r ready x =
+      pin_line_calm seat h new r (ready h refl) x
   object_calm side seat (Some h) (Peek name) new r ready x = peek_calm seat h w new r x
   object_calm side seat (Some h) (Unpin name) new r ready x = unpin_calm seat h w new r x
   object_calm side seat (Some h) (Read name) new r ready x =

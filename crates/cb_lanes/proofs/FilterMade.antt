@@ -112,7 +112,8 @@ filter_is frames h w far new es s state.Here at only agree found (inr x) =
 
 rule_is : (frames h : ℕ) (far new : FarState) (es : List Event) (s : Shown)
     → FilterRule frames h far new answer.Unmade es → Agree s es → version_at s h ≡ 0
-rule_is frames h far new es s x agree = filter_is frames h x.word far new es s (state_of x.word) refl
+rule_is frames h far new es s x agree = filter_is frames h x.word far new es s
+    (state_of x.word) refl
     (x.unmade refl) agree x.found x.answer
 
 -- ---- a turn
@@ -127,6 +128,7 @@ module _ (c : Config) (handle : Handle) where
       → Knows handle.n v → r ≢ answer.Unmade
   filter_made r v d x knows e =
       let did = asked_alone c x.turn (job.Filter handle) (Some r) tt x.job_is x.reply_is x.did in
-      let none = turned_is _ _ (subst (λ (q : Reply). DidAs c (job.Filter handle) (Some q) x.turn.start
+      let none = turned_is _ _ (subst
+      (λ (q : Reply). DidAs c (job.Filter handle) (Some q) x.turn.start
       x.turn.acts x.turn.took x.turn.gave) e did) in
       let some = x.made handle.n knows in omega (arith, none, some)

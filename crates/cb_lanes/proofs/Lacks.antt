@@ -6,7 +6,8 @@ use Rattle.cb_types.specs.declared.reply.Reply.{Reply}
 use Rattle.cb_types.specs.declared.reply.Reply.TheVariants as answer
 use Rattle.cb_shared.specs.Calls.{IsLack}
 
-pub by_lack : (P : Reply → Type 0) → ((set : SetId) (lost : List Loss) → P (answer.Unavailable set lost))
+pub by_lack : (P : Reply → Type 0)
+    → ((set : SetId) (lost : List Loss) → P (answer.Unavailable set lost))
     → ((frames loose nodes : ℕ) → P (answer.NoRoom frames loose nodes)) → P answer.Worn
     → (again : Bool) (r : Reply) → IsLack again r → P r
 by_lack P away room worn again (answer.Unavailable set lost) x = away set lost

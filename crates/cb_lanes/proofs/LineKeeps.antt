@@ -148,7 +148,8 @@ module _ (P : WorldState → Type 0) (May : Job → Type 0) (k : IsKeptByTurns P
   peek_kept seat h w new r (not_pinned none is same) p = same_kept w new same p
   peek_kept seat h w new r (shown at newest is same) p = same_kept w new same p
 
-  object_kept : (side : Side) (seat : ℕ) (handle : Option ℕ) (request : Request) (w new : WorldState) (r : Reply)
+  object_kept : (side : Side) (seat : ℕ) (handle : Option ℕ) (request : Request)
+      (w new : WorldState) (r : Reply)
       → ObjectStep side seat handle request w r new → P w → P new
   object_kept side seat None request w new r x p = same_kept w new x.1 p
   object_kept side seat (Some h) (Pin name) w new r x p = pin_kept seat h w new r x p

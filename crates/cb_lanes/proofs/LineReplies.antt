@@ -1,5 +1,6 @@
 -- A line of a lane beside others is answered a reply that it may have.
-use Rattle.std.proofs.Common.{◌≡◌, ℕ, Bool, List, [], ◌∷◌, ◌++◌, Option, None, Some, Ok, inl, inr, subst}
+use Rattle.std.proofs.Common.{◌≡◌, ℕ, Bool, List, [], ◌∷◌, ◌++◌, Option, None, Some, Ok, inl, inr}
+use Rattle.std.proofs.Common.{subst}
 use Rattle.std.specs.List.{AllByRecursion}
 use Rattle.cb_ptr.specs.Word.{state_of}
 use Rattle.cb_types.specs.declared.answer.Answer.{Answer}
@@ -47,7 +48,8 @@ module _ (c : Config) where
       by (asked_alone c x.turn j (Some r) alone x.job_is x.reply_is x.did)
     where
       by : DidAs c j (Some r) x.turn.start x.turn.acts x.turn.took x.turn.gave → IsReplyOf q r
-      by turned = turned_so slate_run slate_shows c ReadsByPin j q r _ _ (λ does. may _ _ does) last turned
+      by turned = turned_so slate_run slate_shows c ReadsByPin j q r _ _
+          (λ does. may _ _ does) last turned
 
   by_turn : (j : Job) (q : Request) (r : Reply) (v w : View) → NeedsNoOrder j
       → ((a b : Holding Slate) → Does slate_run slate_shows ReadsByPin c j a r b → IsReplyOf q r)
@@ -58,13 +60,15 @@ module _ (c : Config) where
   make_reply : (name bytes : List ℕ) (r : Reply) (v w : View) → TurnGives c (job.Make bytes) r v w
       → IsReplyOf (Make name bytes) r
   make_reply name bytes r v w (d, x, is) = turn_reply (job.Make bytes) (Make name bytes) r
-      (grown x.before v) x.last tt (λ a b y. room_for slate_run slate_shows c name bytes a b r y) tt x.ends_so.1
+      (grown x.before v) x.last tt (λ a b y. room_for slate_run slate_shows c name bytes a b r y) tt
+      x.ends_so.1
 
   free_reply : (h : ℕ) (name : List ℕ) (r : Reply) (v w : View)
       → TurnGives c (job.Free (the_handle h)) r v w → IsReplyOf (Free name) r
   free_reply h name r v w (d, x, is) = turn_reply (job.Free (the_handle h)) (Free name) r
       (grown x.before v) x.last tt (λ a b y.
-      free_as (state_of y.rule.reply.word) h y.rule.reply.word name y.events r y.rule.reply.answer) tt
+      free_as (state_of y.rule.reply.word) h y.rule.reply.word name y.events r y.rule.reply.answer)
+      tt
       x.ends_so.1
 
   -- why an object can't be brought in may be told to these lines
@@ -82,10 +86,12 @@ module _ (c : Config) where
 
   says_so : (name bytes : List ℕ) (at : ℕ) (a : WriteAnswer) (r : Reply) → SaysAs a r
       → IsReplyOf (Write name at bytes) r
-  says_so name bytes at (place.Ok version) r is = so (Write name at bytes) r (answer.Version version) tt is
+  says_so name bytes at (place.Ok version) r is =
+      so (Write name at bytes) r (answer.Version version) tt is
   says_so name bytes at place.Freed r is = so (Write name at bytes) r answer.Freed tt is
   says_so name bytes at (place.Range len) r is = so (Write name at bytes) r (answer.Range len) tt is
-  says_so name bytes at (place.Pinned count) r is = so (Write name at bytes) r (answer.Pinned count) tt is
+  says_so name bytes at (place.Pinned count) r is =
+      so (Write name at bytes) r (answer.Pinned count) tt is
   says_so name bytes at place.Worn r is = so (Write name at bytes) r answer.Worn tt is
   says_so name bytes at place.NotHere r is = absurd is
   says_so name bytes at place.Moving r is = absurd is
@@ -109,7 +115,8 @@ module _ (c : Config) where
 
       by : OwnOrLack c work h r v d → IsReplyOf (Write name at bytes) r
       by (inl y) = turn_reply work (Write name at bytes) r v d tt
-          (λ a b z. write_where slate_run slate_shows c name bytes h at a b r (here_again _ r y.0) z)
+          (λ a b z. write_where slate_run slate_shows c name bytes h at a b r
+          (here_again _ r y.0) z)
           tt y.1
       by (inr y) = by_lack (IsReplyOf (Write name at bytes)) (λ set lost. tt)
           (λ frames loose nodes. tt) tt (again_in d.turns) r (brings_lack c h r v d y)

@@ -71,7 +71,8 @@ pin_higher : (c : Config) (h : ℕ) (name : List ℕ) (r : Reply) (v w : View) �
     → IsHigher v h (event_of (Pin name) r)
 pin_higher c h name (answer.Version version) v w (room, x) n freed has =
     let once : IsPinnedOnce h version x.between w = x.ends_so in
-    newest_above h version x.between once.newest n freed (subst (λ (z : View). HasVersion z h n freed)
+    newest_above h version x.between once.newest n freed
+    (subst (λ (z : View). HasVersion z h n freed)
     (sym x.in_vain.2) (has_grown x.in_vain.0 v h n freed has))
 pin_higher c h name answer.Freed v w x n freed has = tt
 pin_higher c h name r v w x n freed has = tt
@@ -95,11 +96,13 @@ peek_higher h name (answer.Bytes version bytes) v new n freed has = new n freed 
 peek_higher h name answer.Freed v new n freed has = tt
 peek_higher h name r v new n freed has = tt
 
-unpin_higher : (h : ℕ) (name : List ℕ) (r : Reply) (v : View) → IsHigher v h (event_of (Unpin name) r)
+unpin_higher : (h : ℕ) (name : List ℕ) (r : Reply) (v : View)
+    → IsHigher v h (event_of (Unpin name) r)
 unpin_higher h name answer.Freed v n freed has = tt
 unpin_higher h name r v n freed has = tt
 
-filter_higher : (h : ℕ) (name : List ℕ) (r : Reply) (v : View) → IsHigher v h (event_of (Filter name) r)
+filter_higher : (h : ℕ) (name : List ℕ) (r : Reply) (v : View)
+    → IsHigher v h (event_of (Filter name) r)
 filter_higher h name answer.Freed v n freed has = tt
 filter_higher h name r v n freed has = tt
 

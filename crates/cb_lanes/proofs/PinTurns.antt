@@ -169,5 +169,6 @@ module _ (c : Config) (h : ℕ) (a : PinAnswer) (v m w : View) (pin : PinGives h
   tries_behind b n (Ok o) x y = λ none. tried_then h v m w (pin_none h a v m pin)
       (tries_in_order h b n m w (tries_to_bring c h o m w x) (y none))
 
-pub only_bringing : (h : ℕ) (v w : View) → GetsTurns (AreTried h) v w → GetsTurns (AreBringing h) v w
+pub only_bringing : (h : ℕ) (v w : View) → GetsTurns (AreTried h) v w
+    → GetsTurns (AreBringing h) v w
 only_bringing h v w (ts, got, (are, done)) = (ts, got, are)

@@ -43,7 +43,8 @@ abbrev pub WasRead : View → ℕ → ℕ → ℕ → Type 0
 WasRead v h version len = (s : Seen) × Has s v.seen × (s.handle ≡ h) × (s.version ≡ version)
     × (s.freed ≡ false) × (s.len ≡ len)
 
-pub was_read : (v : View) (h version len : ℕ) → WasRead v h version len → HasVersion v h version false
+pub was_read : (v : View) (h version len : ℕ) → WasRead v h version len
+    → HasVersion v h version false
 was_read v h version len (s, has, handle, number, held, long) = inr (s, has, handle, number, held)
 
 -- what the one record has read the other has

@@ -1,4 +1,5 @@
--- Worked calls and pins of a pass: what meets each definition, and what breaks one of its parts alone.
+-- Worked calls and pins of a pass: what meets each definition, and what breaks one of its parts
+-- alone.
 use Rattle.std.proofs.Common.{◌≡◌, ℕ, ◌+◌, List, [], ◌∷◌, ◌++◌, length, length-append, None, Some}
 use Rattle.std.proofs.Common.{Ok, inl, inr, refl, ap, ◌∙◌, lit<, arith, ⊎_elim}
 use Rattle.std.proofs.lemmas.Bool.{eqb-false}
@@ -73,7 +74,8 @@ no_tries : (on : ℕ → Type 0) (j : Turn → Type 0) → IsInVain on j nothing
 no_tries on j = record { looks = []; turns = []; at = tt; of = tt; idle = tt; part = refl }
 
 -- a read that found the object freed, with no turn
-reads : CallGives two (job.Read one) part answer.Freed (grown (sum nothing_more (looked_freed 1 3 0)) part)
+reads : CallGives two (job.Read one) part answer.Freed
+    (grown (sum nothing_more (looked_freed 1 3 0)) part)
 reads = (
   sum nothing_more (looked_freed 1 3 0),
   record {
@@ -303,7 +305,8 @@ gives_up x =
     let e : 0 ≡ x.between.ever + 1 = ap (λ (v : View). v.ever) x.ends_so.left in omega (arith, e)
 
 -- an entry was written on the way
-writes_on_the_way : PinsAtLast two 1 (answer.Version 3) part (record late { written = made ∷ made ∷ [] })
+writes_on_the_way : PinsAtLast two 1 (answer.Version 3) part
+    (record late { written = made ∷ made ∷ [] })
     → ⊥
 writes_on_the_way x = eqb-false 2 1 refl (ap (λ (v : View). length v.written) x.ends_so.left
     ∙ ap (λ (v : View). length v.written) x.in_vain.2
@@ -326,7 +329,8 @@ first_at : (ls : List Look) → Each (λ (l : Look). l.handle ≡ 1) ls → firs
 first_at [] each = refl
 first_at (l ∷ ls) each = each.0
 
-looks_elsewhere : PinsAtLast two 1 (answer.Version 3) part (taken calm 3 (with_look 0 moving part)) → ⊥
+looks_elsewhere : PinsAtLast two 1 (answer.Version 3) part (taken calm 3 (with_look 0 moving part))
+    → ⊥
 looks_elsewhere x = eqb-false 0 1 refl (ap (λ (v : View). third v.looks) x.ends_so.left
     ∙ ap (λ (v : View). first v.looks) x.in_vain.2
     ∙ ap (λ (d : Part). first (d.looks ++ [])) x.in_vain.1.part

@@ -45,7 +45,8 @@ abbrev by : ℕ → Request → Line
 by lane request = record { lane = record { n = lane }; line = 2; request = request }
 
 abbrev told : ℕ → Request → Reply → Answer
-told lane request reply = record { lane = record { n = lane }; line = 2; request = request; reply = reply }
+told lane request reply =
+    record { lane = record { n = lane }; line = 2; request = request; reply = reply }
 
 abbrev pins_in : View → ℕ
 pins_in v = length v.pins
@@ -130,7 +131,8 @@ abbrev turned : Turn → Part
 turned t = record nothing_more { turns = t ∷ [] }
 
 -- a turn found no memory that was to bring it in
-lacks_by : (j : Job) → Brings 1 j → (w : View) → TurnLacks two j far w → BringsNot two 1 (blank two) w
+lacks_by : (j : Job) → Brings 1 j → (w : View) → TurnLacks two j far w
+    → BringsNot two 1 (blank two) w
 lacks_by j of w lacks = record {
   word = away;
   away = refl;
@@ -141,7 +143,8 @@ lacks_by j of w lacks = record {
   };
 }
 
-no_memory : (w : View) → TurnLacks two (job.Fetch (the_handle 1)) far w → BringsNot two 1 (blank two) w
+no_memory : (w : View) → TurnLacks two (job.Fetch (the_handle 1)) far w
+    → BringsNot two 1 (blank two) w
 no_memory w lacks = lacks_by (job.Fetch (the_handle 1)) (inr (inl refl)) w lacks
 
 -- or there was none for the row, behind a fetch that handed out its order
@@ -274,16 +277,19 @@ abbrev Stops : List Answer → View → Type 0
 Stops answers w = LaneStops 1 two 1 [] own_lines (blank two) answers w
 
 stopped : Recalls 1 (blank two) → Stops (left ∷ []) (blank two)
-stopped own = lane_stops 1 two 1 [] own_lines (left ∷ []) (blank two) (blank two) (blank two) refl refl tt
+stopped own = lane_stops 1 two 1 [] own_lines (left ∷ []) (blank two) (blank two)
+    (blank two) refl refl tt
     ((refl, tt), ((refl, tt), tt)) (by 1 Evict ∷ [], refl)
-    (record { behind = blank two; goes = (blank two, (refl, refl), refl); stops = inl refl }) refl own refl
+    (record { behind = blank two; goes = (blank two, (refl, refl), refl); stops = inl refl }) refl
+    own refl
 
 abbrev first_request : List Line → Request
 first_request [] = Evict
 first_request (l ∷ ls) = l.request
 
 of_another_line : (w : View) → Stops (told 1 Evict answer.Worn ∷ []) w → ⊥
-of_another_line w x = absurd (let e : ◌≡◌ {A = Request} Leave Evict = ap first_request x.front.1 in cc)
+of_another_line w x = absurd
+    (let e : ◌≡◌ {A = Request} Leave Evict = ap first_request x.front.1 in cc)
 
 no_reply_of_its_line : (w : View) → Stops (told 1 Leave answer.Freed ∷ []) w → ⊥
 no_reply_of_its_line w x = x.answered.0
@@ -300,7 +306,8 @@ hands_no_answer_back x =
     an_entry (subst (λ (v : View). AddsIdly (unpinned_all v) part) x.lines_stop.goes x.adds)
 
 -- no make told a handle
-none_made : (lane n : ℕ) (p : List ℕ) (g : ℕ) → IsMadeAs (told lane Leave (answer.Left n) ∷ []) p g → ⊥
+none_made : (lane n : ℕ) (p : List ℕ) (g : ℕ) → IsMadeAs (told lane Leave (answer.Left n) ∷ []) p g
+    → ⊥
 none_made lane n p g (inl e) = absurd (let z : ◌≡◌ {A = Option ℕ} None (Some g) = e in cc)
 none_made lane n p g (inr x) = absurd x
 

@@ -79,7 +79,8 @@ pub returns-in-Write-clause-pins : goal.returns-in-Write-clause-pins
 returns-in-Write-clause-pins g c = call_leaves c.args.shared.now.config
     (jobs.Write c.in-Write.handle c.in-Write.at c.as_slice-in-Write.result.now)
     (AtThis c.in-Write.handle.n)
-    (IsWriteJob c.in-Write.handle.n c.in-Write.at c.as_slice-in-Write.result.now) c.args.pass.now.seat.me.0 c.write.new.pass.seat.me.0
+    (IsWriteJob c.in-Write.handle.n c.in-Write.at c.as_slice-in-Write.result.now)
+    c.args.pass.now.seat.me.0 c.write.new.pass.seat.me.0
     c.write.result c.write.ensures.write c.write.ensures.error
 
 pub returns-in-Free-clause-call : goal.returns-in-Free-clause-call
@@ -90,7 +91,8 @@ returns-in-Free-clause-call g c = call_is c.args.shared.now.config c.args.job.no
 pub returns-in-Free-clause-pins : goal.returns-in-Free-clause-pins
 returns-in-Free-clause-pins g c = call_leaves c.args.shared.now.config
     (jobs.Free c.in-Free.handle) AtNone (OfThis (jobs.Free c.in-Free.handle))
-    c.args.pass.now.seat.me.0 c.free.new.pass.seat.me.0 c.free.result c.free.ensures.free c.free.ensures.error
+    c.args.pass.now.seat.me.0 c.free.new.pass.seat.me.0 c.free.result c.free.ensures.free
+    c.free.ensures.error
 
 pub make-requires-clause-of : goal.make-requires-clause-of
 make-requires-clause-of g c = c.requires.of
@@ -131,9 +133,11 @@ returns-in_default g c = record {
   pins = turn_leaves c.args.shared.now.config c.args.job.now c.args.pass.now.seat.me.0
       c.turn_within.new.pass.seat.me.0 c.turn_within.result c.turn_within.ensures.turn;
   call = other_call c.args.shared.now.config c.args.job.now c.args.pass.now.seat.me.0
-      c.turn_within.new.pass.seat.me.0 c.turn_within.result c.in_default.not-Make c.in_default.not-Read
+      c.turn_within.new.pass.seat.me.0 c.turn_within.result c.in_default.not-Make
+      c.in_default.not-Read
       c.in_default.not-Write c.in_default.not-Free c.turn_within.ensures.turn;
   error = other_stops c.args.shared.now.config c.args.job.now c.args.pass.now.seat.me.0
-      c.turn_within.new.pass.seat.me.0 c.turn_within.result c.in_default.not-Make c.in_default.not-Read
+      c.turn_within.new.pass.seat.me.0 c.turn_within.result c.in_default.not-Make
+      c.in_default.not-Read
       c.in_default.not-Write c.in_default.not-Free c.turn_within.ensures.turn;
 }

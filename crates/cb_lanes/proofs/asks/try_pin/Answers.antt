@@ -22,7 +22,8 @@ returns-in-Pinned-clause-held g c = held_more c.args.pins.now.items c.keep_pin.n
     c.keep_pin.ensures.kept c.requires.held
 
 pub returns-in-Pinned-clause-pin : goal.returns-in-Pinned-clause-pin
-returns-in-Pinned-clause-pin g c = pinned_once c.args.shared.now.config c.args.h.n c.in-Pinned.pin _ _ _
+returns-in-Pinned-clause-pin g c = pinned_once c.args.shared.now.config c.args.h.n c.in-Pinned.pin _
+    _ _
     c.version-version.ensures
     (was_pinned c.args.h.n c.pin.result c.in-Pinned.pin _ _ c.in-Pinned.is c.pin.ensures.pin)
 

@@ -16,6 +16,7 @@ returns g c = record {
   goes = c.peek.ensures.peek;
   stays = stays_known c.args.self.now.shared.now.config (Peeks c.args.handle.n) c.peek.result
       c.args.lane.now.pass.seat.me.0 c.peek.new.pass.seat.me.0 c.peek.ensures.peek;
-  error = on_err_weaker c.peek.result (λ same. inr (ap (λ (p : Pass). p.seat.me.0) same)) c.peek.ensures.same;
+  error = on_err_weaker c.peek.result (λ same. inr (ap (λ (p : Pass). p.seat.me.0) same))
+      c.peek.ensures.same;
   well = (c.peek.ensures.of, c.peek.ensures.held);
 }
