@@ -37,17 +37,19 @@ use Rattle.cb_lanes.proofs.AloneValues.{value_named}
 use Rattle.cb_lanes.proofs.PinLists.{name_cases}
 
 -- What a lane has by itself is what the map and the scopes have after these answers.
-pub record StandsAlone (lines : List Line) (lane : ℕ) (before : List Answer) (state : LaneState) : Type 0
+pub record StandsAlone (lines : List Line) (lane : ℕ) (before : List Answer)
+    (state : LaneState) : Type 0
   where
     pub scope : state.scope ≡ scope_of lane before
     pub objects : (q : List ℕ) → is_maker lines lane q ≡ true
         → now_named q state.objects ≡ value_named before q
     pub others : (q : List ℕ) → is_maker lines lane q ≡ false → newest_on q state.scope ≡ None
 
--- What is known of the next answer: it is the map's and that of its lane's scope, one of the line's and
--- calm; a change of the lane's own object tells the lane's own pins; no two names have one handle; and
--- its name is made by its lane, or by lane 0.
-pub record Telling (lines : List Line) (handles : ℕ) (before : List Answer) (asker : ℕ) (request : Request)
+-- What is known of the next answer: it is the map's and that of its lane's scope, one of the line's
+-- and calm; a change of the lane's own object tells the lane's own pins; no two names have one
+-- handle; and its name is made by its lane, or by lane 0.
+pub record Telling (lines : List Line) (handles : ℕ) (before : List Answer) (asker : ℕ)
+    (request : Request)
     (r : Reply) : Type 0 where
   pub map : MapReplies 1 handles (makes (calls_of before)) (handle_for before request r)
       (value_at (calls_of before) (handle_for before request r)) (event_of request r)
@@ -55,11 +57,14 @@ pub record Telling (lines : List Line) (handles : ℕ) (before : List Answer) (a
   pub says : ScopeSays (handle_named before (name_of request)) (scope_of asker before) request r
   pub line : IsReplyOf request r
   pub calm : IsCalmReply r
-  pub pins : (name : List ℕ) → name_of request ≡ Some name → is_maker lines asker name ≡ true → 1 ≤ asker
+  pub pins : (name : List ℕ) → name_of request ≡ Some name → is_maker lines asker name ≡ true
+      → 1 ≤ asker
       → PinsTell (value_named before name) (named_on name (scope_of asker before)) request r
-  pub apart : (p q : List ℕ) (h : ℕ) → handle_of before p ≡ Some h → handle_of before q ≡ Some h → p ≡ q
+  pub apart : (p q : List ℕ) (h : ℕ) → handle_of before p ≡ Some h → handle_of before q ≡ Some h
+      → p ≡ q
   pub within : (q : List ℕ) (h : ℕ) → handle_of before q ≡ Some h → h < makes (calls_of before)
-  pub makers : (k m : ℕ) (q : List ℕ) → is_maker lines k q ≡ true → is_maker lines m q ≡ true → k ≡ m
+  pub makers : (k m : ℕ) (q : List ℕ) → is_maker lines k q ≡ true → is_maker lines m q ≡ true
+      → k ≡ m
   pub maker : (name : List ℕ) → name_of request ≡ Some name
       → (is_maker lines asker name ≡ true) ⊎ (is_maker lines 0 name ≡ true)
   pub shared : HasOwnLines lines asker → pins_shared lines request ≡ false
@@ -70,7 +75,8 @@ pub record Telling (lines : List Line) (handles : ℕ) (before : List Answer) (a
 none_pinned : (name : List ℕ) (at : ℕ) (bytes : List ℕ) (handles made own : ℕ) (r : Reply)
     → MapReplies 1 handles made None None (event_of (Write name at bytes) r) → PinnedSays own r
 none_pinned name at bytes handles made own r m count is = absurd
-    (subst (λ (q : Reply). MapReplies 1 handles made None None (event_of (Write name at bytes) q)) is m)
+    (subst (λ (q : Reply). MapReplies 1 handles made None None (event_of (Write name at bytes) q))
+    is m)
 
 none_pinned_free : (name : List ℕ) (handles made own : ℕ) (r : Reply)
     → MapReplies 1 handles made None None (event_of (Free name) r) → PinnedSays own r
@@ -79,15 +85,18 @@ none_pinned_free name handles made own r m count is = absurd
 
 module _ (handles : ℕ) (before : List Answer) (scope : Scope) (name : List ℕ) (r : Reply) where
   abbrev pub RepliesAlone : Option ℕ → Event → Type 0
-  RepliesAlone o event = MapReplies 1 handles (makes (calls_of before)) o (value_at (calls_of before) o) event
+  RepliesAlone o event = MapReplies 1 handles (makes (calls_of before)) o
+      (value_at (calls_of before) o) event
 
-  write_pinned : (at : ℕ) (bytes : List ℕ) (o : Option ℕ) → ScopeSays o scope (Write name at bytes) r
+  write_pinned : (at : ℕ) (bytes : List ℕ) (o : Option ℕ)
+      → ScopeSays o scope (Write name at bytes) r
       → RepliesAlone o (event_of (Write name at bytes) r) → PinnedSays (named_on name scope) r
   write_pinned at bytes None says m =
       none_pinned name at bytes handles (makes (calls_of before)) (named_on name scope) r m
   write_pinned at bytes (Some h) says m = says
 
-  free_pinned : (o : Option ℕ) → ScopeSays o scope (Free name) r → RepliesAlone o (event_of (Free name) r)
+  free_pinned : (o : Option ℕ) → ScopeSays o scope (Free name) r
+      → RepliesAlone o (event_of (Free name) r)
       → PinnedSays (named_on name scope) r
   free_pinned None says m =
       none_pinned_free name handles (makes (calls_of before)) (named_on name scope) r m
@@ -98,7 +107,8 @@ module _ (handles : ℕ) (before : List Answer) (scope : Scope) (name : List ℕ
       → r ≡ pin_alone (value_at (calls_of before) o) (length scope)
   pin_by None says m right line calm = says
   pin_by (Some h) says m right line calm =
-      pin_says name handles (makes (calls_of before)) h (value_at (calls_of before) (Some h)) (length scope) r m
+      pin_says name handles (makes (calls_of before)) h (value_at (calls_of before) (Some h))
+      (length scope) r m
       right line calm says.0 says.1
 
   peek_by : (o : Option ℕ) → ScopeSays o scope (Peek name) r
@@ -118,7 +128,8 @@ module _ (handles : ℕ) (before : List Answer) (scope : Scope) (name : List ℕ
       (newest_on name scope) r m says
 
 -- so each of the lane's own lines is answered as the lane is by itself
-pub alone_says : (lines : List Line) (handles : ℕ) (before : List Answer) (asker lane : ℕ) (state : LaneState)
+pub alone_says : (lines : List Line) (handles : ℕ) (before : List Answer) (asker lane : ℕ)
+    (state : LaneState)
     (request : Request) (r : Reply) → Telling lines handles before asker request r
     → StandsAlone lines lane before state → 1 ≤ lane → asker ≡ lane
     → is_maker_of lines lane (own_name request) ≡ true → AloneSays state request r
@@ -126,7 +137,8 @@ alone_says lines handles before asker lane state (Make name bytes) r t stands so
     make_says name bytes handles (makes (calls_of before)) (handle_for before (Make name bytes) r)
     (value_at (calls_of before) (handle_for before (Make name bytes) r)) r t.map t.line t.calm
 alone_says lines handles before asker lane state (Read name) r t stands some same own =
-    read_says name handles (makes (calls_of before)) (handle_of before name) (value_named before name) r
+    read_says name handles (makes (calls_of before)) (handle_of before name)
+    (value_named before name) r
     t.map t.line t.calm
     ∙ ap read_alone (sym (stands.objects name own))
 alone_says lines handles before asker lane state (Write name at bytes) r t stands some same own =
@@ -134,21 +146,27 @@ alone_says lines handles before asker lane state (Write name at bytes) r t stand
     ap (λ (l : ℕ). scope_of l before) same ∙ sym stands.scope in
     write_says name at bytes handles (makes (calls_of before)) (handle_of before name)
     (value_named before name) (named_on name (scope_of asker before)) r t.map t.line t.calm
-    (t.pins name refl (ap (λ (l : ℕ). is_maker lines l name) same ∙ own) (omega (arith, some, same)))
-    (write_pinned handles before (scope_of asker before) name r at bytes (handle_of before name) t.says t.map)
-    ∙ (λ i. write_alone (sym (stands.objects name own) i) (named_on name (scope i)) at (length bytes))
+    (t.pins name refl (ap (λ (l : ℕ). is_maker lines l name) same ∙ own)
+    (omega (arith, some, same)))
+    (write_pinned handles before (scope_of asker before) name r at bytes
+    (handle_of before name) t.says t.map)
+    ∙ (λ i. write_alone (sym (stands.objects name own) i) (named_on name (scope i)) at
+    (length bytes))
 alone_says lines handles before asker lane state (Free name) r t stands some same own =
     let scope : scope_of asker before ≡ state.scope =
     ap (λ (l : ℕ). scope_of l before) same ∙ sym stands.scope in
-    free_says name handles (makes (calls_of before)) (handle_of before name) (value_named before name)
+    free_says name handles (makes (calls_of before)) (handle_of before name)
+    (value_named before name)
     (named_on name (scope_of asker before)) r t.map t.line t.calm
-    (t.pins name refl (ap (λ (l : ℕ). is_maker lines l name) same ∙ own) (omega (arith, some, same)))
+    (t.pins name refl (ap (λ (l : ℕ). is_maker lines l name) same ∙ own)
+    (omega (arith, some, same)))
     (free_pinned handles before (scope_of asker before) name r (handle_of before name) t.says t.map)
     ∙ (λ i. free_alone (sym (stands.objects name own) i) (named_on name (scope i)))
 alone_says lines handles before asker lane state (Pin name) r t stands some same own =
     let scope : scope_of asker before ≡ state.scope =
     ap (λ (l : ℕ). scope_of l before) same ∙ sym stands.scope in
-    pin_by handles before (scope_of asker before) name r (handle_of before name) t.says t.map t.right t.line
+    pin_by handles before (scope_of asker before) name r
+    (handle_of before name) t.says t.map t.right t.line
     t.calm
     ∙ (λ i. pin_alone (sym (stands.objects name own) i) (length (scope i)))
 alone_says lines handles before asker lane state (Peek name) r t stands some same own =
@@ -203,7 +221,8 @@ made_own : (name bytes : List ℕ) (handle : Handle) (v : ℕ)
     → handle_made name (Make name bytes) (answer.Made handle v) ≡ Some handle.n
 made_own name bytes handle v = by (name_cases name name)
   where
-    by : ((bytes_eq name name ≡ true) × (name ≡ name)) ⊎ ((bytes_eq name name ≡ false) × (name ≢ name))
+    by : ((bytes_eq name name ≡ true) × (name ≡ name))
+        ⊎ ((bytes_eq name name ≡ false) × (name ≢ name))
         → (if bytes_eq name name then Some handle.n else None) ≡ Some handle.n
     by (inl e) = ap (λ (b : Bool). if b then Some handle.n else None) e.0
     by (inr e) = absurd (e.1 refl)
@@ -229,13 +248,15 @@ on_object lines handles before a p t none about = record {
 }
 
 -- a make, by its reply
-on_make : (lines : List Line) (handles : ℕ) (before : List Answer) (a : Answer) (p bytes : List ℕ) (r : Reply)
+on_make : (lines : List Line) (handles : ℕ) (before : List Answer) (a : Answer) (p bytes : List ℕ)
+    (r : Reply)
     → a.request ≡ Make p bytes → a.reply ≡ r
     → Telling lines handles before a.lane.n (Make p bytes) r → OnName before a p
 on_make lines handles before a p bytes (answer.Made handle v) asks told t = record {
   other = λ q off. other_value before a q
       ((λ i. handle_made q (asks i) (told i)) ∙ made_other p bytes (answer.Made handle v) q off)
-      (λ h e f. let same : Some handle.n ≡ Some h = sym (λ i. handle_for before (asks i) (told i)) ∙ f in
+      (λ h e f. let same : Some handle.n ≡ Some h = sym (λ i. handle_for before (asks i) (told i))
+      ∙ f in
       let at : Some handle.n ≡ Some (makes (calls_of before)) = t.map.0 in
       let lt = t.within q h e in
       let one : handle.n ≡ h = cc in let two : handle.n ≡ makes (calls_of before) = cc in
@@ -249,7 +270,8 @@ on_make lines handles before a p bytes answer.Worn asks told t = absurd t.calm
 on_make lines handles before a p bytes r asks told t = absurd t.line
 
 -- by its request
-on_name : (lines : List Line) (handles : ℕ) (before : List Answer) (a : Answer) (p : List ℕ) (request : Request)
+on_name : (lines : List Line) (handles : ℕ) (before : List Answer) (a : Answer) (p : List ℕ)
+    (request : Request)
     → a.request ≡ request → name_of request ≡ Some p
     → Telling lines handles before a.lane.n a.request a.reply → OnName before a p
 on_name lines handles before a p (Make name bytes) asks is t =
@@ -282,7 +304,8 @@ on_name lines handles before a p request asks is t = absurd (let e : None ≡ So
 -- ---- scopes
 
 -- without a pin on the name there is none to take out
-without_none : (q : List ℕ) (scope : Scope) → newest_on q scope ≡ None → without_newest q scope ≡ scope
+without_none : (q : List ℕ) (scope : Scope) → newest_on q scope ≡ None
+    → without_newest q scope ≡ scope
 without_none q [] none = refl
 without_none q (pin ∷ older) none = by (without_none q older) (cases_Bool (bytes_eq pin.name q))
   where
@@ -293,14 +316,16 @@ without_none q (pin ∷ older) none = by (without_none q older) (cases_Bool (byt
         sym (ap (λ (b : Bool). if b then Some pin.version else newest_on q older) e) ∙ none in cc)
     by later (inr e) = ap (λ (b : Bool). if b then older else pin ∷ without_newest q older) e
         ∙ ap (λ (s : Scope). pin ∷ s)
-        (later (sym (ap (λ (b : Bool). if b then Some pin.version else newest_on q older) e) ∙ none))
+        (later (sym (ap (λ (b : Bool). if b then Some pin.version else newest_on q older) e)
+        ∙ none))
 
 -- and a pin on another name that is taken out brings none
 none_without : (q p : List ℕ) (scope : Scope) → newest_on q scope ≡ None
     → newest_on q (without_newest p scope) ≡ None
 none_without q p [] none = refl
 none_without q p (pin ∷ older) none =
-    by (none_without q p older) (cases_Bool (bytes_eq pin.name q)) (cases_Bool (bytes_eq pin.name p))
+    by (none_without q p older) (cases_Bool (bytes_eq pin.name q))
+    (cases_Bool (bytes_eq pin.name p))
   where
     rest : bytes_eq pin.name q ≡ false → newest_on q older ≡ None
     rest e = sym (ap (λ (b : Bool). if b then Some pin.version else newest_on q older) e) ∙ none
@@ -312,7 +337,8 @@ none_without q p (pin ∷ older) none =
     by later (inl e) f = absurd (let both_ : Some pin.version ≡ None =
         sym (ap (λ (b : Bool). if b then Some pin.version else newest_on q older) e) ∙ none in cc)
     by later (inr e) (inl f) =
-        ap (λ (b : Bool). newest_on q (if b then older else pin ∷ without_newest p older)) f ∙ rest e
+        ap (λ (b : Bool). newest_on q (if b then older else pin ∷ without_newest p older)) f
+        ∙ rest e
     by later (inr e) (inr f) =
         ap (λ (b : Bool). newest_on q (if b then older else pin ∷ without_newest p older)) f
         ∙ ap (λ (b : Bool). if b then Some pin.version else newest_on q (without_newest p older)) e
@@ -345,7 +371,8 @@ has_name : (lines : List Line) (lane : ℕ) (request : Request)
     → is_maker_of lines lane (own_name request) ≡ true → (p : List ℕ) × (own_name request ≡ Some p)
 has_name lines lane request own = by (own_name request) refl own
   where
-    by : (o : Option (List ℕ)) → own_name request ≡ o → is_maker_of lines lane (own_name request) ≡ true
+    by : (o : Option (List ℕ)) → own_name request ≡ o
+        → is_maker_of lines lane (own_name request) ≡ true
         → (p : List ℕ) × (own_name request ≡ Some p)
     by None e own = absurd (false≢true (sym (ap (is_maker_of lines lane) e) ∙ own))
     by (Some p) e own = (p, e)
@@ -356,7 +383,8 @@ leave_of request e = absurd (false≢true e)
 
 -- ---- one answer more
 
-module _ (lines : List Line) (handles : ℕ) (before : List Answer) (a : Answer) (lane : ℕ) (state : LaneState)
+module _ (lines : List Line) (handles : ℕ) (before : List Answer) (a : Answer) (lane : ℕ)
+    (state : LaneState)
     (t : Telling lines handles before a.lane.n a.request a.reply) (has : HasOwnLines lines lane)
     (stands : StandsAlone lines lane before state) where
   scope_pushed : scope_of lane (before ++ a ∷ []) ≡ scope_more lane (scope_of lane before) a
@@ -374,7 +402,8 @@ module _ (lines : List Line) (handles : ℕ) (before : List Answer) (a : Answer)
       else scope_of lane before) (ne_eqb a.lane.n lane off)
 
   -- one of the lane's own lines
-  stands_own : (p : List ℕ) → a.lane.n ≡ lane → name_of a.request ≡ Some p → is_maker lines lane p ≡ true
+  stands_own : (p : List ℕ) → a.lane.n ≡ lane → name_of a.request ≡ Some p
+      → is_maker lines lane p ≡ true
       → StandsAlone lines lane (before ++ a ∷ []) (alone_after state a.request a.reply)
   stands_own p same named own = record {
     scope = ap (λ (s : Scope). scope_after s a.request a.reply) stands.scope ∙ sym (scope_own same);
@@ -394,11 +423,13 @@ module _ (lines : List Line) (handles : ℕ) (before : List Answer) (a : Answer)
 
       objects_named : (alone_after state a.request a.reply).objects
           ≡ record { name = p; now = now } ∷ state.objects
-      objects_named = ap (λ (o : Option (List ℕ)). named_objects_after state.objects o a.request a.reply) named
+      objects_named = ap (λ (o : Option (List ℕ)). named_objects_after state.objects o a.request
+          a.reply) named
 
       by : (q : List ℕ) → is_maker lines lane q ≡ true
           → ((bytes_eq p q ≡ true) × (p ≡ q)) ⊎ ((bytes_eq p q ≡ false) × (p ≢ q))
-          → (if bytes_eq p q then now else now_named q state.objects) ≡ value_named (before ++ a ∷ []) q
+          → (if bytes_eq p q then now else now_named q state.objects) ≡ value_named
+          (before ++ a ∷ []) q
       by q maker (inl e) = ap (λ (b : Bool). if b then now else now_named q state.objects) e.0
           ∙ ap (λ (n : MapNow). now_after n a.request a.reply) (stands.objects p own) ∙ sym on.own
           ∙ ap (value_named (before ++ a ∷ [])) e.1
@@ -410,7 +441,8 @@ module _ (lines : List Line) (handles : ℕ) (before : List Answer) (a : Answer)
       → StandsAlone lines lane (before ++ a ∷ []) (alone_after state a.request a.reply)
   stands_leave asks same = record {
     scope = ap (λ (s : Scope). scope_after s a.request a.reply) stands.scope ∙ sym (scope_own same);
-    objects = λ q maker. (λ i. now_named q (named_objects_after state.objects (name_of (asks i)) a.request a.reply))
+    objects = λ q maker. (λ i. now_named q
+        (named_objects_after state.objects (name_of (asks i)) a.request a.reply))
         ∙ stands.objects q maker ∙ sym (quiet_value before a q (λ i. handle_made q (asks i) a.reply)
         ((λ i. change_of (event_of (asks i) a.reply)) ∙ refusal_still Nothing a.reply));
     others = λ q not. others_after q state.scope a.request a.reply
@@ -423,11 +455,13 @@ module _ (lines : List Line) (handles : ℕ) (before : List Answer) (a : Answer)
       → (q : List ℕ) → is_maker lines lane q ≡ true
       → value_named (before ++ a ∷ []) q ≡ value_named before q
   other_objects (Make name bytes) asks off q maker =
-      (on_name lines handles before a name (Make name bytes) asks refl t).other q (off name q refl maker)
+      (on_name lines handles before a name (Make name bytes) asks refl t).other q
+      (off name q refl maker)
   other_objects (Read name) asks off q maker =
       (on_name lines handles before a name (Read name) asks refl t).other q (off name q refl maker)
   other_objects (Write name at bytes) asks off q maker =
-      (on_name lines handles before a name (Write name at bytes) asks refl t).other q (off name q refl maker)
+      (on_name lines handles before a name (Write name at bytes) asks refl t).other q
+      (off name q refl maker)
   other_objects (Free name) asks off q maker =
       (on_name lines handles before a name (Free name) asks refl t).other q (off name q refl maker)
   other_objects (Pin name) asks off q maker =
@@ -436,9 +470,11 @@ module _ (lines : List Line) (handles : ℕ) (before : List Answer) (a : Answer)
       (on_name lines handles before a name (Peek name) asks refl t).other q (off name q refl maker)
   other_objects (Unpin name) asks off q maker =
       (on_name lines handles before a name (Unpin name) asks refl t).other q (off name q refl maker)
-  other_objects (Filter name) asks off q maker = quiet_value before a q (λ i. handle_made q (asks i) a.reply)
+  other_objects (Filter name) asks off q maker =
+      quiet_value before a q (λ i. handle_made q (asks i) a.reply)
       ((λ i. change_of (event_of (asks i) a.reply)) ∙ refusal_still Other a.reply)
-  other_objects request asks off q maker = quiet_value before a q (λ i. handle_made q (asks i) a.reply)
+  other_objects request asks off q maker =
+      quiet_value before a q (λ i. handle_made q (asks i) a.reply)
       ((λ i. change_of (event_of (asks i) a.reply)) ∙ refusal_still Nothing a.reply)
 
   -- and its scope stays
@@ -470,7 +506,8 @@ module _ (lines : List Line) (handles : ℕ) (before : List Answer) (a : Answer)
       of = own_named a.request named
 
       by : (nat_eq a.lane.n lane ≡ true) ⊎ (nat_eq a.lane.n lane ≡ false) → ⊥
-      by (inl same) = true≢false (sym (λ i. same i && (ap (is_maker_of lines lane) named ∙ own) i) ∙ not)
+      by (inl same) = true≢false
+          (sym (λ i. same i && (ap (is_maker_of lines lane) named ∙ own) i) ∙ not)
       by (inr off) = elim (t.maker p of) [
         | inl asker ↦ false≢true (sym off
             ∙ eq-eqb a.lane.n lane (t.makers a.lane.n lane p asker own))
@@ -494,7 +531,8 @@ module _ (lines : List Line) (handles : ℕ) (before : List Answer) (a : Answer)
           (sym (λ i. same i && is_leave a.request) ∙ off))
           ∙ ap (λ (s : Scope). scope_after s a.request a.reply) stands.scope
           ∙ sym (scope_own (eqb-true a.lane.n lane same))
-      by (inr differ) = stands.scope ∙ sym (scope_kept (λ e. false≢true (sym differ ∙ eq-eqb a.lane.n lane e)))
+      by (inr differ) = stands.scope
+          ∙ sym (scope_kept (λ e. false≢true (sym differ ∙ eq-eqb a.lane.n lane e)))
 
   pub stands_more : StandsAlone lines lane (before ++ a ∷ []) (alone_more lines lane state a)
   stands_more = by (cases_Bool (is_own lines lane a)) (cases_Bool (leaves lane a))
@@ -509,7 +547,8 @@ module _ (lines : List Line) (handles : ℕ) (before : List Answer) (a : Answer)
           → (leaves lane a ≡ true) ⊎ (leaves lane a ≡ false)
           → StandsAlone lines lane (before ++ a ∷ []) (alone_more lines lane state a)
       by (inl own) leaving = moved (ap (λ (b : Bool). b || leaves lane a) own)
-          (let z = and_parts (nat_eq a.lane.n lane) (is_maker_of lines lane (own_name a.request)) own in
+          (let z = and_parts (nat_eq a.lane.n lane)
+          (is_maker_of lines lane (own_name a.request)) own in
           let named = has_name lines lane a.request z.1 in
           stands_own named.0 (eqb-true a.lane.n lane z.0) (own_named a.request named.1)
           (sym (ap (is_maker_of lines lane) named.1) ∙ z.1))
@@ -517,7 +556,8 @@ module _ (lines : List Line) (handles : ℕ) (before : List Answer) (a : Answer)
           (let z = and_parts (nat_eq a.lane.n lane) (is_leave a.request) leaving in
           stands_leave (leave_of a.request z.1) (eqb-true a.lane.n lane z.0))
       by (inr not) (inr off) = subst (λ (b : Bool). StandsAlone lines lane (before ++ a ∷ [])
-          (if b then alone_after state a.request a.reply else state)) (sym (λ i. (not i) || (off i)))
+          (if b then alone_after state a.request a.reply else state))
+          (sym (λ i. (not i) || (off i)))
           (stands_other not off)
 
 -- ---- all answers so far
@@ -525,8 +565,8 @@ module _ (lines : List Line) (handles : ℕ) (before : List Answer) (a : Answer)
 abbrev pub alone_state : List Line → ℕ → List Answer → LaneState
 alone_state lines lane answers = fold (alone_more lines lane) fresh_lane answers
 
--- The lane's own lines were answered as the lane is by itself, and what it has so is what the map and
--- the scopes have.
+-- The lane's own lines were answered as the lane is by itself, and what it has so is what the map
+-- and the scopes have.
 pub record GoesAlone (lines : List Line) (lane : ℕ) (answers : List Answer) : Type 0 where
   pub kept : KeepAlone lines lane fresh_lane answers
   pub stands : StandsAlone lines lane answers (alone_state lines lane answers)
@@ -551,8 +591,10 @@ pub alone_push : (lines : List Line) (handles lane : ℕ) (answers : List Answer
     → GoesAlone lines lane answers → GoesAlone lines lane (answers ++ a ∷ [])
 alone_push lines handles lane answers a t has goes = record {
   kept = keep_push lines lane fresh_lane answers a goes.kept
-      (λ own. let z = and_parts (nat_eq a.lane.n lane) (is_maker_of lines lane (own_name a.request)) own in
-      alone_says lines handles answers a.lane.n lane (alone_state lines lane answers) a.request a.reply t
+      (λ own. let z = and_parts (nat_eq a.lane.n lane)
+      (is_maker_of lines lane (own_name a.request)) own in
+      alone_says lines handles answers a.lane.n lane
+      (alone_state lines lane answers) a.request a.reply t
       goes.stands has.from_one (eqb-true a.lane.n lane z.0) z.1);
   stands = subst (StandsAlone lines lane (answers ++ a ∷ []))
       (sym (fold_push (alone_more lines lane) fresh_lane answers a))

@@ -47,7 +47,8 @@ any_at p (y ∷ xs) (suc i) x none below at =
 
 -- ---- who makes a name
 
-makes_it : (name : List ℕ) (request : Request) → MakesName request name → makes_named name request ≡ true
+makes_it : (name : List ℕ) (request : Request) → MakesName request name
+    → makes_named name request ≡ true
 makes_it name (Make made bytes) e = (bytes_eq-Decides made name).1 e
 makes_it name request e = absurd e
 
@@ -61,7 +62,8 @@ maker_of (l ∷ lines) lane name (inr made) =
     or_right (nat_eq l.lane.n lane && makes_named name l.request) (is_maker lines lane name)
     (maker_of lines lane name made)
 
-made_name : (name : List ℕ) (request : Request) → makes_named name request ≡ true → MakesName request name
+made_name : (name : List ℕ) (request : Request) → makes_named name request ≡ true
+    → MakesName request name
 made_name name (Make made bytes) e = (bytes_eq-Decides made name).0 e
 made_name name request e = absurd (false≢true e)
 
@@ -84,25 +86,30 @@ made_last [] l lane name same makes = inl (same, makes)
 made_last (b ∷ before) l lane name same makes = inr (made_last before l lane name same makes)
 
 -- a name that was made is made no more
-made_once : (nodes : ℕ) (before lines : List Line) (k m : ℕ) (name : List ℕ) → AreLines nodes before lines
+made_once : (nodes : ℕ) (before lines : List Line) (k m : ℕ) (name : List ℕ)
+    → AreLines nodes before lines
     → IsNameMade before k name → is_maker lines m name ≡ true → ⊥
 made_once nodes before [] k m name all was again = false≢true again
 made_once nodes before (l ∷ lines) k m name all was again =
-    by (λ rest. made_once nodes (before ++ l ∷ []) lines k m name all.1 (made_more before l k name was) rest)
+    by (λ rest. made_once nodes (before ++ l ∷ []) lines k m name all.1
+    (made_more before l k name was) rest)
     (cases_Bool (nat_eq l.lane.n m && makes_named name l.request))
   where
-    by : (is_maker lines m name ≡ true → ⊥) → ((nat_eq l.lane.n m && makes_named name l.request) ≡ true)
+    by : (is_maker lines m name ≡ true → ⊥) →
+        ((nat_eq l.lane.n m && makes_named name l.request) ≡ true)
         ⊎ ((nat_eq l.lane.n m && makes_named name l.request) ≡ false) → ⊥
     by later (inl e) = let z = and_parts (nat_eq l.lane.n m) (makes_named name l.request) e in
         new_name before l.lane.n name l.request (made_name name l.request z.1) all.0.known k was
     by later (inr e) = later (sym (ap (λ (b : Bool). b || is_maker lines m name) e) ∙ again)
 
 -- one lane makes a name
-pub one_maker : (nodes : ℕ) (before lines : List Line) (k m : ℕ) (name : List ℕ) → AreLines nodes before lines
+pub one_maker : (nodes : ℕ) (before lines : List Line) (k m : ℕ) (name : List ℕ)
+    → AreLines nodes before lines
     → is_maker lines k name ≡ true → is_maker lines m name ≡ true → k ≡ m
 one_maker nodes before [] k m name all a b = absurd (false≢true a)
 one_maker nodes before (l ∷ lines) k m name all a b =
-    by (one_maker nodes (before ++ l ∷ []) lines k m name all.1) (cases_Bool (head k)) (cases_Bool (head m))
+    by (one_maker nodes (before ++ l ∷ []) lines k m name all.1) (cases_Bool (head k))
+    (cases_Bool (head m))
   where
     head : ℕ → Bool
     head lane = nat_eq l.lane.n lane && makes_named name l.request
@@ -147,20 +154,28 @@ line_named : (lines before : List Line) (l : Line) (request : Request)
 line_named lines before l (Make made bytes) among own known name e =
     inl (own name (same_Some made name e))
 line_named lines before l (Read made) among own known name e =
-    known_maker lines before l.lane.n among name (subst (KnowsName before l.lane.n) (same_Some made name e) known)
+    known_maker lines before l.lane.n among name
+    (subst (KnowsName before l.lane.n) (same_Some made name e) known)
 line_named lines before l (Write made at bytes) among own known name e =
-    known_maker lines before l.lane.n among name (subst (KnowsName before l.lane.n) (same_Some made name e) known)
+    known_maker lines before l.lane.n among name
+    (subst (KnowsName before l.lane.n) (same_Some made name e) known)
 line_named lines before l (Free made) among own known name e =
-    known_maker lines before l.lane.n among name (subst (KnowsName before l.lane.n) (same_Some made name e) known)
+    known_maker lines before l.lane.n among name
+    (subst (KnowsName before l.lane.n) (same_Some made name e) known)
 line_named lines before l (Pin made) among own known name e =
-    known_maker lines before l.lane.n among name (subst (KnowsName before l.lane.n) (same_Some made name e) known)
+    known_maker lines before l.lane.n among name
+    (subst (KnowsName before l.lane.n) (same_Some made name e) known)
 line_named lines before l (Peek made) among own known name e =
-    known_maker lines before l.lane.n among name (subst (KnowsName before l.lane.n) (same_Some made name e) known)
+    known_maker lines before l.lane.n among name
+    (subst (KnowsName before l.lane.n) (same_Some made name e) known)
 line_named lines before l (Unpin made) among own known name e =
-    known_maker lines before l.lane.n among name (subst (KnowsName before l.lane.n) (same_Some made name e) known)
+    known_maker lines before l.lane.n among name
+    (subst (KnowsName before l.lane.n) (same_Some made name e) known)
 line_named lines before l (Filter made) among own known name e =
-    known_maker lines before l.lane.n among name (subst (KnowsName before l.lane.n) (same_Some made name e) known)
-line_named lines before l request among own known name e = absurd (let z : None ≡ Some name = e in cc)
+    known_maker lines before l.lane.n among name
+    (subst (KnowsName before l.lane.n) (same_Some made name e) known)
+line_named lines before l request among own known name e =
+    absurd (let z : None ≡ Some name = e in cc)
 
 -- those behind these lines, of all lines
 named_behind : (nodes : ℕ) (all before lines : List Line)
@@ -177,7 +192,8 @@ named_behind nodes all before (l ∷ lines) earlier later are = (
   where
     own : (name : List ℕ) → MakesName l.request name → is_maker all l.lane.n name ≡ true
     own name makes = later l.lane.n name
-        (or_left (nat_eq l.lane.n l.lane.n && makes_named name l.request) (is_maker lines l.lane.n name)
+        (or_left (nat_eq l.lane.n l.lane.n && makes_named name l.request)
+        (is_maker lines l.lane.n name)
         (λ i. (eq-eqb l.lane.n l.lane.n refl i) && (makes_it name l.request makes i)))
 
     split : (bs : List Line) (k : ℕ) (name : List ℕ) → IsNameMade (bs ++ l ∷ []) k name
@@ -231,19 +247,24 @@ scope_none_from : (lane : ℕ) (scope : Scope) (answers : List Answer) → scope
     → has_pin (map asked answers) lane ≡ false → fold (scope_more lane) scope answers ≡ []
 scope_none_from lane scope [] none off = none
 scope_none_from lane scope (a ∷ answers) none off =
-    scope_none_from lane (scope_more lane scope a) answers (by (cases_Bool (nat_eq a.lane.n lane))) z.1
+    scope_none_from lane (scope_more lane scope a) answers
+    (by (cases_Bool (nat_eq a.lane.n lane))) z.1
   where
-    z : ((nat_eq lane a.lane.n && is_pin a.request) ≡ false) × (has_pin (map asked answers) lane ≡ false)
+    z : ((nat_eq lane a.lane.n && is_pin a.request) ≡ false)
+        × (has_pin (map asked answers) lane ≡ false)
     z = or_parts (nat_eq lane a.lane.n && is_pin a.request) (has_pin (map asked answers) lane) off
 
-    by : (nat_eq a.lane.n lane ≡ true) ⊎ (nat_eq a.lane.n lane ≡ false) → scope_more lane scope a ≡ []
+    by : (nat_eq a.lane.n lane ≡ true) ⊎ (nat_eq a.lane.n lane ≡ false)
+        → scope_more lane scope a ≡ []
     by (inl e) = ap (λ (b : Bool). if b then scope_after scope a.request a.reply else scope) e
         ∙ scope_stays scope a.request a.reply
         (sym (ap (λ (b : Bool). b && is_pin a.request)
         (eq-eqb lane a.lane.n (sym (eqb-true a.lane.n lane e)))) ∙ z.0) none
-    by (inr e) = ap (λ (b : Bool). if b then scope_after scope a.request a.reply else scope) e ∙ none
+    by (inr e) = ap (λ (b : Bool). if b then scope_after scope a.request a.reply else scope) e
+        ∙ none
 
-pub scope_none : (lines : List Line) (i lane : ℕ) (answers : List Answer) → map asked answers ≡ take i lines
+pub scope_none : (lines : List Line) (i lane : ℕ) (answers : List Answer)
+    → map asked answers ≡ take i lines
     → has_pin lines lane ≡ false → scope_of lane answers ≡ []
 scope_none lines i lane answers so_far off = scope_none_from lane [] answers refl
     (ap (λ (ls : List Line). has_pin ls lane) so_far
@@ -258,26 +279,32 @@ scope_off_from : (lane : ℕ) (name : List ℕ) (scope : Scope) (answers : List 
     → newest_on name (fold (scope_more lane) scope answers) ≡ None
 scope_off_from lane name scope [] none all = none
 scope_off_from lane name scope (a ∷ answers) none all =
-    scope_off_from lane name (scope_more lane scope a) answers (by (cases_Bool (nat_eq a.lane.n lane))) all.1
+    scope_off_from lane name (scope_more lane scope a) answers
+    (by (cases_Bool (nat_eq a.lane.n lane))) all.1
   where
     by : (nat_eq a.lane.n lane ≡ true) ⊎ (nat_eq a.lane.n lane ≡ false)
         → newest_on name (scope_more lane scope a) ≡ None
-    by (inl e) = ap (λ (b : Bool). newest_on name (if b then scope_after scope a.request a.reply else scope)) e
+    by (inl e) = ap (λ (b : Bool). newest_on name
+        (if b then scope_after scope a.request a.reply else scope)) e
         ∙ others_after name scope a.request a.reply (all.0 (eqb-true a.lane.n lane e)) none
-    by (inr e) = ap (λ (b : Bool). newest_on name (if b then scope_after scope a.request a.reply else scope)) e
+    by (inr e) = ap (λ (b : Bool). newest_on name
+        (if b then scope_after scope a.request a.reply else scope)) e
         ∙ none
 
 none_named : (name : List ℕ) (scope : Scope) → newest_on name scope ≡ None → named_on name scope ≡ 0
 none_named name [] none = refl
-none_named name (pin ∷ older) none = by (none_named name older) (cases_Bool (bytes_eq pin.name name))
+none_named name (pin ∷ older) none = by (none_named name older)
+    (cases_Bool (bytes_eq pin.name name))
   where
     by : (newest_on name older ≡ None → named_on name older ≡ 0)
         → (bytes_eq pin.name name ≡ true) ⊎ (bytes_eq pin.name name ≡ false)
         → named_on name (pin ∷ older) ≡ 0
     by later (inl e) = absurd (let z : Some pin.version ≡ None =
-        sym (ap (λ (b : Bool). if b then Some pin.version else newest_on name older) e) ∙ none in cc)
+        sym (ap (λ (b : Bool). if b then Some pin.version else newest_on name older) e)
+        ∙ none in cc)
     by later (inr e) =
-        let rest = later (sym (ap (λ (b : Bool). if b then Some pin.version else newest_on name older) e)
+        let rest = later (sym (ap
+        (λ (b : Bool). if b then Some pin.version else newest_on name older) e)
         ∙ none) in
         let here : one_if (bytes_eq pin.name name) ≡ 0 = ap one_if e in
         let all = sum_by-cons (λ (p : NamedPin). one_if (bytes_eq p.name name)) pin older in
@@ -298,13 +325,15 @@ pins_not lines own lane name one some apart maker (l ∷ ls) all = (
   pins_not lines own lane name one some apart maker ls all.1,
 )
 
-pub named_none : (nodes : ℕ) (lines : List Line) (i own lane : ℕ) (name : List ℕ) (answers : List Answer)
+pub named_none : (nodes : ℕ) (lines : List Line) (i own lane : ℕ) (name : List ℕ)
+    (answers : List Answer)
     → AreLines nodes [] lines → map asked answers ≡ take i lines → 1 ≤ own → lane ≢ own
     → is_maker lines own name ≡ true → named_on name (scope_of lane answers) ≡ 0
 named_none nodes lines i own lane name answers are so_far some apart maker =
     none_named name (scope_of lane answers) (scope_off_from lane name [] answers refl
     (subst (AllByRecursion (PinsNot lane name)) (sym so_far)
-    (pins_not lines own lane name (λ k m q. one_maker nodes [] lines k m q are) some apart maker (take i lines)
+    (pins_not lines own lane name (λ k m q. one_maker nodes [] lines k m q are) some apart maker
+    (take i lines)
     (each_front (IsOwnName lines) lines i (names_known nodes lines are)))))
 
 -- ---- makes
@@ -322,7 +351,8 @@ refusal_makes subject (answer.Range len) = refl
 refusal_makes subject (answer.Full handles) = refl
 refusal_makes subject r = refl
 
-none_made : (request : Request) (r : Reply) (n : ℕ) → event_of request r ≡ refusal (subject_of request) r
+none_made : (request : Request) (r : Reply) (n : ℕ)
+    → event_of request r ≡ refusal (subject_of request) r
     → made_by (event_of request r) ≤ n
 none_made request r n e =
     let z = ap made_by e ∙ refusal_makes (subject_of request) r in omega (arith, z)
@@ -350,10 +380,12 @@ pub makes_few : (before answers : List Answer)
 makes_few before [] = omega arith
 makes_few before (a ∷ answers) =
     let one = made_few a.request a.reply in let more = makes_few (before ++ a ∷ []) answers in
-    let all = sum_by-cons (λ (l : Line). one_if (is_make l.request)) (asked a) (map asked answers) in
+    let all = sum_by-cons (λ (l : Line). one_if (is_make l.request)) (asked a)
+    (map asked answers) in
     omega (arith, one, more, all)
 
-pub count_front : (p : Line → Bool) (xs : List Line) (i : ℕ) → count_by p (take i xs) ≤ count_by p xs
+pub count_front : (p : Line → Bool) (xs : List Line) (i : ℕ)
+    → count_by p (take i xs) ≤ count_by p xs
 count_front p xs zero = omega arith
 count_front p [] (suc i) = omega arith
 count_front p (x ∷ xs) (suc i) =

@@ -41,7 +41,8 @@ PinsTell now own request r = Unit {0}
 
 pub make_says : (name bytes : List ℕ) (handles made : ℕ) (handle : Option ℕ) (now : MapNow)
     (r : Reply)
-    → MapReplies 1 handles made handle now (event_of (Make name bytes) r) → IsReplyOf (Make name bytes) r
+    → MapReplies 1 handles made handle now (event_of (Make name bytes) r)
+    → IsReplyOf (Make name bytes) r
     → IsCalmReply r → (given : Handle) × (r ≡ answer.Made given 1)
 make_says name bytes handles made handle now (answer.Made given v) m line calm =
     (given, ap (answer.Made given) m.2)
@@ -72,21 +73,25 @@ read_says name handles made handle now r m line calm = absurd line
 -- a change that is done, and one that is refused as pinned
 pub changed_alone : (u v own : ℕ) → v ≡ u + 1 → own ≡ 0 → answer.Version v ≡ change_alone u own
 changed_alone u v own next none = ap answer.Version next
-    ∙ sym (ap (λ (b : Bool). if b then answer.Version (u + 1) else answer.Pinned own) (eq-eqb own 0 none))
+    ∙ sym (ap (λ (b : Bool). if b then answer.Version (u + 1) else answer.Pinned own)
+    (eq-eqb own 0 none))
 
-pub pinned_alone : (u count own : ℕ) → count ≡ own → 1 ≤ count → answer.Pinned count ≡ change_alone u own
+pub pinned_alone : (u count own : ℕ) → count ≡ own → 1 ≤ count
+    → answer.Pinned count ≡ change_alone u own
 pinned_alone u count own same some = ap answer.Pinned same
     ∙ sym (ap (λ (b : Bool). if b then answer.Version (u + 1) else answer.Pinned own)
     (ne_eqb own 0 (λ e. absurd (omega (arith, e, same, some)))))
 
-pub within_alone : (u own past : ℕ) (c : List ℕ) (r : Reply) → past ≤ length c → r ≡ change_alone u own
+pub within_alone : (u own past : ℕ) (c : List ℕ) (r : Reply) → past ≤ length c
+    → r ≡ change_alone u own
     → r ≡ (if nat_le past (length c) then change_alone u own else answer.Range (length c))
 within_alone u own past c r within is = is
     ∙ sym (ap (λ (b : Bool). if b then change_alone u own else answer.Range (length c))
     (le-leb past (length c) within))
 
 pub past_alone : (u own past len : ℕ) (c : List ℕ) → length c < past → len ≡ length c
-    → answer.Range len ≡ (if nat_le past (length c) then change_alone u own else answer.Range (length c))
+    → answer.Range len ≡ (if nat_le past (length c) then change_alone u own else answer.Range
+    (length c))
 past_alone u own past len c over is = ap answer.Range is
     ∙ sym (ap (λ (b : Bool). if b then change_alone u own else answer.Range (length c))
     (lt-leb past (length c) over))
@@ -96,48 +101,71 @@ pub write_says : (name : List ℕ) (at : ℕ) (bytes : List ℕ) (handles made :
     → MapReplies 1 handles made handle now (event_of (Write name at bytes) r)
     → IsReplyOf (Write name at bytes) r → IsCalmReply r → PinsTell now own (Write name at bytes) r
     → PinnedSays own r → r ≡ write_alone now own at (length bytes)
-write_says name at bytes handles made handle None own (answer.Version v) m line calm tells some = absurd m
-write_says name at bytes handles made handle (Some (Held u c)) own (answer.Version v) m line calm tells some =
+write_says name at bytes handles made handle None own (answer.Version v) m line calm tells some =
+    absurd m
+write_says name at bytes handles made handle (Some (Held u c)) own
+    (answer.Version v) m line calm tells some =
     within_alone u own (at + length bytes) c (answer.Version v) m.0
     (changed_alone u v own m.1 (tells.0.done v refl))
-write_says name at bytes handles made handle (Some (Freed u)) own (answer.Version v) m line calm tells some = absurd m
-write_says name at bytes handles made handle None own (answer.Pinned n) m line calm tells some = absurd m
-write_says name at bytes handles made handle (Some (Held u c)) own (answer.Pinned n) m line calm tells some =
+write_says name at bytes handles made handle (Some (Freed u)) own
+    (answer.Version v) m line calm tells some = absurd m
+write_says name at bytes handles made handle None own (answer.Pinned n) m line calm tells some =
+    absurd m
+write_says name at bytes handles made handle (Some (Held u c)) own
+    (answer.Pinned n) m line calm tells some =
     within_alone u own (at + length bytes) c (answer.Pinned n) (tells.1 n u c refl refl)
     (pinned_alone u n own (tells.0.pinned n refl) (some n refl).0)
-write_says name at bytes handles made handle (Some (Freed u)) own (answer.Pinned n) m line calm tells some = absurd m
-write_says name at bytes handles made handle None own (answer.Range n) m line calm tells some = absurd m
-write_says name at bytes handles made handle (Some (Held u c)) own (answer.Range n) m line calm tells some =
+write_says name at bytes handles made handle (Some (Freed u)) own
+    (answer.Pinned n) m line calm tells some = absurd m
+write_says name at bytes handles made handle None own (answer.Range n) m line calm tells some =
+    absurd m
+write_says name at bytes handles made handle (Some (Held u c)) own
+    (answer.Range n) m line calm tells some =
     past_alone u own (at + length bytes) n c m.0 m.1
-write_says name at bytes handles made handle (Some (Freed u)) own (answer.Range n) m line calm tells some = absurd m
+write_says name at bytes handles made handle (Some (Freed u)) own
+    (answer.Range n) m line calm tells some = absurd m
 write_says name at bytes handles made handle None own answer.Unmade m line calm tells some = refl
-write_says name at bytes handles made handle (Some (Held u c)) own answer.Unmade m line calm tells some = absurd m
-write_says name at bytes handles made handle (Some (Freed u)) own answer.Unmade m line calm tells some = absurd m
+write_says name at bytes handles made handle
+    (Some (Held u c)) own answer.Unmade m line calm tells some = absurd m
+write_says name at bytes handles made handle
+    (Some (Freed u)) own answer.Unmade m line calm tells some = absurd m
 write_says name at bytes handles made handle None own answer.Freed m line calm tells some = absurd m
-write_says name at bytes handles made handle (Some (Held u c)) own answer.Freed m line calm tells some = absurd m
-write_says name at bytes handles made handle (Some (Freed u)) own answer.Freed m line calm tells some = refl
-write_says name at bytes handles made handle now own (answer.NoRoom f l n) m line calm tells some = absurd calm
-write_says name at bytes handles made handle now own answer.Moving m line calm tells some = absurd calm
-write_says name at bytes handles made handle now own (answer.Unavailable i l) m line calm tells some = absurd calm
-write_says name at bytes handles made handle now own answer.Worn m line calm tells some = absurd calm
+write_says name at bytes handles made handle
+    (Some (Held u c)) own answer.Freed m line calm tells some = absurd m
+write_says name at bytes handles made handle
+    (Some (Freed u)) own answer.Freed m line calm tells some = refl
+write_says name at bytes handles made handle now own (answer.NoRoom f l n) m line calm tells some =
+    absurd calm
+write_says name at bytes handles made handle now own answer.Moving m line calm tells some =
+    absurd calm
+write_says name at bytes handles made handle now own
+    (answer.Unavailable i l) m line calm tells some = absurd calm
+write_says name at bytes handles made handle now own answer.Worn m line calm tells some =
+    absurd calm
 write_says name at bytes handles made handle now own r m line calm tells some = absurd line
 
-pub free_says : (name : List ℕ) (handles made : ℕ) (handle : Option ℕ) (now : MapNow) (own : ℕ) (r : Reply)
+pub free_says : (name : List ℕ) (handles made : ℕ) (handle : Option ℕ) (now : MapNow) (own : ℕ)
+    (r : Reply)
     → MapReplies 1 handles made handle now (event_of (Free name) r) → IsReplyOf (Free name) r
     → IsCalmReply r → ChangeTells own r → PinnedSays own r → r ≡ free_alone now own
 free_says name handles made handle None own (answer.Version v) m line calm tells some = absurd m
 free_says name handles made handle (Some (Held u c)) own (answer.Version v) m line calm tells some =
     changed_alone u v own m (tells.done v refl)
-free_says name handles made handle (Some (Freed u)) own (answer.Version v) m line calm tells some = absurd m
+free_says name handles made handle (Some (Freed u)) own (answer.Version v) m line calm tells some =
+    absurd m
 free_says name handles made handle None own (answer.Pinned n) m line calm tells some = absurd m
 free_says name handles made handle (Some (Held u c)) own (answer.Pinned n) m line calm tells some =
     pinned_alone u n own (tells.pinned n refl) (some n refl).0
-free_says name handles made handle (Some (Freed u)) own (answer.Pinned n) m line calm tells some = absurd m
+free_says name handles made handle (Some (Freed u)) own (answer.Pinned n) m line calm tells some =
+    absurd m
 free_says name handles made handle None own answer.Unmade m line calm tells some = refl
-free_says name handles made handle (Some (Held u c)) own answer.Unmade m line calm tells some = absurd m
-free_says name handles made handle (Some (Freed u)) own answer.Unmade m line calm tells some = absurd m
+free_says name handles made handle (Some (Held u c)) own answer.Unmade m line calm tells some =
+    absurd m
+free_says name handles made handle (Some (Freed u)) own answer.Unmade m line calm tells some =
+    absurd m
 free_says name handles made handle None own answer.Freed m line calm tells some = absurd m
-free_says name handles made handle (Some (Held u c)) own answer.Freed m line calm tells some = absurd m
+free_says name handles made handle (Some (Held u c)) own answer.Freed m line calm tells some =
+    absurd m
 free_says name handles made handle (Some (Freed u)) own answer.Freed m line calm tells some = refl
 free_says name handles made handle now own answer.Moving m line calm tells some = absurd calm
 free_says name handles made handle now own answer.Worn m line calm tells some = absurd calm
@@ -145,14 +173,16 @@ free_says name handles made handle now own r m line calm tells some = absurd lin
 
 -- ---- by the scope
 
-pub full_pin : (object : Object) (pins : ℕ) → pins ≡ 16 → answer.ScopeFull ≡ pin_alone (Some object) pins
+pub full_pin : (object : Object) (pins : ℕ) → pins ≡ 16
+    → answer.ScopeFull ≡ pin_alone (Some object) pins
 full_pin object pins full =
     sym (ap (λ (b : Bool). if b then answer.ScopeFull else pin_object object) (eq-eqb pins 16 full))
 
 pub room_pin : (object : Object) (pins : ℕ) (r : Reply) → pins ≢ 16 → r ≡ pin_object object
     → r ≡ pin_alone (Some object) pins
 room_pin object pins r room is = is
-    ∙ sym (ap (λ (b : Bool). if b then answer.ScopeFull else pin_object object) (ne_eqb pins 16 room))
+    ∙ sym (ap (λ (b : Bool). if b then answer.ScopeFull else pin_object object)
+    (ne_eqb pins 16 room))
 
 not_full : (r : Reply) (pins : ℕ) → (r ≡ answer.ScopeFull → ⊥) → (pins ≡ 16 → r ≡ answer.ScopeFull)
     → pins ≢ 16
@@ -167,25 +197,31 @@ freed_full e = cc
 pub pin_says : (name : List ℕ) (handles made h : ℕ) (now : MapNow) (pins : ℕ) (r : Reply)
     → MapReplies 1 handles made (Some h) now (event_of (Pin name) r)
     → IsUnmadeRight (Some h) (event_of (Pin name) r) → IsReplyOf (Pin name) r → IsCalmReply r
-    → (r ≡ answer.ScopeFull → pins ≡ 16) → (pins ≡ 16 → r ≡ answer.ScopeFull) → r ≡ pin_alone now pins
+    → (r ≡ answer.ScopeFull → pins ≡ 16) → (pins ≡ 16 → r ≡ answer.ScopeFull)
+    → r ≡ pin_alone now pins
 pin_says name handles made h None pins (answer.Version v) m right line calm full says = absurd m
 pin_says name handles made h (Some (Held u c)) pins (answer.Version v) m right line calm full says =
-    room_pin (Held u c) pins (answer.Version v) (not_full (answer.Version v) pins (version_full v) says)
+    room_pin (Held u c) pins (answer.Version v)
+    (not_full (answer.Version v) pins (version_full v) says)
     (ap answer.Version m)
-pin_says name handles made h (Some (Freed u)) pins (answer.Version v) m right line calm full says = absurd m
+pin_says name handles made h (Some (Freed u)) pins (answer.Version v) m right line calm full says =
+    absurd m
 pin_says name handles made h None pins answer.ScopeFull m right line calm full says = absurd m
 pin_says name handles made h (Some (Held u c)) pins answer.ScopeFull m right line calm full says =
     full_pin (Held u c) pins (full refl)
 pin_says name handles made h (Some (Freed u)) pins answer.ScopeFull m right line calm full says =
     full_pin (Freed u) pins (full refl)
 pin_says name handles made h None pins answer.Freed m right line calm full says = absurd m
-pin_says name handles made h (Some (Held u c)) pins answer.Freed m right line calm full says = absurd m
+pin_says name handles made h (Some (Held u c)) pins answer.Freed m right line calm full says =
+    absurd m
 pin_says name handles made h (Some (Freed u)) pins answer.Freed m right line calm full says =
     room_pin (Freed u) pins answer.Freed (not_full answer.Freed pins freed_full says) refl
 pin_says name handles made h now pins answer.Unmade m right line calm full says = absurd right
-pin_says name handles made h now pins (answer.NoRoom f l n) m right line calm full says = absurd calm
+pin_says name handles made h now pins (answer.NoRoom f l n) m right line calm full says =
+    absurd calm
 pin_says name handles made h now pins answer.Moving m right line calm full says = absurd calm
-pin_says name handles made h now pins (answer.Unavailable i l) m right line calm full says = absurd calm
+pin_says name handles made h now pins (answer.Unavailable i l) m right line calm full says =
+    absurd calm
 pin_says name handles made h now pins answer.Worn m right line calm full says = absurd calm
 pin_says name handles made h now pins r m right line calm full says = absurd line
 

@@ -62,9 +62,12 @@ module _ (before : List Answer) (a : Answer) where
       ∙ by (handle_of before q) refl
     where
       by : (o : Option ℕ) → handle_of before q ≡ o
-          → value_at ((calls_of before) ++ (called before a) ∷ []) (handle_of before q) ≡ value_at (calls_of before) (handle_of before q)
-      by None e = ap (value_at ((calls_of before) ++ (called before a) ∷ [])) e ∙ sym (ap (value_at (calls_of before)) e)
-      by (Some h) e = ap (value_at ((calls_of before) ++ (called before a) ∷ [])) e ∙ same_value (calls_of before) (called before a) h (still h e)
+          → value_at ((calls_of before) ++ (called before a) ∷ []) (handle_of before q) ≡ value_at
+          (calls_of before) (handle_of before q)
+      by None e = ap (value_at ((calls_of before) ++ (called before a) ∷ [])) e
+          ∙ sym (ap (value_at (calls_of before)) e)
+      by (Some h) e = ap (value_at ((calls_of before) ++ (called before a) ∷ [])) e
+          ∙ same_value (calls_of before) (called before a) h (still h e)
           ∙ sym (ap (value_at (calls_of before)) e)
 
   -- an answer that changes nothing
@@ -95,7 +98,8 @@ module _ (before : List Answer) (a : Answer) where
           ∙ sym (ap (λ (cs : List (ℕ × Change)). fold changed (value_named before q) cs) (still e))
       by (Some h) e =
           (λ i. value_at (calls_of-push before a i)
-          ((handle_of-push q before a ∙ ap (λ (o : Option ℕ). first_of o (handle_of before q)) none ∙ e) i))
+          ((handle_of-push q before a ∙ ap (λ (o : Option ℕ). first_of o (handle_of before q)) none
+          ∙ e) i))
           ∙ value-push (calls_of before) (called before a) h
           ∙ ap (λ (cs : List (ℕ × Change)). fold changed (value (calls_of before) h) cs)
           (ap (λ (o : Option ℕ). change_by (called before a) (is_about h o)) (about ∙ e)
@@ -109,12 +113,15 @@ pub made_value : (before : List Answer) (a : Answer) (name bytes : List ℕ) (ha
     → value_named (before ++ a ∷ []) name ≡ now_after (value_named before name) a.request a.reply
 made_value before a name bytes handle v asks told at =
     (λ i. value_at (calls_of-push before a i)
-    ((handle_of-push name before a ∙ ap (λ (o : Option ℕ). first_of o (handle_of before name)) at) i))
+    ((handle_of-push name before a ∙ ap (λ (o : Option ℕ). first_of o (handle_of before name)) at)
+    i))
     ∙ value-push (calls_of before) (called before a) handle.n
     ∙ ap (λ (o : Option ℕ). fold changed (value (calls_of before) handle.n)
     (change_by (called before a) (is_about handle.n o)))
     (λ i. handle_for before (asks i) (told i))
-    ∙ ap (λ (b : Bool). fold changed (value (calls_of before) handle.n) (change_by (called before a) b))
+    ∙ ap (λ (b : Bool). fold changed (value (calls_of before) handle.n)
+    (change_by (called before a) b))
     (eq-eqb handle.n handle.n refl)
-    ∙ (λ i. fold changed (value (calls_of before) handle.n) (change_of (event_of (asks i) (told i))))
+    ∙ (λ i. fold changed (value (calls_of before) handle.n)
+    (change_of (event_of (asks i) (told i))))
     ∙ sym (λ i. fold changed (value_named before name) (change_of (event_of (asks i) (told i))))

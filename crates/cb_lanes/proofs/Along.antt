@@ -71,9 +71,10 @@ use Rattle.cb_lanes.proofs.Silent.{unmade_line, still_goes, crash_goes, join_goe
 use Rattle.cb_lanes.proofs.Turning.{Turning, around, LineGives}
 
 -- The answers so far are the map's, the map is beside the world that they led to, in which no seat
--- holds the far lock, the names are what these answers made of them, and each lane that has lines to
--- come has the pins of its scope.
-pub record Along (side : Side) (c : Config) (later : List ℕ) (answers : List Answer) (w : WorldState) (names : KeptNames) : Type 0
+-- holds the far lock, the names are what these answers made of them, and each lane that has lines
+-- to come has the pins of its scope.
+pub record Along (side : Side) (c : Config) (later : List ℕ) (answers : List Answer)
+    (w : WorldState) (names : KeptNames) : Type 0
   where
     pub sound : IsSoundWorld w
     pub beside : IsMapBeside (calls_of answers) sound.shown w.far
@@ -92,7 +93,8 @@ pub record Along (side : Side) (c : Config) (later : List ℕ) (answers : List A
 -- ---- a line
 
 -- the line on an object whose name has this handle, if it has one
-pub line_goes : (side : Side) (answers : List Answer) (l : Line) (request : Request) (r : Reply) (w new : WorldState)
+pub line_goes : (side : Side) (answers : List Answer) (l : Line) (request : Request) (r : Reply)
+    (w new : WorldState)
     (handle : Option ℕ) → (c : Turning answers w new)
     → IsRequest w.desk.settings.nodes request
     → handle_named answers (name_of request) ≡ handle
@@ -137,16 +139,19 @@ line_goes side answers l Rebuild r w new handle c is named ready lt made few ste
     still_goes job.Rebuild Rebuild rebuild_turn refl (λ xs q. refl) answers l r w new c
     (turn_alone l.lane.n job.Rebuild w new r tt c.lone step)
 line_goes side answers l (Crash node) r w new handle c is named ready lt made few step =
-    crash_goes answers l node r w new c is (turn_alone l.lane.n (job.Crash node) w new r tt c.lone step)
+    crash_goes answers l node r w new c is
+    (turn_alone l.lane.n (job.Crash node) w new r tt c.lone step)
 line_goes side answers l (Join node) r w new handle c is named ready lt made few step =
-    join_goes answers l node r w new c is (turn_alone l.lane.n (job.Join node) w new r tt c.lone step)
+    join_goes answers l node r w new c is
+    (turn_alone l.lane.n (job.Join node) w new r tt c.lone step)
 line_goes side answers l (Read name) r w new None c is named ready lt made few step =
     unmade_line answers l (Read name) name r w new (around answers w new c) named refl refl tt step
 line_goes side answers l (Read name) r w new (Some h) c is named ready lt made few step =
     read_goes answers l name h r w new c (ready h refl) named
     (turn_alone l.lane.n (job.Read (record { n = h })) w new r tt c.lone step)
 line_goes side answers l (Write name at bytes) r w new None c is named ready lt made few step =
-    unmade_line answers l (Write name at bytes) name r w new (around answers w new c) named refl refl tt step
+    unmade_line answers l (Write name at bytes) name r w new
+    (around answers w new c) named refl refl tt step
 line_goes side answers l (Write name at bytes) r w new (Some h) c is named ready lt made few step =
     write_goes answers l name at bytes h r w new c (ready h refl) named
     (turn_alone l.lane.n (job.Write (record { n = h }) at bytes) w new r tt c.lone step)
@@ -156,12 +161,14 @@ line_goes side answers l (Free name) r w new (Some h) c is named ready lt made f
     free_goes answers l name h r w new c (ready h refl) named
     (turn_alone l.lane.n (job.Free (record { n = h })) w new r tt c.lone step)
 line_goes side answers l (Filter name) r w new None c is named ready lt made few step =
-    unmade_line answers l (Filter name) name r w new (around answers w new c) named refl refl tt step
+    unmade_line answers l (Filter name) name r w new
+    (around answers w new c) named refl refl tt step
 line_goes side answers l (Filter name) r w new (Some h) c is named ready lt made few step =
     filter_goes answers l name h r w new c (ready h refl) named
     (turn_alone l.lane.n (job.Filter (record { n = h })) w new r tt c.lone step)
 line_goes side answers l Leave r w new handle c is named ready lt made few step =
-    leave_goes answers l (length (pins_of_seat w.seats l.lane.n)) r w new (around answers w new c) lt step.0 step.1
+    leave_goes answers l (length (pins_of_seat w.seats l.lane.n)) r w new
+    (around answers w new c) lt step.0 step.1
 line_goes side answers l (Pin name) r w new None c is named ready lt made few step =
     unmade_line answers l (Pin name) name r w new (around answers w new c) named refl refl tt step
 line_goes side answers l (Pin name) r w new (Some h) c is named ready lt made few step =
@@ -173,7 +180,8 @@ line_goes side answers l (Peek name) r w new (Some h) c is named ready lt made f
 line_goes side answers l (Unpin name) r w new None c is named ready lt made few step =
     unmade_line answers l (Unpin name) name r w new (around answers w new c) named refl refl tt step
 line_goes side answers l (Unpin name) r w new (Some h) c is named ready lt made few step =
-    unpin_goes answers l name h r w new (around answers w new c) lt (ready h refl) (made h refl) named step
+    unpin_goes answers l name h r w new (around answers w new c) lt (ready h refl)
+    (made h refl) named step
 
 -- ---- the handle that an answer is about
 
@@ -199,7 +207,8 @@ about_made answers (Filter name) r h made within e = inl (within name h e)
 about_made answers request r h made within e = absurd cc
 
 -- the answer is the map's reply after the answers before it
-pub reply_of : (answers : List Answer) (l : Line) (request : Request) (r : Reply) (w new : WorldState)
+pub reply_of : (answers : List Answer) (l : Line) (request : Request) (r : Reply)
+    (w new : WorldState)
     → (c : Turning answers w new)
     → ((name : List ℕ) (k : ℕ) → handle_of answers name ≡ Some k → k < w.far.made)
     → LineGives answers (answer_to l request r) w new c.then.shown
@@ -214,7 +223,8 @@ reply_of answers l request r w new c within goes = by (handle_for answers reques
     some : (h : ℕ) → handle_for answers request r ≡ Some h
         → (h < w.far.made) ⊎ ((event_of request r ≡ FindsUnmade) → ⊥) → P
     some h e (inl below) = is_map_reply w.desk.settings.handles (calls_of answers)
-        (called answers (answer_to l request r)) c.before.shown c.then.shown w.far new.far h goes.follows
+        (called answers (answer_to l request r)) c.before.shown c.then.shown w.far new.far h
+        goes.follows
         c.beside c.before.known.sound e below
     some h e (inr never) = is_map_make w.desk.settings.handles (calls_of answers)
         (called answers (answer_to l request r)) c.then.shown w.far new.far goes.follows never
@@ -233,7 +243,8 @@ chosen false n found kept e = found_first found ∙ e where
   found_first None = refl
   found_first (Some h) = refl
 
-named_after : (names : KeptNames) (request : Request) (reply : Reply) (name : List ℕ) (found : Option ℕ)
+named_after : (names : KeptNames) (request : Request) (reply : Reply) (name : List ℕ)
+    (found : Option ℕ)
     → found ≡ kept_number names name
     → first_of (handle_made name request reply) found ≡ number_after names request reply name
 named_after names (Make made bytes) (answer.Made handle version) name found e =
@@ -242,21 +253,25 @@ named_after names (Make made bytes) reply name found e = e
 named_after names request reply name found e = e
 
 -- each name's handle was made
-within_after : (names : KeptNames) (answers : List Answer) (first handles made next : ℕ) (now : MapNow)
+within_after : (names : KeptNames) (answers : List Answer) (first handles made next : ℕ)
+    (now : MapNow)
     (request : Request) (reply : Reply) (name : List ℕ) (h : ℕ)
     → ((q : List ℕ) (k : ℕ) → kept_number names q ≡ Some k → k < made)
     → MapReplies first handles made (handle_for answers request reply) now (event_of request reply)
     → next ≡ made + made_by (event_of request reply)
     → number_after names request reply name ≡ Some h → h < next
-within_after names answers first handles made next now (Make text bytes) (answer.Made handle version) name h within m is e =
+within_after names answers first handles made next now (Make text bytes)
+    (answer.Made handle version) name h within m is e =
     decide (bytes_eq text name) e where
       at : handle.n ≡ made
       at = let both : Some handle.n ≡ Some made = m.0 in cc
 
-      decide : (test : Bool) → cond test (Some handle.n) (kept_number names name) ≡ Some h → h < next
+      decide : (test : Bool) → cond test (Some handle.n) (kept_number names name) ≡ Some h
+          → h < next
       decide true e = let same : handle.n ≡ h = cc in omega (arith, at, is)
       decide false e = let lt = within name h e in omega (arith, lt, is)
-within_after names answers first handles made next now (Make text bytes) reply name h within m is e =
+within_after names answers first handles made next now
+    (Make text bytes) reply name h within m is e =
     let lt = within name h e in omega (arith, lt, is)
 within_after names answers first handles made next now request reply name h within m is e =
     let lt = within name h e in omega (arith, lt, is)
@@ -265,7 +280,8 @@ within_after names answers first handles made next now request reply name h with
 
 -- no line changes the configuration
 pub line_settings : (side : Side) (seat : ℕ) (handle : Option ℕ) (request : Request)
-    (w new : WorldState) (r : Reply) → IsSoundWorld w → seat < 64 → ((h : ℕ) → handle ≡ Some h → h < w.desk.settings.handles)
+    (w new : WorldState) (r : Reply) → IsSoundWorld w → seat < 64
+    → ((h : ℕ) → handle ≡ Some h → h < w.desk.settings.handles)
     → LineStep side seat handle request w r new → new.desk.settings ≡ w.desk.settings
 line_settings side seat handle request w new r sound lt ready step =
     by_ask (goes_at side seat) w new r (new.desk.settings ≡ w.desk.settings)
@@ -274,22 +290,26 @@ line_settings side seat handle request w new r sound lt ready step =
 
 -- what the lines after this one need
 along_push : (side : Side) (c : Config) (later : List ℕ) (answers : List Answer) (l : Line)
-    (request : Request) (r : Reply) (w new rested : WorldState) (names kept : KeptNames) → Along side c (l.lane.n ∷ later) answers w names
+    (request : Request) (r : Reply) (w new rested : WorldState) (names kept : KeptNames)
+    → Along side c (l.lane.n ∷ later) answers w names
     → length answers < 20000 → l.lane.n < 64 → IsSoundWorld new → IsRequest c.nodes request
     → IsFreshName (kept_number names) request
-    → LineStep side l.lane.n (request_handle names request) request w r new → AreKept names request r kept
+    → LineStep side l.lane.n (request_handle names request) request w r new
+    → AreKept names request r kept
     → Rests (lines_by l.lane.n later) l.lane.n new rested
     → Along side c later (answers ++ answer_to l request r ∷ []) rested kept
 along_push side c later answers l request r w new rested names kept along few lt then is fresh step
     names_after rest = record {
       sound = behind.stands.sound;
       beside = rw more
-          (beside_kept (calls_of answers ++ called answers a ∷ []) then.shown behind.stands.sound.shown new.far
+          (beside_kept (calls_of answers ++ called answers a ∷ []) then.shown
+          behind.stands.sound.shown new.far
           rested.far goes.follows.beside (ap (λ (f : FarState). f.made) behind.stands.far)
           (λ k. behind.stands.holds then.shown behind.stands.sound.shown k then.known
           behind.stands.sound.known));
       settings = behind.stands.settings
-          ∙ line_settings side l.lane.n (request_handle names request) request w new r along.sound lt ready step
+          ∙ line_settings side l.lane.n (request_handle names request) request w new r along.sound
+          lt ready step
           ∙ along.settings;
       first = ap (λ (f : FarState). f.first) behind.stands.far ∙ goes.first ∙ along.first;
       turns = let turns = goes.turns in let before = along.turns in
@@ -297,9 +317,11 @@ along_push side c later answers l request r w new rested names kept along few lt
           omega (arith, turns, before, same, length_push answers a);
       lone = rests_lone (lines_by l.lane.n later) l.lane.n new rested rest
           (line_lone side l.lane.n (request_handle names request) request w new r step along.lone);
-      leads = leads_push side later [] answers (empty_world c) w new rested a along.leads step_by_answers rest
+      leads = leads_push side later [] answers
+          (empty_world c) w new rested a along.leads step_by_answers rest
           leaves;
-      follow = rw more (Follow-push 1 c.handles [] (calls_of answers) (called answers a) along.follow reply);
+      follow = rw more (Follow-push 1 c.handles [] (calls_of answers)
+          (called answers a) along.follow reply);
       answered = all_push HasLineReply answers a along.answered goes.reply;
       kept = λ name. handle_of-push name answers a
           ∙ named_after names request r name (handle_of answers name) (along.kept name)
@@ -308,14 +330,17 @@ along_push side c later answers l request r w new rested names kept along few lt
           (value_at (calls_of answers) (handle_for answers request r)) request r name h along.within
           map_reply made (sym (names_after name) ∙ e) in
           let same = ap (λ (f : FarState). f.made) behind.stands.far in omega (arith, n, same);
-      scopes = scopes_push (kept_number names) (kept_number kept) later answers a (request_handle names request) w new
+      scopes = scopes_push (kept_number names) (kept_number kept) later answers a
+          (request_handle names request) w new
           rested along.scopes scoped
           (λ q h e. names_after q ∙ grown names request r q h fresh e)
           (λ p q h x y. apart_after names answers 1 c.handles w.far.made
-          (value_at (calls_of answers) (handle_for answers request r)) request r along.scopes.apart along.within
+          (value_at (calls_of answers) (handle_for answers request r)) request r along.scopes.apart
+          along.within
           map_reply p q h (sym (names_after p) ∙ x) (sym (names_after q) ∙ y)) behind;
       keep = keep_push [] answers a along.keep
-          (subst (λ (o : Option ℕ). ScopeSays o (scope_of l.lane.n answers) request r) (sym named) scoped.says);
+          (subst (λ (o : Option ℕ). ScopeSays o (scope_of l.lane.n answers) request r)
+          (sym named) scoped.says);
     }
   where
     a : Answer
@@ -324,8 +349,10 @@ along_push side c later answers l request r w new rested names kept along few lt
     named : handle_named answers (name_of request) ≡ request_handle names request
     named = same_name answers names (name_of request) along.kept
 
-    step_by_answers : LineStep side l.lane.n (handle_named answers (name_of request)) request w r new
-    step_by_answers = subst (λ (o : Option ℕ). LineStep side l.lane.n o request w r new) (sym named) step
+    step_by_answers : LineStep side l.lane.n
+        (handle_named answers (name_of request)) request w r new
+    step_by_answers = subst (λ (o : Option ℕ). LineStep side l.lane.n o request w r new)
+        (sym named) step
 
     most : makes (calls_of answers) ≤ c.handles
     most = makes-le 1 c.handles [] (calls_of answers) (omega arith) along.follow
@@ -359,7 +386,8 @@ along_push side c later answers l request r w new rested names kept along few lt
         (subst (λ (d : Config). IsRequest d.nodes request) (sym along.settings) is)
         (λ h e. ready h (sym named ∙ e)) goes.reply step_by_answers behind.stands.sound rest
 
-    scoped : Scoped (kept_number names) (request_handle names request) (scope_of l.lane.n answers) request r l.lane.n
+    scoped : Scoped (kept_number names) (request_handle names request)
+        (scope_of l.lane.n answers) request r l.lane.n
         w new
     scoped = line_scoped side answers request r w new (request_handle names request)
         (kept_number names)
@@ -376,7 +404,8 @@ along_push side c later answers l request r w new rested names kept along few lt
     map_reply : MapReplies 1 c.handles w.far.made (handle_for answers request r)
         (value_at (calls_of answers) (handle_for answers request r)) (event_of request r)
     map_reply = subst (λ (n : ℕ). MapReplies 1 c.handles n (handle_for answers request r)
-        (value_at (calls_of answers) (handle_for answers request r)) (event_of request r)) along.beside.made
+        (value_at (calls_of answers) (handle_for answers request r)) (event_of request r))
+        along.beside.made
         reply.reply
 
     more : calls_of (answers ++ a ∷ []) ≡ calls_of answers ++ called answers a ∷ []
@@ -386,18 +415,22 @@ along_push side c later answers l request r w new rested names kept along few lt
     made = sym goes.follows.beside.made ∙ makes-push (calls_of answers) (called answers a)
         ∙ ap (λ (n : ℕ). n + made_by (event_of request r)) along.beside.made
 
-pub along_answered : (side : Side) (c : Config) (later : List ℕ) (answers all : List Answer) (l : Line) (w rested : WorldState)
-    (names kept : KeptNames) → Along side c (l.lane.n ∷ later) answers w names → length answers < 20000
+pub along_answered : (side : Side) (c : Config) (later : List ℕ) (answers all : List Answer)
+    (l : Line) (w rested : WorldState)
+    (names kept : KeptNames) → Along side c (l.lane.n ∷ later) answers w names
+    → length answers < 20000
     → l.lane.n < 64 → IsRequest c.nodes l.request
     → IsFreshName (kept_number names) l.request
     → LineAnswered side l later w names answers rested kept all → Along side c later all rested kept
 along_answered side c later answers all l w rested names kept along few lt is fresh done =
     subst (λ (xs : List Answer). Along side c later xs rested kept) (sym done.answer)
-    (along_push side c later answers l l.request done.reply w done.between rested names kept along few lt done.sound
+    (along_push side c later answers l l.request done.reply w done.between rested names kept along
+    few lt done.sound
     is fresh done.step done.holds done.rests)
 
 -- the names of the next request have handles
-pub along_ready : (side : Side) (c : Config) (later : List ℕ) (answers : List Answer) (w : WorldState) (names : KeptNames)
+pub along_ready : (side : Side) (c : Config) (later : List ℕ) (answers : List Answer)
+    (w : WorldState) (names : KeptNames)
     → Along side c later answers w names → AreReady w.desk.settings.handles names
 along_ready side c later answers w names along = λ name h e.
     let lt = along.within name h e in
@@ -409,12 +442,15 @@ along_ready side c later answers w names along = λ name h e.
 empty_map : (c : Config) → IsAccepted c → (sound : IsSoundWorld (empty_world c))
     → IsMapBeside [] sound.shown (empty_far 1 c)
 empty_map c ok sound =
-    beside_kept [] (empty_shown 1 c) sound.shown (empty_far 1 c) (empty_far 1 c) (empty_beside c) refl
+    beside_kept [] (empty_shown 1 c) sound.shown (empty_far 1 c) (empty_far 1 c)
+    (empty_beside c) refl
     (λ k. now_same (empty_words c) (empty_shown 1 c) sound.shown (empty_far 1 c) k (empty_shows 1 c)
-    (empty_sound 1 c (lit≤ tt) (let n = (ok Nodes).1 in omega (arith, n))) sound.known.shows sound.known.sound)
+    (empty_sound 1 c (lit≤ tt) (let n = (ok Nodes).1 in omega (arith, n))) sound.known.shows
+    sound.known.sound)
 
 -- nothing was answered yet
-pub along_none : (side : Side) (c : Config) (later : List ℕ) (w : WorldState) (names : KeptNames) → IsAccepted c
+pub along_none : (side : Side) (c : Config) (later : List ℕ) (w : WorldState) (names : KeptNames)
+    → IsAccepted c
     → w ≡ empty_world c → AreLanes later → ((name : List ℕ) → kept_number names name ≡ None)
     → Along side c later [] w names
 along_none side c later w names accepted is lanes none =
@@ -436,7 +472,8 @@ along_none side c later w names accepted is lanes none =
     })
 
 -- what the world holds
-pub along_holds : (side : Side) (c : Config) (later : List ℕ) (answers : List Answer) (w : WorldState) (names : KeptNames)
+pub along_holds : (side : Side) (c : Config) (later : List ℕ) (answers : List Answer)
+    (w : WorldState) (names : KeptNames)
     → Along side c later answers w names → HoldsAnswers w answers
 along_holds side c later answers w names along = record {
   shown = along.sound.shown;
@@ -464,7 +501,8 @@ losses_push answers all a losses more so_far added one =
     ∙ filter_map-append (λ (b : Answer). told_loss b.request b.reply) answers (a ∷ []))
 
 -- every line has a lane and a request of their forms
-pub line_form : (nodes : ℕ) (before lines : List Line) (i : ℕ) (l : Line) → AreLines nodes before lines
+pub line_form : (nodes : ℕ) (before lines : List Line) (i : ℕ) (l : Line)
+    → AreLines nodes before lines
     → i < length lines → l ≡ get_or lines i l → IsRequest nodes l.request × (l.lane.n ≤ 15)
 line_form nodes before (x ∷ lines) zero l all below at =
     subst (λ (y : Line). IsRequest nodes y.request × (y.lane.n ≤ 15)) (sym at)

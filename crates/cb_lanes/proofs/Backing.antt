@@ -6,7 +6,6 @@ use Rattle.std.proofs.lemmas.List.{append-nil}
 use Rattle.std.proofs.lemmas.List.Sums.{sum_by-cons}
 use Rattle.cb_types.specs.declared.config.Config.{Config}
 use Rattle.cb_types.specs.declared.job.Job.{Job}
-use Rattle.cb_types.specs.declared.job.Job.TheVariants as job
 use Rattle.cb_types.specs.declared.reply.Reply.{Reply}
 use Rattle.cb_types.specs.declared.request.Request.{Request}
 use Rattle.cb_world.specs.declared.entry.Entry.{Entry}
@@ -44,7 +43,8 @@ adds_grown v w d is = adds_by v w d v.own v.pins is
 pub adds_pins : (v w : View) (pins : List Stand) → w ≡ record v { pins = pins }
     → Adds v nothing_more w
 adds_pins v w pins is = adds_by v w nothing_more v.own pins
-    (is ∙ ap (λ (z : View). let y : View = record z { pins = pins } in y) (sym (grown-nothing_more v)))
+    (is ∙ ap (λ (z : View). let y : View = record z { pins = pins } in y)
+    (sym (grown-nothing_more v)))
 
 pub adds_none : (v w : View) → w ≡ v → Adds v nothing_more w
 adds_none v w is = adds_grown v w nothing_more (is ∙ sym (grown-nothing_more v))
@@ -83,7 +83,8 @@ vain_backs on j d x = idle_backs d (ap (λ (z : Part). z.written) x.part)
     ∙ idle_turns x.turns x.idle)
 
 -- tries that came to nothing stand before what answers the line
-pub ends_back : (on : ℕ → Type 0) (j : Turn → Type 0) (P : View → Part → Type 0) (v : View) (d : Part) (t : Told)
+pub ends_back : (on : ℕ → Type 0) (j : Turn → Type 0) (P : View → Part → Type 0) (v : View)
+    (d : Part) (t : Told)
     → (x : EndsAtLast on j P v d) → Backs x.last (t ∷ []) → Backs d (t ∷ [])
 ends_back on j P v d t x b = subst (λ (z : Part). Backs z (t ∷ [])) (sym x.part)
     (backs_sum x.before x.last [] (t ∷ []) (vain_backs on j x.before x.in_vain) b)
@@ -96,7 +97,8 @@ pub record IsByTurn (j : Job) (h : Option ℕ) (q : Request) (r : Reply) : Type 
   pub turned : IsSublist (turn_at h q r) (record { job = j; reply = Some r } ∷ [])
   pub happens : happening j (Some r) ≡ happened_at q r
 
-pub turn_backs : (c : Config) (j : Job) (h : Option ℕ) (q : Request) (r : Reply) (v : View) (d : Part)
+pub turn_backs : (c : Config) (j : Job) (h : Option ℕ) (q : Request) (r : Reply) (v : View)
+    (d : Part)
     → (x : TurnAdds c j (Ok r) v d) → IsByTurn j h q r
     → Meets (turn_part x.turn x.more x.within x.later) (need_of h q r)
     → Backs d (record { handle = h; request = q; reply = r } ∷ [])
@@ -115,7 +117,8 @@ turn_backs c j h q r v d x by meets = subst (λ (z : Part). Backs z (t ∷ [])) 
     same : deed x.turn ≡ record { job = j; reply = Some r }
     same = λ i. record { job = x.job_is i; reply = x.reply_is i }
 
-pub job_for : (own : Option Job) (h : Option ℕ) (j k : Job) → own ≡ Some j → k ≡ j → IsJobFor own h k
+pub job_for : (own : Option Job) (h : Option ℕ) (j k : Job) → own ≡ Some j → k ≡ j
+    → IsJobFor own h k
 job_for own (Some h) j k is same = inl (is ∙ ap (λ (z : Job). Some z) (sym same))
 job_for own None j k is same = is ∙ ap (λ (z : Job). Some z) (sym same)
 
@@ -126,7 +129,8 @@ IsLast t r = is_to_try_again t.gave t.order t.job (Some r) ≡ false
 last_turn : (t : Turn) (r : Reply) → t.reply ≡ Some r → IsLast t r → tries_again t ≡ false
 last_turn t r reply last = ap (is_to_try_again t.gave t.order t.job) reply ∙ last
 
-pub its_turn : (c : Config) (own : Option Job) (h : Option ℕ) (j : Job) (r : Reply) (v : View) (d : Part)
+pub its_turn : (c : Config) (own : Option Job) (h : Option ℕ) (j : Job) (r : Reply) (v : View)
+    (d : Part)
     → own ≡ Some j → (x : TurnAdds c j (Ok r) v d) → IsLast x.turn r
     → HasOne (IsTurnFor own h r) (x.turn ∷ [])
 its_turn c own h j r v d is x last = inl (
@@ -135,7 +139,8 @@ its_turn c own h j r v d is x last = inl (
   last_turn x.turn r x.reply_is last,
 )
 
-pub its_bringing : (c : Config) (own : Option Job) (h : ℕ) (j : Job) (r : Reply) (v : View) (d : Part)
+pub its_bringing : (c : Config) (own : Option Job) (h : ℕ) (j : Job) (r : Reply) (v : View)
+    (d : Part)
     → Brings h j → (x : TurnAdds c j (Ok r) v d) → IsLast x.turn r
     → HasOne (IsTurnFor own (Some h) r) (x.turn ∷ [])
 its_bringing c own h j r v d brings x last = inl (
@@ -159,7 +164,8 @@ abbrev pub LineAdds : View → View → Told → Type 0
 LineAdds v w t = (d : Part) × Adds v d w × Backs d (t ∷ [])
 
 -- nothing: no call was made
-pub still_backs : (h : Option ℕ) (q : Request) (r : Reply) → EntersAt h q r [] → Meets nothing_more (need_of h q r)
+pub still_backs : (h : Option ℕ) (q : Request) (r : Reply) → EntersAt h q r []
+    → Meets nothing_more (need_of h q r)
     → pins_at q r ≡ 0 → turn_at h q r ≡ [] → happened_at q r ≡ []
     → Backs nothing_more (told_as h q r ∷ [])
 still_backs h q r enters meets pins turned happens =

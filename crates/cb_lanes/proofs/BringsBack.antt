@@ -14,8 +14,14 @@ use Rattle.cb_record.specs.Needs.{IsTurnFor, Meets, need_of, own_job}
 use Rattle.cb_record.specs.Parts.{Part}
 use Rattle.cb_shared.specs.Calls.{AnswersBy, Brings, IsLack, again_in}
 use Rattle.cb_shared.specs.Turning.{TurnAdds, turn_part}
-use Rattle.cb_lanes.proofs.AskedTurns.{brings_idly, brings_lack, brings_none}
+use Rattle.cb_shared.proofs.Laws.{brings_idly, brings_lack, brings_none}
 use Rattle.cb_lanes.proofs.Backing.{IsLast, is_last, its_bringing, told_as, turn_backs}
+use Rattle.cb_lanes.proofs.Lacks.{by_lack}
+
+-- what a line needs is met where the part has a turn of its own job so answered
+abbrev NeedsTurn : ℕ → Request → Part → Reply → Type 0
+NeedsTurn h q d r = HasOne (IsTurnFor (own_job (Some h) q) (Some h) r) d.turns
+    → Meets d (need_of (Some h) q r)
 
 -- what a line needs of such a turn
 pub record IsByBringing (h : ℕ) (q : Request) : Type 0 where
@@ -23,8 +29,7 @@ pub record IsByBringing (h : ℕ) (q : Request) : Type 0 where
   pub turned : (r : Reply) → turn_at (Some h) q r ≡ []
   pub happens : (r : Reply) → happened_at q r ≡ []
   pub no_pin : (again : Bool) (r : Reply) → IsLack again r → pins_at q r ≡ 0
-  pub needs : (d : Part) (r : Reply) (again : Bool) → IsLack again r
-      → HasOne (IsTurnFor (own_job (Some h) q) (Some h) r) d.turns → Meets d (need_of (Some h) q r)
+  pub needs : (d : Part) (again : Bool) (r : Reply) → IsLack again r → NeedsTurn h q d r
 
 -- it is one for the line, which is not made again
 lack_last : (c : Config) (j : Job) (r : Reply) (v : View) (d : Part) → IsLack (again_in d.turns) r
@@ -34,8 +39,8 @@ lack_last c j (answer.NoRoom f l n) v d lack x = is_last c j (answer.NoRoom f l 
 lack_last c j answer.Worn v d lack x = refl
 lack_last c j r v d lack x = absurd lack
 
-pub bring_backs : (c : Config) (h : ℕ) (q : Request) (r : Reply) (v : View) (d : Part) → IsByBringing h q
-    → AnswersBy c (Brings h) r v d → Backs d (told_as (Some h) q r ∷ [])
+pub bring_backs : (c : Config) (h : ℕ) (q : Request) (r : Reply) (v : View) (d : Part)
+    → IsByBringing h q → AnswersBy c (Brings h) r v d → Backs d (told_as (Some h) q r ∷ [])
 bring_backs c h q r v d by x = turn_backs c x.job (Some h) q r v d t (record {
   enters = λ es wrote. subst (EntersAt (Some h) q r) (sym (brings_none h x.job r es x.of wrote))
       (by.enters (again_in d.turns) r lack);
@@ -43,7 +48,7 @@ bring_backs c h q r v d by x = turn_backs c x.job (Some h) q r v d t (record {
   turned = subst (λ (l : List Deed). IsSublist l (record { job = x.job; reply = Some r } ∷ []))
       (sym (by.turned r)) (beside [] _ [] ended);
   happens = brings_idly h x.job r x.of ∙ sym (by.happens r);
-}) (by.needs (turn_part t.turn t.more t.within t.later) r (again_in d.turns) lack
+}) (by.needs (turn_part t.turn t.more t.within t.later) (again_in d.turns) r lack
     (its_bringing c (own_job (Some h) q) h x.job r v d x.of t (lack_last c x.job r v d lack t)))
   where
     t : TurnAdds c x.job (Ok r) v d
@@ -57,63 +62,26 @@ read_by_bringing h name = record {
   enters = λ again r lack. refl;
   turned = λ r. refl;
   happens = λ r. refl;
-  no_pin = no_pin;
-  needs = needs;
+  no_pin = by_lack (λ (r : Reply). pins_at (Read name) r ≡ 0) (λ s l. refl) (λ f l n. refl) refl;
+  needs = λ d. by_lack (NeedsTurn h (Read name) d) (λ s l one. one) (λ f l n one. one) (λ one. one);
 }
-  where
-    no_pin : (again : Bool) (r : Reply) → IsLack again r → pins_at (Read name) r ≡ 0
-    no_pin again (answer.Bytes version bytes) lack = absurd lack
-    no_pin again r lack = refl
-
-    needs : (d : Part) (r : Reply) (again : Bool) → IsLack again r
-        → HasOne (IsTurnFor (own_job (Some h) (Read name)) (Some h) r) d.turns
-        → Meets d (need_of (Some h) (Read name) r)
-    needs d (answer.Unavailable s l) again lack one = one
-    needs d (answer.NoRoom f l n) again lack one = one
-    needs d answer.Worn again lack one = one
-    needs d r again lack one = absurd lack
 
 pub pin_by_bringing : (h : ℕ) (name : List ℕ) → IsByBringing h (Pin name)
 pin_by_bringing h name = record {
   enters = λ again r lack. refl;
   turned = λ r. refl;
   happens = λ r. refl;
-  no_pin = no_pin;
-  needs = needs;
+  no_pin = by_lack (λ (r : Reply). pins_at (Pin name) r ≡ 0) (λ s l. refl) (λ f l n. refl) refl;
+  needs = λ d. by_lack (NeedsTurn h (Pin name) d) (λ s l one. one) (λ f l n one. one) (λ one. one);
 }
-  where
-    no_pin : (again : Bool) (r : Reply) → IsLack again r → pins_at (Pin name) r ≡ 0
-    no_pin again (answer.Version version) lack = absurd lack
-    no_pin again r lack = refl
-
-    needs : (d : Part) (r : Reply) (again : Bool) → IsLack again r
-        → HasOne (IsTurnFor (own_job (Some h) (Pin name)) (Some h) r) d.turns
-        → Meets d (need_of (Some h) (Pin name) r)
-    needs d (answer.Unavailable s l) again lack one = one
-    needs d (answer.NoRoom f l n) again lack one = one
-    needs d answer.Worn again lack one = one
-    needs d r again lack one = absurd lack
 
 pub write_by_bringing : (h at : ℕ) (name bytes : List ℕ) → IsByBringing h (Write name at bytes)
 write_by_bringing h at name bytes = record {
-  enters = enters;
+  enters = by_lack (λ (r : Reply). EntersAt (Some h) (Write name at bytes) r []) (λ s l. refl)
+      (λ f l n. refl) refl;
   turned = λ r. refl;
   happens = λ r. refl;
   no_pin = λ again r lack. refl;
-  needs = needs;
+  needs = λ d. by_lack (NeedsTurn h (Write name at bytes) d) (λ s l one. one) (λ f l n one. one)
+      (λ one. inr one);
 }
-  where
-    enters : (again : Bool) (r : Reply) → IsLack again r
-        → EntersAt (Some h) (Write name at bytes) r []
-    enters again (answer.Unavailable s l) lack = refl
-    enters again (answer.NoRoom f l n) lack = refl
-    enters again answer.Worn lack = refl
-    enters again r lack = absurd lack
-
-    needs : (d : Part) (r : Reply) (again : Bool) → IsLack again r
-        → HasOne (IsTurnFor (own_job (Some h) (Write name at bytes)) (Some h) r) d.turns
-        → Meets d (need_of (Some h) (Write name at bytes) r)
-    needs d (answer.Unavailable s l) again lack one = one
-    needs d (answer.NoRoom f l n) again lack one = one
-    needs d answer.Worn again lack one = inr one
-    needs d r again lack one = absurd lack

@@ -19,7 +19,8 @@ module _ {A : Type 0} (goes : Goes A) (a b : A) (r : Reply) (T : Type 0)
   by_object (Some h) (Peek name) x = asks (Peeks h) x
   by_object (Some h) (Unpin name) x = asks (Unpins h) x
   by_object (Some h) (Read name) x = asks (Calls (job.Read (record { n = h }))) x
-  by_object (Some h) (Write name at bytes) x = asks (Calls (job.Write (record { n = h }) at bytes)) x
+  by_object (Some h) (Write name at bytes) x =
+      asks (Calls (job.Write (record { n = h }) at bytes)) x
   by_object (Some h) (Free name) x = asks (Calls (job.Free (record { n = h }))) x
   by_object (Some h) (Filter name) x = asks (Calls (job.Filter (record { n = h }))) x
   by_object (Some h) request x = absurd x
@@ -44,7 +45,8 @@ module _ {A : Type 0} (goes less : Goes A) (a b : A) (r : Reply)
   object_less (Some h) (Peek name) x = each (Peeks h) x
   object_less (Some h) (Unpin name) x = each (Unpins h) x
   object_less (Some h) (Read name) x = each (Calls (job.Read (record { n = h }))) x
-  object_less (Some h) (Write name at bytes) x = each (Calls (job.Write (record { n = h }) at bytes)) x
+  object_less (Some h) (Write name at bytes) x =
+      each (Calls (job.Write (record { n = h }) at bytes)) x
   object_less (Some h) (Free name) x = each (Calls (job.Free (record { n = h }))) x
   object_less (Some h) (Filter name) x = each (Calls (job.Filter (record { n = h }))) x
   object_less (Some h) request x = absurd x

@@ -1,6 +1,5 @@
 -- A line is answered with no want of room and no loss where its world makes it easy.
 use Rattle.std.proofs.Common.{◌≡◌, ℕ, ◌^◌, ◌<◌, List, Option, None, Some, refl, sym, subst}
-use Rattle.std.proofs.lemmas.Option.{same_Some, none-some}
 use Rattle.cb_ptr.specs.declared.word.State.{State}
 use Rattle.cb_ptr.specs.declared.word.State.TheVariants as state
 use Rattle.cb_ptr.specs.Word.{state_of, pins_of}
@@ -8,10 +7,7 @@ use Rattle.cb_types.specs.declared.job.Job.{Job}
 use Rattle.cb_types.specs.declared.job.Job.TheVariants as job
 use Rattle.cb_types.specs.declared.request.Request.{Request}
 use Rattle.cb_types.specs.declared.request.Request.TheVariants.{Make, Read, Write, Free, Pin, Peek}
-use Rattle.cb_types.specs.declared.request.Request.TheVariants.{Unpin, Filter, Leave, Evict, Begin}
-use Rattle.cb_types.specs.declared.request.Request.TheVariants.{Ship, Commit, Abort, Pair, Patch}
-use Rattle.cb_types.specs.declared.request.Request.TheVariants.{Merge, Part, Compact, Rebuild}
-use Rattle.cb_types.specs.declared.request.Request.TheVariants.{Crash, Join}
+use Rattle.cb_types.specs.declared.request.Request.TheVariants.{Unpin, Filter, Leave}
 use Rattle.cb_types.specs.declared.reply.Reply.{Reply}
 use Rattle.cb_types.specs.declared.reply.Reply.TheVariants as answer
 use Rattle.cb_world.specs.OpenSteps.{NoneHolds}
@@ -34,7 +30,7 @@ use Rattle.cb_lanes.specs.LineStep.{LineStep, ObjectStep, OtherStep, IsInReply, 
 use Rattle.cb_lanes.specs.LineStep.{not_pinned, shown, PinLine, at_once, stays_far, swapped_in}
 use Rattle.cb_lanes.specs.declared.side.Side.{Side}
 use Rattle.cb_lanes.proofs.EasyLines.{IsEasyLine, job_whole}
-use Rattle.cb_lanes.proofs.LineKeeps.{line_alone}
+use Rattle.cb_lanes.proofs.LineKeeps.{line_alone, line_within}
 use Rattle.cb_lanes.proofs.Lone.{turn_alone}
 use Rattle.cb_lanes.proofs.Recounting.{turn_beside}
 
@@ -74,29 +70,6 @@ abbrev pub LineMakesWithin : ℕ → Request → Type 0
 LineMakesWithin most (Make name bytes) = MakesWithin most (job.Make bytes)
 LineMakesWithin most request = Unit {0}
 
--- the job of a line about no object is no make
-job_within : (most : ℕ) (request : Request) (j : Job) → job_of request ≡ Some j → MakesWithin most j
-job_within most request j e = by request e
-  where
-    is : (i : Job) → MakesWithin most i → Some i ≡ Some j → MakesWithin most j
-    is i x e = subst (MakesWithin most) (same_Some i j e) x
-
-    by : (q : Request) → job_of q ≡ Some j → MakesWithin most j
-    by Evict e = is job.Evict tt e
-    by Begin e = is job.Begin tt e
-    by Ship e = is job.Ship tt e
-    by Commit e = is job.Commit tt e
-    by Abort e = is job.Abort tt e
-    by Pair e = is job.Pair tt e
-    by Patch e = is job.Patch tt e
-    by Merge e = is job.Merge tt e
-    by Part e = is job.Part tt e
-    by Compact e = is job.Compact tt e
-    by Rebuild e = is job.Rebuild tt e
-    by (Crash node) e = is (job.Crash node) tt e
-    by (Join node) e = is (job.Join node) tt e
-    by q e = absurd (none-some j e)
-
 -- facts that make it easy, also behind each eviction of a turn
 module _ {most : ℕ} (E : Holding Words → Type 0) (keeps : KeepsEasy most E) (w : WorldState)
     (sound : IsSoundWorld w) (few : w.far.counts.turns < 2 ^ 40) (lone : NoneHolds w.seats)
@@ -121,11 +94,13 @@ module _ {most : ℕ} (E : Holding Words → Type 0) (keeps : KeepsEasy most E) 
       by (stays e here) = pin_here m new seat h r here again
       by (swapped f e here) = pin_here m new seat h r here again
 
-  object_calm : (side : Side) (seat : ℕ) (handle : Option ℕ) (request : Request) (new : WorldState) (r : Reply)
+  object_calm : (side : Side) (seat : ℕ) (handle : Option ℕ) (request : Request) (new : WorldState)
+      (r : Reply)
       → ((h : ℕ) → handle ≡ Some h → h < w.desk.settings.handles)
       → ObjectStep side seat handle request w r new → IsEased r
   object_calm side seat None request new r ready x = eased_as r _ tt x.0
-  object_calm side seat (Some h) (Pin name) new r ready x = pin_line_calm seat h new r (ready h refl) x
+  object_calm side seat (Some h) (Pin name) new r ready x =
+      pin_line_calm seat h new r (ready h refl) x
   object_calm side seat (Some h) (Peek name) new r ready x = peek_calm seat h w new r x
   object_calm side seat (Some h) (Unpin name) new r ready x = unpin_calm seat h w new r x
   object_calm side seat (Some h) (Read name) new r ready x =
@@ -158,7 +133,7 @@ module _ {most : ℕ} (E : Holding Words → Type 0) (keeps : KeepsEasy most E) 
       event_calm seat (job.Make bytes) new r tt within tt x
   go nodes side seat handle Leave new r line within ready x = eased_as r _ tt x.0
   go nodes side seat handle request new r line within ready x = other_calm side seat handle request
-      (job_of request) new r (job_whole nodes request line) (job_within most request)
+      (job_of request) new r (job_whole nodes request line) (line_within most request)
       (line_alone request) ready x
 
 pub line_calm : {most : ℕ} (E : Holding Words → Type 0) → KeepsEasy most E → (nodes : List ℕ)

@@ -47,7 +47,8 @@ same_map : (w new : WorldState) (r : Reply) → (before : IsSoundWorld w) → (t
     → IsDoneHere w r new → IsSameMap before.shown then.shown w.far new.far
 same_map w new r before then d =
     let known = once_known w job.Compact before.shown before.known in
-    let keeps = local_laws.keeps before.shown (counted w.far job.Compact) new.far r known.sound d.step in
+    let keeps = local_laws.keeps before.shown
+    (counted w.far job.Compact) new.far r known.sound d.step in
     let leaves = local_laws.leaves (counted w.far job.Compact) new.far r d.step in
     let still : IsKnown new.desk new.far before.shown =
     subst (λ (x : Words). IsKnown x new.far before.shown) (sym d.desk) (record {
@@ -72,11 +73,13 @@ here_goes answers l r w new c d =
     let leaves = local_laws.leaves (counted w.far job.Compact) new.far r d.step in
     let turns = leaves.turns in
     record {
-      follows = silent_follows w.desk.settings.handles (calls_of answers) (called answers a) c.then.shown
+      follows = silent_follows w.desk.settings.handles (calls_of answers)
+          (called answers a) c.then.shown
           w.far new.far
           (kept_beside (calls_of answers) c.before.shown c.then.shown w.far new.far c.beside
           (same_map w new r c.before c.then d)) refl (ap made_by told)
-          (subst (MapReplies w.far.first w.desk.settings.handles (makes (calls_of answers)) None None)
+          (subst (MapReplies w.far.first w.desk.settings.handles
+          (makes (calls_of answers)) None None)
           (sym told) tt);
       reply = line;
       first = leaves.first;

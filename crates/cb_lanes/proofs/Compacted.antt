@@ -77,7 +77,8 @@ module _ (seat : ℕ) (w m new : WorldState) (sound : IsSoundWorld w)
       → LeavesWords (counted w.far Compact) new.far
       → ((s : Shown) → Sound s m.far → Sound s new.far) → IsSoundWorld new
   sound_by stays leaves then =
-      subst IsSoundWorld (sym (λ i. record { desk = desk_stays i; far = new.far; seats = seats_stay i }))
+      subst IsSoundWorld (sym (λ i. record
+      { desk = desk_stays i; far = new.far; seats = seats_stay i }))
       (compacted_sound w 36 new.far (omega arith) sound admitted.few stays
       (then sound.shown (subst (Sound sound.shown) (sym far)
       (once_known w Compact sound.shown sound.known).sound)) leaves)
@@ -87,7 +88,8 @@ module _ (seat : ℕ) (w m new : WorldState) (sound : IsSoundWorld w)
   compacted_stays r step =
       let known = (once_known w Compact sound.shown sound.known).sound in
       let here = subst (λ (f : FarState). LocalStep f new.far r) far step in
-      sound_by (local_laws.stays w.desk.settings sound.shown (counted w.far Compact) new.far r known here)
+      sound_by (local_laws.stays w.desk.settings sound.shown
+      (counted w.far Compact) new.far r known here)
       (local_laws.keeps sound.shown (counted w.far Compact) new.far r known here).words
 
   pub lacking_is : (rows : ℕ) → rows ≤ 36 → new.far ≡ far_given m.far rows → StopsHere seat w new

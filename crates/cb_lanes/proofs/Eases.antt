@@ -1,6 +1,7 @@
--- What a script at ease keeps from line to line: its replies are calm, and each lane's own lines are
--- answered as the lane is by itself.
-use Rattle.std.proofs.Common.{◌≡◌, ℕ, ◌+◌, ◌^◌, ◌<◌, ◌≤◌, Bool, true, false, ◌&&◌, List, [], ◌∷◌, ◌++◌}
+-- What a script at ease keeps from line to line: its replies are calm, and each lane's own lines
+-- are answered as the lane is by itself.
+use Rattle.std.proofs.Common.{◌≡◌, ℕ, ◌+◌, ◌^◌, ◌<◌, ◌≤◌, Bool, true, false, ◌&&◌, List, [], ◌∷◌}
+use Rattle.std.proofs.Common.{◌++◌}
 use Rattle.std.proofs.Common.{length, map, take, get_or, Option, None, Some, refl, sym, ap, ◌∙◌}
 use Rattle.std.proofs.Common.{subst, arith, eq-eqb, nat_eq, append_assoc}
 use Rattle.std.specs.List.{AllByRecursion}
@@ -46,7 +47,8 @@ use Rattle.cb_lanes.proofs.AloneLines.{one_maker}
 use Rattle.cb_lanes.proofs.Along.{Along, along_ready, line_form}
 use Rattle.cb_lanes.proofs.CalmLines.{line_calm}
 use Rattle.cb_lanes.proofs.EasyLines.{IsIdleAmong, empty_at_rest, line_at_rest, rests_at_rest}
-use Rattle.cb_lanes.proofs.EasyWorlds.{IsLikeWorld, crashed_nodes, easy_line, easy_world, few_answers}
+use Rattle.cb_lanes.proofs.EasyWorlds.{IsLikeWorld, crashed_nodes, easy_line, easy_world}
+use Rattle.cb_lanes.proofs.EasyWorlds.{few_answers}
 use Rattle.cb_lanes.proofs.EasyWorlds.{few_made, keeps_easy, like_counted, line_within, most_pages}
 use Rattle.cb_lanes.proofs.LineNarrow.{IsLongLine, line_narrow}
 use Rattle.cb_lanes.proofs.Lists.{all_last, all_push}
@@ -76,7 +78,8 @@ follow_last first handles before (b ∷ calls) c follow =
     (follow_last first handles (before ++ b ∷ []) calls c follow.1)
 
 keep_last : (before after : List Answer) (a : Answer) → KeepScopes before (after ++ a ∷ [])
-    → ScopeSays (handle_named (before ++ after) (name_of a.request)) (scope_of a.lane.n (before ++ after))
+    → ScopeSays (handle_named (before ++ after) (name_of a.request))
+    (scope_of a.lane.n (before ++ after))
     a.request a.reply
 keep_last before [] a keep = subst (λ (xs : List Answer).
     ScopeSays (handle_named xs (name_of a.request)) (scope_of a.lane.n xs) a.request a.reply)
@@ -96,7 +99,8 @@ calm_by (answer.Full handles) eased full = absurd (full handles refl)
 calm_by r eased full = tt
 
 -- only a make is told that all handles are taken, and that is so where they are
-never_full : (handles : ℕ) (before : List Called) (answers : List Answer) (lane : ℕ) (request : Request) (n : ℕ)
+never_full : (handles : ℕ) (before : List Called) (answers : List Answer) (lane : ℕ)
+    (request : Request) (n : ℕ)
     → IsReplyOf request (answer.Full n)
     → (is_make request ≡ true → makes before < handles)
     → MapReplies 1 handles (makes before)
@@ -117,9 +121,11 @@ never_long request r short x = x
 
 -- ---- one line more
 
-module _ (side : Side) (s : Script) (i : ℕ) (later : List ℕ) (answers : List Answer) (l : Line) (r : Reply)
+module _ (side : Side) (s : Script) (i : ℕ) (later : List ℕ) (answers : List Answer) (l : Line)
+    (r : Reply)
     (w between rested : WorldState) (names kept : KeptNames)
-    (script : IsScript s) (ease : IsAtEase s) (lt : i < length s.lines) (at : l ≡ get_or s.lines i l)
+    (script : IsScript s) (ease : IsAtEase s) (lt : i < length s.lines)
+    (at : l ≡ get_or s.lines i l)
     (so_far : map asked answers ≡ take i s.lines)
     (along : Along side s.config (l.lane.n ∷ later) answers w names)
     (then : Along side s.config later (answers ++ answer_to l l.request r ∷ []) rested kept)
@@ -197,17 +203,22 @@ module _ (side : Side) (s : Script) (i : ℕ) (later : List ℕ) (answers : List
     calm = calm;
     pins = λ name named maker some.
         let low = form.1 in let own = lines_own l.lane.n later in
-        line_tells side s.config.nodes i s.lines answers w between (kept_number names) (l.lane.n ∷ later) l.lane.n
-        script.lines so_far along.scopes turning some (omega (arith, low)) (omega (arith, own)) along.kept ready
-        l.request r (request_handle names l.request) (λ q e. ap (kept_for names) (sym e)) step name named maker;
+        line_tells side s.config.nodes i s.lines answers w between (kept_number names)
+        (l.lane.n ∷ later) l.lane.n
+        script.lines so_far along.scopes turning some (omega (arith, low))
+        (omega (arith, own)) along.kept ready
+        l.request r (request_handle names l.request)
+        (λ q e. ap (kept_for names) (sym e)) step name named maker;
     apart = λ p q h x y. along.scopes.apart p q h (sym (along.kept p) ∙ x) (sym (along.kept q) ∙ y);
     within = λ q h e. let n = along.within q h (sym (along.kept q) ∙ e) in
         let made = along.beside.made in omega (arith, n, made);
     makers = λ k m q. one_maker s.config.nodes [] s.lines k m q script.lines;
-    maker = each_at (IsOwnName s.lines) s.lines i l (names_known s.config.nodes s.lines script.lines) lt at;
+    maker = each_at (IsOwnName s.lines) s.lines i l
+        (names_known s.config.nodes s.lines script.lines) lt at;
     shared = λ has. sym (ap (λ (b : Bool). b && pins_shared s.lines l.request)
         (eq-eqb l.lane.n l.lane.n refl))
-        ∙ any_at (λ (x : Line). nat_eq x.lane.n l.lane.n && pins_shared s.lines x.request) s.lines i l has.pins
+        ∙ any_at (λ (x : Line). nat_eq x.lane.n l.lane.n && pins_shared s.lines x.request) s.lines i
+        l has.pins
         lt at;
   }
 
@@ -218,23 +229,28 @@ module _ (side : Side) (s : Script) (i : ℕ) (later : List ℕ) (answers : List
       → Eases s (answers ++ next_answer ∷ []) rested
   eases_more step sound rests = record {
     rest = rests_at_rest (crashed_nodes s) (lines_by l.lane.n later) l.lane.n between rested rests
-        (line_at_rest (crashed_nodes s) side l.lane.n (request_handle names l.request) l.request w between r
+        (line_at_rest (crashed_nodes s) side l.lane.n
+        (request_handle names l.request) l.request w between r
         (easy_line s i l ease lt at form.0) step eases.rest);
     codes = subst (HaveCodes (IsConfiguredCode s.config))
         (sym (rests_far (lines_by l.lane.n later) l.lane.n between rested rests))
         (have_codes (IsConfiguredCode s.config) w.far between.far
-        (line_codes w along.sound side l.lane.n (request_handle names l.request) l.request between r step)
+        (line_codes w along.sound side l.lane.n (request_handle names l.request) l.request between r
+        step)
         eases.codes);
     narrow = λ none. same_narrow between.far rested.far
         (rests_far (lines_by l.lane.n later) l.lane.n between rested rests)
-        (line_narrow w along.sound side l.lane.n (request_handle names l.request) l.request between r
+        (line_narrow w along.sound side l.lane.n
+        (request_handle names l.request) l.request between r
         (never_long l.request r
         (any_at (λ (x : Line). is_long_make x.request) s.lines i l none lt at)) step
         (eases.narrow none));
     young = λ h.
-        let z = version_more s.config.handles (calls_of answers) (called answers next_answer) h (length answers) by_map
+        let z = version_more s.config.handles (calls_of answers) (called answers next_answer) h
+        (length answers) by_map
         (eases.young h) in
-        let same = ap (λ (cs : List Called). version_had (value cs h)) (calls_of-push answers next_answer) in
+        let same = ap (λ (cs : List Called). version_had (value cs h))
+        (calls_of-push answers next_answer) in
         omega (arith, z, same, length_push answers next_answer);
     calm = all_push (λ (a : Answer). IsCalmReply a.reply) answers next_answer eases.calm calm;
     alone = λ lane has. alone_push s.lines s.config.handles lane answers next_answer
@@ -256,15 +272,21 @@ module _ (side : Side) (s : Script) (i : ℕ) (later : List ℕ) (answers : List
           easy begins
           (easy_line s i l ease lt at form.0) (line_within s i l lt at) handle_ready step)
 
-pub eases_answered : (side : Side) (s : Script) (i : ℕ) (later : List ℕ) (answers all : List Answer) (l : Line)
+pub eases_answered : (side : Side) (s : Script) (i : ℕ) (later : List ℕ) (answers all : List Answer)
+    (l : Line)
     (w rested : WorldState) (names kept : KeptNames) → IsScript s → IsAtEase s → i < length s.lines
     → l ≡ get_or s.lines i l → map asked answers ≡ take i s.lines
-    → Along side s.config (l.lane.n ∷ later) answers w names → Along side s.config later all rested kept
-    → LineAnswered side l later w names answers rested kept all → Eases s answers w → Eases s all rested
-eases_answered side s i later answers all l w rested names kept script ease lt at so_far along then done eases =
+    → Along side s.config (l.lane.n ∷ later) answers w names
+    → Along side s.config later all rested kept
+    → LineAnswered side l later w names answers rested kept all → Eases s answers w
+    → Eases s all rested
+eases_answered side s i later answers all l w rested names kept script ease lt at so_far
+    along then done eases =
     subst (λ (xs : List Answer). Eases s xs rested) (sym done.answer)
-    (eases_more side s i later answers l done.reply w done.between rested names kept script ease lt at so_far along
-    (subst (λ (xs : List Answer). Along side s.config later xs rested kept) done.answer then) eases done.step
+    (eases_more side s i later answers l done.reply w done.between rested names kept script ease lt
+    at so_far along
+    (subst (λ (xs : List Answer). Along side s.config later xs rested kept) done.answer then) eases
+    done.step
     done.sound done.rests)
 
 -- before the first line

@@ -64,21 +64,26 @@ crashed_nodes s = filter (has_crash s.lines) (range_with_len 0 s.config.nodes)
 
 -- ---- a line is easy
 
-contains_more : (p : ℕ → Bool) (xs : List ℕ) (k n : ℕ) → k < length xs → get_or xs k n ≡ n → p n ≡ true
+contains_more : (p : ℕ → Bool) (xs : List ℕ) (k n : ℕ) → k < length xs → get_or xs k n ≡ n
+    → p n ≡ true
     → Contains (filter p xs) n
 contains_more p [] k n below at pass = absurd (omega (arith, below))
 contains_more p (x ∷ xs) zero n below at pass =
-    subst (λ (b : Bool). Contains (if b then x ∷ filter p xs else filter p xs) n) (sym (ap p at ∙ pass))
+    subst (λ (b : Bool). Contains (if b then x ∷ filter p xs else filter p xs) n)
+    (sym (ap p at ∙ pass))
     (0, omega arith, at)
 contains_more p (x ∷ xs) (suc k) n below at pass =
     by (contains_more p xs k n (omega (arith, below)) at pass) (cases_Bool (p x))
   where
     by : Contains (filter p xs) n → (p x ≡ true) ⊎ (p x ≡ false) → Contains (filter p (x ∷ xs)) n
-    by c (inl e) = subst (λ (b : Bool). Contains (if b then x ∷ filter p xs else filter p xs) n) (sym e)
+    by c (inl e) = subst (λ (b : Bool). Contains (if b then x ∷ filter p xs else filter p xs) n)
+        (sym e)
         (suc c.0, (let lt = c.1 in omega (arith, lt)), c.2)
-    by c (inr e) = subst (λ (b : Bool). Contains (if b then x ∷ filter p xs else filter p xs) n) (sym e) c
+    by c (inr e) = subst (λ (b : Bool). Contains (if b then x ∷ filter p xs else filter p xs) n)
+        (sym e) c
 
-pub crash_below : (nodes n : ℕ) (request : Request) → IsRequest nodes request → is_crash n request ≡ true
+pub crash_below : (nodes n : ℕ) (request : Request) → IsRequest nodes request
+    → is_crash n request ≡ true
     → n < nodes
 crash_below nodes n (Crash node) is e = let same = eqb-true n node.n e in omega (arith, is, same)
 crash_below nodes n request is e = absurd (false≢true e)
@@ -95,7 +100,8 @@ crash_named s n below named =
 pub crashed_count : (s : Script) → length (crashed_nodes s) ≡ crashing s.config.nodes s.lines
 crashed_count s = length-filter (has_crash s.lines) (range_with_len 0 s.config.nodes)
 
-pub easy_line : (s : Script) (i : ℕ) (l : Line) → IsAtEase s → i < length s.lines → l ≡ get_or s.lines i l
+pub easy_line : (s : Script) (i : ℕ) (l : Line) → IsAtEase s → i < length s.lines
+    → l ≡ get_or s.lines i l
     → IsRequest s.config.nodes l.request → IsEasyLine (crashed_nodes s) l.request
 easy_line s i l ease lt at is = record {
   step = any_at (λ (x : Line). is_step x.request) s.lines i l ease.steps lt at;
@@ -140,7 +146,8 @@ pub record IsLikeWorld (s : Script) (w : WorldState) (a : Holding Words) : Type 
   pub made : a.far.made ≡ w.far.made
   pub versions : a.desk.versions ≡ w.desk.versions
 
-module _ (side : Side) (s : Script) (i : ℕ) (later : List ℕ) (answers : List Answer) (w : WorldState) (names : KeptNames)
+module _ (side : Side) (s : Script) (i : ℕ) (later : List ℕ) (answers : List Answer)
+    (w : WorldState) (names : KeptNames)
     (script : IsScript s) (ease : IsAtEase s) (along : Along side s.config later answers w names)
     (so_far : map asked answers ≡ take i s.lines) where
   -- a lane without a pin line has no pins
@@ -148,7 +155,8 @@ module _ (side : Side) (s : Script) (i : ℕ) (later : List ℕ) (answers : List
   no_pins k off = by (cases_lt 0 (lines_by k later))
     where
       by : (0 < lines_by k later) ⊎ (lines_by k later ≤ 0) → pins_of_seat w.seats k ≡ []
-      by (inl more) = subst (λ (scope : Scope). ArePinsOf (kept_number names) scope (pins_of_seat w.seats k))
+      by (inl more) = subst (λ (scope : Scope). ArePinsOf (kept_number names) scope
+          (pins_of_seat w.seats k))
           (scope_none s.lines i k answers so_far off) (along.scopes.are k (omega (arith, more)))
       by (inr none) = along.scopes.gone k (omega (arith, none))
 
@@ -163,7 +171,8 @@ module _ (side : Side) (s : Script) (i : ℕ) (later : List ℕ) (answers : List
   few_pins = pins_few 16 0 (has_pin s.lines) w.seats idle_seat (record {
     few = λ k low below.
         let zero_ : k ≡ 0 + k = omega arith in
-        subst (λ (j : ℕ). length (pins_of_seat w.seats k) ≤ 16 * (if has_pin s.lines j then 1 else 0)) zero_
+        subst (λ (j : ℕ). length (pins_of_seat w.seats k) ≤ 16 *
+        (if has_pin s.lines j then 1 else 0)) zero_
         (few_at k below (has_pin s.lines k) refl);
     none = λ k high below. ap (λ (ps : List Pin). length ps)
         (along.scopes.gone k (along.scopes.low k high));
@@ -176,7 +185,14 @@ module _ (side : Side) (s : Script) (i : ℕ) (later : List ℕ) (answers : List
 
   pub few_answers : length answers ≤ 20000
   few_answers = let most = script.few in
-      omega (arith, ap (λ (ls : List Line). length ls) so_far, length-take i s.lines, length-map answers asked, most)
+      omega (
+        arith,
+        ap (λ (ls : List Line). length ls) so_far,
+        length-take i s.lines,
+        length-map
+            answers asked,
+        most,
+      )
 
   -- ---- at each holding of a turn's parts that evictions lead to
   module _ (rest : IsIdleAmong (crashed_nodes s) w) (codes : HaveCodes (IsConfiguredCode s.config)

@@ -33,7 +33,8 @@ far_to_pin seat h w m (scope_full full reply same) = absurd (full_not_here reply
 far_to_pin seat h w m (refused room never reply same) = (
   record {
     room = room;
-    away = far_refused (state_of (word_at w.desk h)) (stamp_at w.desk h) (pins_of (word_at w.desk h))
+    away = far_refused (state_of (word_at w.desk h)) (stamp_at w.desk h)
+        (pins_of (word_at w.desk h))
         reply;
   },
   same,
@@ -49,6 +50,7 @@ pub far_not_here : (seat h : ℕ) (w new : WorldState) (r : Reply) → IsFarToPi
 far_not_here seat h w new r far (scope_full full reply same) =
     absurd (let room = far.room in omega (arith, full, room))
 far_not_here seat h w new r far (refused room never reply same) =
-    reply ∙ ap (λ (q : State). pin_refusal q (stamp_at w.desk h) (pins_of (word_at w.desk h))) far.away
+    reply ∙ ap (λ (q : State). pin_refusal q (stamp_at w.desk h) (pins_of (word_at w.desk h)))
+    far.away
 far_not_here seat h w new r far (taken room may reply t) =
     absurd (here_not_far (sym may.here ∙ far.away))

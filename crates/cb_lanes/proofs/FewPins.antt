@@ -12,7 +12,8 @@ pins_in seat = length seat.pins
 
 -- Of so many seats each has as many pins as it may where it pins, and none else; the seats behind
 -- them have none.
-pub record AreFew (n from : ℕ) (pins : ℕ → Bool) (seats : List SeatState) (idle : SeatState) : Type 0 where
+pub record AreFew (n from : ℕ) (pins : ℕ → Bool) (seats : List SeatState)
+    (idle : SeatState) : Type 0 where
   pub few : (k : ℕ) → k < n → k < length seats
       → length (get_or seats k idle).pins ≤ 16 * one_if (pins (from + k))
   pub none : (k : ℕ) → n ≤ k → k < length seats → length (get_or seats k idle).pins ≡ 0
@@ -42,7 +43,8 @@ pins_few (suc n) from pins (seat ∷ seats) idle are =
     }) in
     let all = sum_by-cons pins_in seat seats in
     let more = sum_by-cons (λ (k : ℕ). one_if (pins k)) from (range_with_len (from + 1) n) in
-    let range : range_with_len from (suc n) ≡ from ∷ range_with_len (from + 1) n = simp unary_clauses refl in
+    let range : range_with_len from (suc n) ≡ from ∷ range_with_len (from + 1) n =
+    simp unary_clauses refl in
     let count = ap (count_by pins) range in
     omega (arith, here, one, rest, all, more, count)
 
@@ -51,7 +53,8 @@ pub sum_one : {X : Type 0} (f : X → ℕ) (xs : List X) (i : ℕ) (d : X) → i
     → ((k : ℕ) → k ≢ i → k < length xs → f (get_or xs k d) ≡ 0) → sum_by f xs ≡ f (get_or xs i d)
 sum_one f [] i d below off = absurd (omega (arith, below))
 sum_one f (x ∷ xs) zero d below off =
-    let rest = sum_none f xs d (λ k lt. off (suc k) (λ e. absurd (omega (arith, e))) (omega (arith, lt))) in
+    let rest = sum_none f xs d
+    (λ k lt. off (suc k) (λ e. absurd (omega (arith, e))) (omega (arith, lt))) in
     let all = sum_by-cons f x xs in omega (arith, rest, all)
   where
     sum_none : {X : Type 0} (f : X → ℕ) (xs : List X) (d : X)

@@ -1,12 +1,11 @@
 -- A filter of an object that the record knows is not told that it was never made.
-use Rattle.std.proofs.Common.{◌≡◌, ◌≢◌, ℕ, zero, suc, List, [], ◌∷◌, Ok, Some, Option, inl, inr}
+use Rattle.std.proofs.Common.{◌≡◌, ◌≢◌, ℕ, zero, suc, List, [], ◌∷◌, Ok, Some, inl, inr}
 use Rattle.std.proofs.Common.{refl, sym, ap, ◌∙◌, subst, arith}
 use Rattle.cb_ptr.specs.declared.word.State.{State}
 use Rattle.cb_ptr.specs.declared.word.State.TheVariants as state
 use Rattle.cb_ptr.specs.Word.{pins_of, state_of}
 use Rattle.cb_types.specs.declared.config.Config.{Config}
 use Rattle.cb_types.specs.declared.handle.Handle.{Handle}
-use Rattle.cb_types.specs.declared.job.Job.{Job}
 use Rattle.cb_types.specs.declared.job.Job.TheVariants as job
 use Rattle.cb_types.specs.declared.reply.Reply.{Reply}
 use Rattle.cb_types.specs.declared.reply.Reply.TheVariants as answer
@@ -113,7 +112,8 @@ filter_is frames h w far new es s state.Here at only agree found (inr x) =
 
 rule_is : (frames h : ℕ) (far new : FarState) (es : List Event) (s : Shown)
     → FilterRule frames h far new answer.Unmade es → Agree s es → version_at s h ≡ 0
-rule_is frames h far new es s x agree = filter_is frames h x.word far new es s (state_of x.word) refl
+rule_is frames h far new es s x agree = filter_is frames h x.word far new es s
+    (state_of x.word) refl
     (x.unmade refl) agree x.found x.answer
 
 -- ---- a turn
@@ -128,6 +128,7 @@ module _ (c : Config) (handle : Handle) where
       → Knows handle.n v → r ≢ answer.Unmade
   filter_made r v d x knows e =
       let did = asked_alone c x.turn (job.Filter handle) (Some r) tt x.job_is x.reply_is x.did in
-      let none = turned_is _ _ (subst (λ (q : Reply). DidAs c (job.Filter handle) (Some q) x.turn.start
+      let none = turned_is _ _ (subst
+      (λ (q : Reply). DidAs c (job.Filter handle) (Some q) x.turn.start
       x.turn.acts x.turn.took x.turn.gave) e did) in
       let some = x.made handle.n knows in omega (arith, none, some)

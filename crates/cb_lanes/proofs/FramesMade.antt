@@ -1,6 +1,8 @@
--- Where each span has one page and no frame is free, at least as many objects were made as there are
--- frames.
-use Rattle.std.proofs.Common.{◌≡◌, ◌⊎◌, ℕ, suc, ◌<◌, ◌≤◌, true, List, [], ◌∷◌, length, get_or, map, Option, None, Some, refl, sym, ap, ◌∙◌, subst, arith, inl, inr, nat_eq, eq-eqb}
+-- Where each span has one page and no frame is free, at least as many objects were made as there
+-- are frames.
+use Rattle.std.proofs.Common.{◌≡◌, ◌⊎◌, ℕ, suc, ◌<◌, ◌≤◌, true, List, [], ◌∷◌, length, get_or, map}
+use Rattle.std.proofs.Common.{Option, None, Some, refl, sym, ap, ◌∙◌, subst, arith, inl, inr}
+use Rattle.std.proofs.Common.{nat_eq, eq-eqb}
 use Rattle.std.proofs.Common.{is_some}
 use Rattle.std.specs.List.{count_by, list_any, range_with_len}
 use Rattle.std.proofs.lemmas.Bool.{cases_lt}
@@ -21,10 +23,12 @@ use Rattle.cb_lanes.proofs.FullFrames.{has_span}
 use Rattle.cb_lanes.proofs.LooseSpans.{HasFrame, frame_of}
 
 -- ---- every frame has an object
-count_tail : (slots : List (Option ℕ)) → 1 ≤ count_by is_some (None ∷ slots) → 1 ≤ count_by is_some slots
+count_tail : (slots : List (Option ℕ)) → 1 ≤ count_by is_some (None ∷ slots)
+    → 1 ≤ count_by is_some slots
 count_tail slots some = some
 
-taken_slot : (slots : List (Option ℕ)) → 1 ≤ count_by is_some slots → (i h : ℕ) × (i < length slots) × (get_or slots i None ≡ Some h)
+taken_slot : (slots : List (Option ℕ)) → 1 ≤ count_by is_some slots → (i h : ℕ) × (i < length slots)
+    × (get_or slots i None ≡ Some h)
 taken_slot [] some = absurd (omega (arith, some))
 taken_slot (Some h ∷ slots) some = (0, h, omega arith, refl)
 taken_slot (None ∷ slots) some = let z = taken_slot slots (count_tail slots some) in
@@ -38,7 +42,8 @@ module _ (s : Shown) (far : FarState) (sound : LocalSound s far) (narrow : IsNar
       off : object_at s h ≡ never → ⊥
       off e = subst (λ (o : Object). LiesAt o len place) e lies
 
-      by : (h < far.made) ⊎ (far.made ≤ h) → (h < length s.objects) ⊎ (length s.objects ≤ h) → h < far.made
+      by : (h < far.made) ⊎ (far.made ≤ h) → (h < length s.objects) ⊎ (length s.objects ≤ h)
+          → h < far.made
       by (inl below) z = below
       by (inr past) (inl within) = absurd (off ((sound.known.made h within).0 past))
       by (inr past) (inr beyond) = absurd (off (get_or_past s.objects h never beyond))
@@ -60,7 +65,8 @@ module _ (s : Shown) (far : FarState) (sound : LocalSound s far) (narrow : IsNar
       list_any_at (nat_eq f) homes slot.1 0
       (let n = length-map-range_with_len (λ h. (frame h).0) 0 far.made in omega (arith, n, made))
       (eq-eqb f (get_or homes slot.1 0) ((frame slot.1).1 f slot.0 there
-      ∙ sym (get_or-map-range_with_len (λ h. (frame h).0) 0 far.made slot.1 slot.1 0 made (omega arith))))
+      ∙ sym (get_or-map-range_with_len (λ h. (frame h).0) 0 far.made slot.1 slot.1 0 made
+      (omega arith))))
 
   pub frames_made : length far.frames ≤ far.made
   frames_made = let n = le-length_from_below homes (length far.frames) has_one in

@@ -1,8 +1,10 @@
 -- Where no run of frames is free that a span of some class fits, there are at most seven frames for
 -- each span, and three more. Where each span has one page and no frame is free, each frame has one.
 -- There are no more spans than a list has elements that has the frame of each.
-use Rattle.std.proofs.Common.{◌≡◌, ◌≢◌, ◌⊎◌, ℕ, zero, suc, ◌+◌, ◌-◌, ◌*◌, ◌<◌, ◌≤◌, Bool, true, false}
-use Rattle.std.proofs.Common.{List, [], ◌∷◌, ◌++◌, Option, None, Some, length, is_some, refl, sym, ap}
+use Rattle.std.proofs.Common.{◌≡◌, ◌≢◌, ◌⊎◌, ℕ, zero, suc, ◌+◌, ◌-◌, ◌*◌, ◌<◌, ◌≤◌, Bool, true}
+use Rattle.std.proofs.Common.{false}
+use Rattle.std.proofs.Common.{List, [], ◌∷◌, ◌++◌, Option, None, Some, length, is_some, refl, sym}
+use Rattle.std.proofs.Common.{ap}
 use Rattle.std.proofs.Common.{◌∙◌, ◌||◌, subst, arith, inl, inr, nat_eq, eq-eqb, if◌then◌else◌}
 use Rattle.std.specs.List.{list_any}
 use Rattle.std.proofs.lemmas.Bool.{cases_Bool, cases_eq, cases_lt, true≢false, or_left, or_right}
@@ -35,12 +37,14 @@ rises spans n zero = subst (λ (x : ℕ). spans_below spans n ≤ spans_below sp
     (let e : n ≡ n + 0 = omega arith in e) (omega arith)
 rises spans n (suc d) =
     let so = rises spans n d in
-    let is : spans_below spans (suc (n + d)) ≡ spans_below spans (n + d) + one_if (stands_at spans (n + d)) =
+    let is : spans_below spans (suc (n + d)) ≡ spans_below spans (n + d) + one_if
+    (stands_at spans (n + d)) =
     refl in
     subst (λ (x : ℕ). spans_below spans n ≤ spans_below spans x)
     (let e : suc (n + d) ≡ n + suc d = omega arith in e) (omega (arith, so, is))
 
-one_more : (spans : List (Option Contents)) (g n : ℕ) (span : Contents) → span_in spans g ≡ Some span
+one_more : (spans : List (Option Contents)) (g n : ℕ) (span : Contents)
+    → span_in spans g ≡ Some span
     → g < n → spans_below spans g + 1 ≤ spans_below spans n
 one_more spans g n span at below =
     let is : spans_below spans (suc g) ≡ spans_below spans g + 1 =
@@ -62,7 +66,8 @@ gaps_count spans zero = refl
 gaps_count spans (suc n) = by (gaps_count spans n) (stands_at spans n)
   where
     by : spans_below spans n + length (gaps spans n) ≡ n → (b : Bool)
-        → spans_below spans n + one_if b + length (if b then gaps spans n else n ∷ gaps spans n) ≡ suc n
+        → spans_below spans n + one_if b + length
+        (if b then gaps spans n else n ∷ gaps spans n) ≡ suc n
     by rest true = omega (arith, rest)
     by rest false = omega (arith, rest)
 
@@ -97,7 +102,8 @@ few_stand spans xs n held =
   where
     by : (f : ℕ) → f < n → (o : Option Contents) → span_in spans f ≡ o
         → (list_any (nat_eq f) xs || list_any (nat_eq f) (gaps spans n)) ≡ true
-    by f below (Some span) at = or_left (list_any (nat_eq f) xs) (list_any (nat_eq f) (gaps spans n))
+    by f below (Some span) at = or_left (list_any (nat_eq f) xs)
+        (list_any (nat_eq f) (gaps spans n))
         (held f span at)
     by f below None at = or_right (list_any (nat_eq f) xs) (list_any (nat_eq f) (gaps spans n))
         (in_gaps spans n f below (ap (λ (o : Option Contents). is_some o) at))

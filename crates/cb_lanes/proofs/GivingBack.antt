@@ -78,7 +78,8 @@ pin_below w seat at h sound lt n =
     let pins = pins_of_seat w.seats seat in
     let below = All-get_or (λ (y : Pin). y.handle < length w.desk.words) pins at n.pin
     (slice_get_within pins at n.pin n.there)
-    (All-get_or (λ (x : SeatState). (k : ℕ) (d : Pin) → k < length x.pins → (get_or x.pins k d).handle < length w.desk.words)
+    (All-get_or (λ (x : SeatState). (k : ℕ) (d : Pin) → k < length x.pins
+    → (get_or x.pins k d).handle < length w.desk.words)
     w.seats seat idle_seat (omega (arith, lt, sound.pinned.count)) sound.pinned.known) in
     subst (λ (y : ℕ). y < length w.desk.words)
     (ap (λ (p : Pin). p.handle) (get_or_from_slice_get pins at n.pin n.pin n.there) ∙ n.on) below
@@ -92,13 +93,16 @@ pinned_here w seat at h sound lt n =
 
 pub pin_stands : (w new : WorldState) (seat h : ℕ) (r : Reply) → IsSoundWorld w → seat < 64
     → h < w.desk.settings.handles → PinStep seat h w r new → StandsWithout seat w new
-pin_stands w new seat h r sound lt below (scope_full full is same) = stands_same seat w new sound same
-pin_stands w new seat h r sound lt below (refused room never is same) = stands_same seat w new sound same
+pin_stands w new seat h r sound lt below (scope_full full is same) =
+    stands_same seat w new sound same
+pin_stands w new seat h r sound lt below (refused room never is same) =
+    stands_same seat w new sound same
 pin_stands w new seat h r sound lt below (taken room may is t) = record {
   sound = pin_step_sound w new seat h r sound lt below (taken room may is t);
   far = t.far;
   settings = ap (λ (x : Words). x.settings) t.word.words;
-  others = λ k off. ap (λ (xs : List SeatState). pins_of_seat xs k) t.pins ∙ pins_other w.seats seat k _ off;
+  others = λ k off. ap (λ (xs : List SeatState). pins_of_seat xs k) t.pins
+      ∙ pins_other w.seats seat k _ off;
   holds = λ s u k known then_. ap (λ (f : FarState). now u f k) t.far
       ∙ pinned_now w.desk new.desk w.far s u h k known
       (subst (λ (f : FarState). IsKnown new.desk f u) t.far then_) t.word may.here;
@@ -111,7 +115,8 @@ given_stands w new seat h r sound lt below step t = record {
   sound = unpin_step_sound w new seat h r sound lt below step;
   far = t.far;
   settings = ap (λ (x : Words). x.settings) t.word.words;
-  others = λ k off. ap (λ (xs : List SeatState). pins_of_seat xs k) t.pins ∙ pins_other w.seats seat k _ off;
+  others = λ k off. ap (λ (xs : List SeatState). pins_of_seat xs k) t.pins
+      ∙ pins_other w.seats seat k _ off;
   holds = λ s u k known then_. ap (λ (f : FarState). now u f k) t.far
       ∙ unpinned_now w.desk new.desk w.far s u h k known
       (subst (λ (f : FarState). IsKnown new.desk f u) t.far then_) t.word
@@ -120,7 +125,8 @@ given_stands w new seat h r sound lt below step t = record {
 
 pub unpin_stands : (w new : WorldState) (seat h : ℕ) (r : Reply) → IsSoundWorld w → seat < 64
     → h < w.desk.settings.handles → UnpinStep seat h w r new → StandsWithout seat w new
-unpin_stands w new seat h r sound lt below (not_pinned none is same) = stands_same seat w new sound same
+unpin_stands w new seat h r sound lt below (not_pinned none is same) =
+    stands_same seat w new sound same
 unpin_stands w new seat h r sound lt below (given is t) =
     given_stands w new seat h r sound lt below (given is t) t
 
@@ -143,7 +149,8 @@ gave_by : (seat : ℕ) (pins : List Pin) (w new : WorldState) → IsSoundWorld w
     → Gave seat (length pins) w new
 gave_by seat [] w new sound lt leads = record {
   stands = stands_same seat w new sound leads;
-  fewer = let same = ap (λ (v : WorldState). length (pins_of_seat v.seats seat)) leads in omega (arith, same);
+  fewer = let same = ap (λ (v : WorldState). length (pins_of_seat v.seats seat)) leads in omega
+      (arith, same);
 }
 gave_by seat (pin ∷ pins) w new sound lt (mid, step, leads) =
     by (λ one. gave_by seat pins mid new one lt leads) step
@@ -173,7 +180,8 @@ pub gives_all : (seat : ℕ) (w new : WorldState) → IsSoundWorld w → seat < 
 gives_all seat w new sound lt leads =
     let pins = pins_of_seat w.seats seat in
     let gave = gave_by seat (reverse pins) w new sound lt
-    (subst (λ (n : ℕ). Leads w (map (unpin_event seat) (reverse pins)) (replicate n answer.Done) new)
+    (subst (λ (n : ℕ). Leads w (map (unpin_event seat) (reverse pins))
+    (replicate n answer.Done) new)
     (sym (length-reverse pins)) leads) in
     let fewer = gave.fewer in let same = length-reverse pins in
     (gave.stands, nil_from_length (pins_of_seat new.seats seat) (omega (arith, fewer, same)))
@@ -194,7 +202,8 @@ gave_last seat w new front pin r sound lt e (not_pinned none is same) =
 gave_last seat w new front pin r sound lt e (given is t) = record {
   goes = λ end leads. subst (λ (ps : List Pin).
       Leads w (map (unpin_event seat) (reverse ps)) (replicate (length ps) answer.Done) end) (sym e)
-      (subst (λ (es : List Event). Leads w es (replicate (length (front ++ pin ∷ [])) answer.Done) end)
+      (subst (λ (es : List Event). Leads w es (replicate (length (front ++ pin ∷ [])) answer.Done)
+      end)
       (sym (ap (map (unpin_event seat)) (reverse-append front (pin ∷ []))))
       (subst (λ (n : ℕ). Leads w (unpin_event seat pin ∷ map (unpin_event seat) (reverse front))
       (replicate n answer.Done) end) (sym long) (
@@ -217,7 +226,8 @@ gave_last seat w new front pin r sound lt e (given is t) = record {
     long = omega (arith, length_push front pin)
 
 -- the seat's last pin was given back
-pub gave_newest : (seat : ℕ) (w new : WorldState) (pins : List Pin) (d : Pin) (r : Reply) → IsSoundWorld w
+pub gave_newest : (seat : ℕ) (w new : WorldState) (pins : List Pin) (d : Pin) (r : Reply)
+    → IsSoundWorld w
     → seat < 64 → 1 ≤ length (pins_of_seat w.seats seat) → pins ≡ pins_of_seat w.seats seat
     → UnpinStep seat (get_or pins (length pins - 1) d).handle w r new → GaveNewest seat w new
 gave_newest seat w new pins d r sound lt some same step =

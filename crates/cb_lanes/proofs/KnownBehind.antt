@@ -30,7 +30,8 @@ KnowsBehind names before v =
 pub knows_first : (names : List Named) (v : View) → KnowsNames v names → KnowsBehind names [] v
 knows_first names v known name h is = among_known names v name h known is
 
-pub knows_named : (names : List Named) (before : List Answer) (v : View) (o : Option (List ℕ)) (h : ℕ)
+pub knows_named : (names : List Named) (before : List Answer) (v : View) (o : Option (List ℕ))
+    (h : ℕ)
     → KnowsBehind names before v → handle_behind names before o ≡ Some h → Knows h v
 knows_named names before v (Some name) h knows is = knows name h is
 knows_named names before v None h knows is = absurd cc
@@ -54,12 +55,14 @@ module _ (c : Config) where
       → KnowsBehind names (before ++ a ∷ []) m
   knows_next names before a v m knows goes name k is =
       by (handle_made name a.request a.reply)
-      (λ made. made_here (handle_behind names before (name_of a.request)) a.request a.reply name k v m goes made)
+      (λ made. made_here (handle_behind names before (name_of a.request)) a.request a.reply name k v
+      m goes made)
       (sym (number_more names before a name) ∙ is)
     where
       by : (o : Option ℕ) → (o ≡ Some k → Knows k m)
           → first_of o (handle_behind names before (Some name)) ≡ Some k → Knows k m
       by (Some n) made e = made e
       by None made e =
-          let one = line_adds c (handle_behind names before (name_of a.request)) a.request a.reply v m goes in
+          let one = line_adds c (handle_behind names before (name_of a.request)) a.request a.reply v
+          m goes in
           adds_knows k v m one.0 one.1 (knows name k e)

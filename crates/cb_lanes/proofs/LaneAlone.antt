@@ -63,23 +63,29 @@ lines_own c names before (a ∷ after) v w (m, one, rest) k has =
     lines_own c names (before ++ a ∷ []) after m w rest k
     (line_own c (handle_behind names before (name_of a.request)) a.request a.reply v m one k has)
 
-lines_lead : (c : Config) (names : List Named) (before after : List Answer) (v w : View) → KeepsOwn w
+lines_lead : (c : Config) (names : List Named) (before after : List Answer) (v w : View)
+    → KeepsOwn w
     → LinesGo (goes_in c) names before v after w → LeadsTo v w
-lines_lead c names before after v w keeps x = let y = lines_add c names before after v w x in record {
-  keeps = keeps;
-  rest = y.0.written;
-  grows = ap (λ (z : View). z.written) y.1;
-  seen = λ s has. subst (λ (z : View). Has s z.seen) (sym y.1) (has_right s y.0.seen v.seen has);
-  looks = λ l has. subst (λ (z : View). Has l z.looks) (sym y.1) (has_right l y.0.looks v.looks has);
-  turns = λ t has. subst (λ (z : View). Has t z.turns) (sym y.1) (has_right t y.0.turns v.turns has);
-  own = lines_own c names before after v w x;
-}
+lines_lead c names before after v w keeps x = let y =
+    lines_add c names before after v w x in record {
+      keeps = keeps;
+      rest = y.0.written;
+      grows = ap (λ (z : View). z.written) y.1;
+      seen = λ s has. subst (λ (z : View). Has s z.seen) (sym y.1)
+          (has_right s y.0.seen v.seen has);
+      looks = λ l has. subst (λ (z : View). Has l z.looks) (sym y.1)
+          (has_right l y.0.looks v.looks has);
+      turns = λ t has. subst (λ (z : View). Has t z.turns) (sym y.1)
+          (has_right t y.0.turns v.turns has);
+      own = lines_own c names before after v w x;
+    }
 
 -- ---- the handle of a name after one line more
 handle_more : (names : List Named) (before : List Answer) (a : Answer) (p : List ℕ)
     → handle_behind names (before ++ a ∷ []) (Some p)
     ≡ first_of (handle_made p a.request a.reply) (handle_behind names before (Some p))
-handle_more names before a p = ap (λ (o : Option ℕ). first_of o (handle_among names p)) (handle_of-push p before a)
+handle_more names before a p = ap (λ (o : Option ℕ). first_of o (handle_among names p))
+    (handle_of-push p before a)
     ∙ first_assoc (handle_made p a.request a.reply) (handle_of before p) (handle_among names p)
 
 module _ (c : Config) (lines : List Line) (lane : ℕ) (names : List Named) where
@@ -88,18 +94,22 @@ module _ (c : Config) (lines : List Line) (lane : ℕ) (names : List Named) wher
       LaneStands lines lane (λ p. handle_behind names before (Some p)) state v
 
   -- ---- whose a line is
-  own_is : (a : Answer) → a.lane.n ≡ lane → is_own lines lane a ≡ is_maker_of lines lane (own_name a.request)
+  own_is : (a : Answer) → a.lane.n ≡ lane → is_own lines lane a ≡ is_maker_of lines lane
+      (own_name a.request)
   own_is a same =
-      ap (λ (b : Bool). b && is_maker_of lines lane (own_name a.request)) (eq-eqb a.lane.n lane same)
+      ap (λ (b : Bool). b && is_maker_of lines lane (own_name a.request))
+      (eq-eqb a.lane.n lane same)
 
   leave_is : (a : Answer) → a.lane.n ≡ lane → leaves lane a ≡ is_leave a.request
   leave_is a same = ap (λ (b : Bool). b && is_leave a.request) (eq-eqb a.lane.n lane same)
 
   -- ---- one line
   module _ (before : List Answer) (a : Answer) (state : LaneState) (v m w : View)
-      (z : StandsBehind before state v) (same : a.lane.n ≡ lane) (leads : LeadsTo m w) (grew : Grew v m)
+      (z : StandsBehind before state v) (same : a.lane.n ≡ lane) (leads : LeadsTo m w)
+      (grew : Grew v m)
       (steps : LineStepsOn c lines lane (handle_behind names before)
-      (λ p. handle_behind names (before ++ a ∷ []) (Some p)) state v m w z leads grew a.request a.reply)
+      (λ p. handle_behind names (before ++ a ∷ []) (Some p)) state v m w z leads grew a.request
+      a.reply)
       (room : lacks lines lane a ≡ false) where
     calm : is_own lines lane a ≡ true → is_lack a.reply ≡ false
     calm own = sym (ap (λ (b : Bool). b && is_lack a.reply) own) ∙ room
@@ -124,7 +134,8 @@ module _ (c : Config) (lines : List Line) (lane : ℕ) (names : List Named) wher
         by (inr not) (inl leaving) = moved (λ i. (not i) || (leaving i))
             (steps.leave (sym (leave_is a same) ∙ leaving))
         by (inr not) (inr off) = subst (λ (b : Bool). StandsBehind (before ++ a ∷ [])
-            (if b then alone_after state a.request a.reply else state) m) (sym (λ i. (not i) || (off i)))
+            (if b then alone_after state a.request a.reply else state) m)
+            (sym (λ i. (not i) || (off i)))
             (steps.other (sym (own_is a same) ∙ not) (sym (leave_is a same) ∙ off))
 
   -- ---- and those behind it
@@ -138,11 +149,13 @@ module _ (c : Config) (lines : List Line) (lane : ℕ) (names : List Named) wher
         (stands before a state v m w z same leads grew steps room) rest others,
   )
     where
-      old : LineGoes (goes_in c) (handle_behind names before (name_of a.request)) a.request v a.reply m
+      old : LineGoes (goes_in c) (handle_behind names before (name_of a.request)) a.request v
+          a.reply m
       old = line_less (goes_own c) (goes_in c) v m a.reply (λ ask y. y.0)
           (handle_behind names before (name_of a.request)) a.request one
 
-      adds : LineAdds v m (told_as (about (handle_behind names before (name_of a.request)) a.request a.reply)
+      adds : LineAdds v m (told_as
+          (about (handle_behind names before (name_of a.request)) a.request a.reply)
           a.request a.reply)
       adds = line_adds c (handle_behind names before (name_of a.request)) a.request a.reply v m old
 
@@ -155,9 +168,11 @@ module _ (c : Config) (lines : List Line) (lane : ℕ) (names : List Named) wher
           (lines_old c names (before ++ a ∷ []) after m w rest)
 
       steps : LineStepsOn c lines lane (handle_behind names before)
-          (λ p. handle_behind names (before ++ a ∷ []) (Some p)) state v m w z leads grew a.request a.reply
+          (λ p. handle_behind names (before ++ a ∷ []) (Some p)) state v m w z leads grew a.request
+          a.reply
       steps = line_steps c lines lane (handle_behind names before)
-          (λ p. handle_behind names (before ++ a ∷ []) (Some p)) state v m w z leads grew a.request a.reply one adds is
+          (λ p. handle_behind names (before ++ a ∷ []) (Some p)) state v m w z leads grew a.request
+          a.reply one adds is
           (handle_more names before a)
 
   -- ---- the start
@@ -173,9 +188,10 @@ module _ (c : Config) (lines : List Line) (lane : ℕ) (names : List Named) wher
         (sym none) tt;
   }
 
-  -- A lane whose pass has no pins at the start, and whose own names were not made before: its own lines
-  -- are answered as if it were alone, up to the first one that lacks something.
-  pub lane_alone_until : (answers : List Answer) (v w : View) → v.pins ≡ [] → v.fresh ≡ [] → KnowsNames v names
+  -- A lane whose pass has no pins at the start, and whose own names were not made before: its own
+  -- lines are answered as if it were alone, up to the first one that lacks something.
+  pub lane_alone_until : (answers : List Answer) (v w : View) → v.pins ≡ [] → v.fresh ≡ []
+      → KnowsNames v names
       → ((p : List ℕ) → is_maker lines lane p ≡ true → handle_among names p ≡ None)
       → LaneGoesOwn c names v answers w → KeepsOwn w → AreLaneLines lines lane names [] answers
       → KeepAloneUntil lines lane fresh_lane answers

@@ -39,7 +39,8 @@ no_line : (l : Line) (xs : List Line) → l ∷ xs ≡ [] → ⊥
 no_line l xs e = absurd cc
 
 -- ---- names that are made
-pub made_in_front : (front back : List Line) (k : ℕ) (p : List ℕ) → IsNameMade front k p → IsNameMade (front ++ back) k p
+pub made_in_front : (front back : List Line) (k : ℕ) (p : List ℕ) → IsNameMade front k p
+    → IsNameMade (front ++ back) k p
 made_in_front [] back k p made = absurd made
 made_in_front (l ∷ front) back k p (inl x) = inl x
 made_in_front (l ∷ front) back k p (inr x) = inr (made_in_front front back k p x)
@@ -49,8 +50,10 @@ made_at : (front back : List Line) (l : Line) (p : List ℕ) → MakesName l.req
 made_at [] back l p makes = inl (refl, makes)
 made_at (k ∷ front) back l p makes = inr (made_at front back l p makes)
 
-pub made_request : (name : List ℕ) (q : Request) (r : Reply) (h : ℕ) → handle_made name q r ≡ Some h → MakesName q name
-made_request name (Make made bytes) (answer.Made hd version) h is = by (cases_Bool (bytes_eq made name))
+pub made_request : (name : List ℕ) (q : Request) (r : Reply) (h : ℕ) → handle_made name q r ≡ Some h
+    → MakesName q name
+made_request name (Make made bytes) (answer.Made hd version) h is =
+    by (cases_Bool (bytes_eq made name))
   where
     by : (bytes_eq made name ≡ true) ⊎ (bytes_eq made name ≡ false) → made ≡ name
     by (inl e) = (bytes_eq-Decides made name).0 e
@@ -61,7 +64,8 @@ made_request name q r h is = absurd cc
 
 -- a name with a handle was made by the lines that were answered
 handle_makes : (p : List ℕ) (h : ℕ) (before : List Answer) → handle_of before p ≡ Some h
-    → (lane : ℕ) → AllByRecursion (λ (a : Answer). a.lane.n ≡ lane) before → IsNameMade (map asked before) lane p
+    → (lane : ℕ) → AllByRecursion (λ (a : Answer). a.lane.n ≡ lane) before
+    → IsNameMade (map asked before) lane p
 handle_makes p h [] is lane of = absurd cc
 handle_makes p h (a ∷ before) is lane of =
     by (handle_of before p) refl (λ k e. handle_makes p k before e lane of.1)
@@ -84,20 +88,25 @@ line_past : (lane : ℕ) (l : Line) (ls : List Line) → nat_eq l.lane.n lane �
     → of_lane lane (l ∷ ls) ≡ of_lane lane ls
 line_past lane l ls e = ap (λ (b : Bool). if b then l ∷ of_lane lane ls else of_lane lane ls) e
 
-pub made_among : (lane : ℕ) (front : List Line) (k : ℕ) (p : List ℕ) → IsNameMade (of_lane lane front) k p
+pub made_among : (lane : ℕ) (front : List Line) (k : ℕ) (p : List ℕ)
+    → IsNameMade (of_lane lane front) k p
     → IsNameMade front k p
 made_among lane [] k p made = absurd made
-made_among lane (l ∷ front) k p made = by (cases_Bool (nat_eq l.lane.n lane)) (made_among lane front k p)
+made_among lane (l ∷ front) k p made = by (cases_Bool (nat_eq l.lane.n lane))
+    (made_among lane front k p)
   where
     by : (nat_eq l.lane.n lane ≡ true) ⊎ (nat_eq l.lane.n lane ≡ false)
         → (IsNameMade (of_lane lane front) k p → IsNameMade front k p) → IsNameMade (l ∷ front) k p
-    by (inl e) rest = elim (subst (λ (ls : List Line). IsNameMade ls k p) (line_hit lane l front e) made) [
-      | inl x ↦ inl x
-      | inr x ↦ inr (rest x)
-    ]
-    by (inr e) rest = inr (rest (subst (λ (ls : List Line). IsNameMade ls k p) (line_past lane l front e) made))
+    by (inl e) rest = elim (subst (λ (ls : List Line). IsNameMade ls k p)
+        (line_hit lane l front e) made) [
+          | inl x ↦ inl x
+          | inr x ↦ inr (rest x)
+        ]
+    by (inr e) rest = inr (rest
+        (subst (λ (ls : List Line). IsNameMade ls k p) (line_past lane l front e) made))
 
-any_off : (t : Line → Bool) (front back : List Line) (l : Line) → list_any t (front ++ l ∷ back) ≡ false
+any_off : (t : Line → Bool) (front back : List Line) (l : Line)
+    → list_any t (front ++ l ∷ back) ≡ false
     → t l ≡ false
 any_off t [] back l none = (or_parts (t l) (list_any t back) none).0
 any_off t (k ∷ front) back l none =
@@ -106,13 +115,18 @@ any_off t (k ∷ front) back l none =
 module _ (nodes : ℕ) (all : List Line) (lane : ℕ) (names : List Named) (has : HasOwnLines all lane)
     (apart : (p : List ℕ) → is_maker all lane p ≡ true → handle_among names p ≡ None) where
   -- one of them, behind those of the script before it
-  one_line : (front back : List Line) (before : List Answer) (a : Answer) → all ≡ front ++ asked a ∷ back
+  one_line : (front back : List Line) (before : List Answer) (a : Answer)
+      → all ≡ front ++ asked a ∷ back
       → IsNameKnown front lane a.request → a.lane.n ≡ lane → map asked before ≡ of_lane lane front
       → AllByRecursion (λ (b : Answer). b.lane.n ≡ lane) before → HasLineReply a
       → IsLaneLine all lane (λ p. handle_behind names before (Some p)) a.request a.reply
   one_line front back before a split known same were of line = record {
     line = line;
-    makes = λ p bytes e. (own p bytes e, fresh p (own p bytes e) (subst (IsNameKnown front lane) e known));
+    makes = λ p bytes e. (
+      own p bytes e,
+      fresh p (own p bytes e)
+          (subst (IsNameKnown front lane) e known),
+    );
     pins = λ p e. pinned p e (subst (IsNameKnown front lane) e known);
   }
     where
@@ -122,56 +136,70 @@ module _ (nodes : ℕ) (all : List Line) (lane : ℕ) (names : List Named) (has 
           (subst (λ (k : ℕ). IsNameMade (front ++ asked a ∷ back) k p) same
           (made_at front back (asked a) p (subst (λ (q : Request). MakesName q p) (sym e) refl))))
 
-      fresh : (p : List ℕ) → is_maker all lane p ≡ true → IsNameNew front p → handle_behind names before (Some p) ≡ None
+      fresh : (p : List ℕ) → is_maker all lane p ≡ true → IsNameNew front p
+          → handle_behind names before (Some p) ≡ None
       fresh p mine new = by (handle_of before p) refl
         where
-          by : (o : Option ℕ) → handle_of before p ≡ o → first_of (handle_of before p) (handle_among names p) ≡ None
+          by : (o : Option ℕ) → handle_of before p ≡ o
+              → first_of (handle_of before p) (handle_among names p) ≡ None
           by None e = ap (λ (o : Option ℕ). first_of o (handle_among names p)) e ∙ apart p mine
           by (Some h) e = absurd (new lane (made_among lane front lane p
-              (subst (λ (ls : List Line). IsNameMade ls lane p) were (handle_makes p h before e lane of))))
+              (subst (λ (ls : List Line). IsNameMade ls lane p) were
+              (handle_makes p h before e lane of))))
 
-      pinned : (p : List ℕ) → a.request ≡ Pin p → KnowsName front lane p → is_maker all lane p ≡ true
-      pinned p e (inl made) = maker_of all lane p (subst (λ (ls : List Line). IsNameMade ls lane p) (sym split)
+      pinned : (p : List ℕ) → a.request ≡ Pin p → KnowsName front lane p
+          → is_maker all lane p ≡ true
+      pinned p e (inl made) = maker_of all lane p
+          (subst (λ (ls : List Line). IsNameMade ls lane p) (sym split)
           (made_in_front front (asked a ∷ back) lane p made))
       pinned p e (inr made) = absurd (true≢false
           (sym (λ i. (eq-eqb a.lane.n lane same i) && (shared i))
           ∙ any_off (λ l. nat_eq l.lane.n lane && pins_shared all l.request) front back (asked a)
-          (subst (λ (ls : List Line). list_any (λ l. nat_eq l.lane.n lane && pins_shared all l.request) ls ≡ false)
+          (subst (λ (ls : List Line). list_any
+          (λ l. nat_eq l.lane.n lane && pins_shared all l.request) ls ≡ false)
           split has.pins)))
         where
           shared : pins_shared all a.request ≡ true
-          shared = ap (pins_shared all) e ∙ maker_of all 0 p (subst (λ (ls : List Line). IsNameMade ls 0 p) (sym split)
+          shared = ap (pins_shared all) e ∙ maker_of all 0 p
+              (subst (λ (ls : List Line). IsNameMade ls 0 p) (sym split)
               (made_in_front front (asked a ∷ back) 0 p made))
 
-  ends : (before after : List Answer) → map asked after ≡ [] → AreLaneLines all lane names before after
+  ends : (before after : List Answer) → map asked after ≡ []
+      → AreLaneLines all lane names before after
   ends before [] none = tt
   ends before (a ∷ after) none = absurd (no_line (asked a) (map asked after) none)
 
   -- and all of them
   lane_lines : (front back : List Line) → all ≡ front ++ back → AreLines nodes front back
-      → (before after : List Answer) → map asked before ≡ of_lane lane front → map asked after ≡ of_lane lane back
+      → (before after : List Answer) → map asked before ≡ of_lane lane front
+      → map asked after ≡ of_lane lane back
       → AllByRecursion (λ (b : Answer). b.lane.n ≡ lane) before → AllByRecursion HasLineReply after
       → AreLaneLines all lane names before after
   lane_lines front [] split are before after were will of line = ends before after will
-  lane_lines front (l ∷ back) split are before after were will of line = by (cases_Bool (nat_eq l.lane.n lane))
+  lane_lines front (l ∷ back) split are before after were will of line =
+      by (cases_Bool (nat_eq l.lane.n lane))
       (λ xs ys were_ will_ of_ line_. lane_lines (front ++ l ∷ []) back
       (split ∙ sym (append_assoc front (l ∷ []) back)) are.1 xs ys were_ will_ of_ line_)
     where
       Rest : Type 0
-      Rest = (xs ys : List Answer) → map asked xs ≡ of_lane lane (front ++ l ∷ []) → map asked ys ≡ of_lane lane back
+      Rest = (xs ys : List Answer) → map asked xs ≡ of_lane lane (front ++ l ∷ [])
+          → map asked ys ≡ of_lane lane back
           → AllByRecursion (λ (b : Answer). b.lane.n ≡ lane) xs → AllByRecursion HasLineReply ys
           → AreLaneLines all lane names xs ys
 
-      one : (after : List Answer) → map asked after ≡ l ∷ of_lane lane back → nat_eq l.lane.n lane ≡ true
+      one : (after : List Answer) → map asked after ≡ l ∷ of_lane lane back
+          → nat_eq l.lane.n lane ≡ true
           → AllByRecursion HasLineReply after → Rest → AreLaneLines all lane names before after
       one [] is e line rest = absurd (no_line l (of_lane lane back) (sym is))
       one (a ∷ after) is e line rest =
           let z = heads_same (asked a) l (map asked after) (of_lane lane back) is in
-          let same : a.lane.n ≡ lane = ap (λ (k : Line). k.lane.n) z.0 ∙ eqb-true l.lane.n lane e in (
+          let same : a.lane.n ≡ lane = ap (λ (k : Line). k.lane.n) z.0
+          ∙ eqb-true l.lane.n lane e in (
             same,
             one_line front back before a (split ∙ ap (λ (k : Line). front ++ k ∷ back) (sym z.0))
                 (subst (λ (k : Line). IsNameKnown front lane k.request) (sym z.0)
-                (subst (λ (k : ℕ). IsNameKnown front k l.request) (eqb-true l.lane.n lane e) are.0.known)) same were of line.0,
+                (subst (λ (k : ℕ). IsNameKnown front k l.request)
+                (eqb-true l.lane.n lane e) are.0.known)) same were of line.0,
             rest (before ++ a ∷ []) after
                 (map_push asked before a ∙ (λ i. were i ++ z.0 i ∷ [])
                 ∙ sym (filter-append (λ k. nat_eq k.lane.n lane) front (l ∷ [])
@@ -190,7 +218,8 @@ module _ (nodes : ℕ) (all : List Line) (lane : ℕ) (names : List Named) (has 
 
 -- ---- a lane of a script
 -- its own names are none of those that lane 0 made
-pub names_apart : (nodes : ℕ) (all : List Line) (lane : ℕ) (names : List Named) → AreLines nodes [] all → 1 ≤ lane
+pub names_apart : (nodes : ℕ) (all : List Line) (lane : ℕ) (names : List Named)
+    → AreLines nodes [] all → 1 ≤ lane
     → ((p : List ℕ) (h : ℕ) → handle_among names p ≡ Some h → is_maker all 0 p ≡ true)
     → (p : List ℕ) → is_maker all lane p ≡ true → handle_among names p ≡ None
 names_apart nodes all lane names are some_one shared p mine = by (handle_among names p) refl
@@ -201,13 +230,16 @@ names_apart nodes all lane names are some_one shared p mine = by (handle_among n
         omega (arith, some_one, same))
 
 -- where its lines were answered, each is one of a lane's lines
-pub lane_form : (nodes : ℕ) (all : List Line) (lane : ℕ) (names : List Named) (answers : List Answer)
+pub lane_form : (nodes : ℕ) (all : List Line) (lane : ℕ) (names : List Named)
+    (answers : List Answer)
     → AreLines nodes [] all → HasOwnLines all lane
     → ((p : List ℕ) (h : ℕ) → handle_among names p ≡ Some h → is_maker all 0 p ≡ true)
     → map asked answers ≡ of_lane lane all → AllByRecursion HasLineReply answers
     → AreLaneLines all lane names [] answers
-lane_form nodes all lane names answers are has shared will line = lane_lines nodes all lane names has
-    (names_apart nodes all lane names are has.from_one shared) [] all refl are [] answers refl will tt line
+lane_form nodes all lane names answers are has shared will line =
+    lane_lines nodes all lane names has
+    (names_apart nodes all lane names are has.from_one shared) [] all refl are
+    [] answers refl will tt line
 
 -- The own lines of a lane of a script, which runs with a pass that has no pins at its start, are
 -- answered as if the lane were alone, up to the first one that lacks something.
@@ -217,7 +249,8 @@ pub own_lines_alone : (c : Config) (nodes : ℕ) (all : List Line) (lane : ℕ) 
     → map asked answers ≡ of_lane lane all → AllByRecursion HasLineReply answers
     → v.pins ≡ [] → v.fresh ≡ [] → KnowsNames v names → LaneGoesOwn c names v answers w → KeepsOwn w
     → KeepAloneUntil all lane fresh_lane answers
-own_lines_alone c nodes all lane names answers v w are has shared will line none fresh knows goes keeps =
+own_lines_alone c nodes all lane names answers v w are has shared will line none fresh knows goes
+    keeps =
     lane_alone_until c all lane names answers v w none fresh knows
     (names_apart nodes all lane names are has.from_one shared) goes keeps
     (lane_form nodes all lane names answers are has shared will line)
@@ -236,8 +269,11 @@ lines_tell c names before (a ∷ after) v w (m, one, rest) = (
 pub lane_keeps_alone : (c : Config) (nodes lane : ℕ) (names : List Named) (lines : List Line)
     (answers : List Answer) (v w : View) → v.pins ≡ [] → v.fresh ≡ [] → KnowsNames v names
     → LaneGoes c names v answers w → map asked answers ≡ lines
-    → AllByRecursion HasLineReply answers → KeepsOwn w → LaneKeepsAlone nodes lane names lines answers
-lane_keeps_alone c nodes lane names lines answers v w none fresh knows (m, goes, left) are line keeps all
+    → AllByRecursion HasLineReply answers → KeepsOwn w
+    → LaneKeepsAlone nodes lane names lines answers
+lane_keeps_alone c nodes lane names lines answers v w none fresh knows
+    (m, goes, left) are line keeps all
     script has by_lane shared =
-    own_lines_alone c nodes all lane names answers v w script has shared (are ∙ by_lane) line none fresh
+    own_lines_alone c nodes all lane names answers v w script has shared
+    (are ∙ by_lane) line none fresh
     knows (m, lines_tell c names [] answers v m goes, left) keeps

@@ -45,7 +45,8 @@ pub lane_alone : (c : Config) (names : List Named) (nodes lane : ℕ) (lines : L
     (answers : List Answer) (v w all : View) → v.pins ≡ [] → LaneGoes c names v answers w
     → AreLinesOf nodes lane lines → map asked answers ≡ lines → HasAllOf w all → FreedIsLast all
     → LaneRises lane names answers v
-lane_alone c names nodes lane lines answers v w all none (m, goes, left) are is more is_last given called =
+lane_alone c names nodes lane lines answers v w all none
+    (m, goes, left) are is more is_last given called =
     record {
       own = own_calls lane given answers (answers_of nodes lane lines answers are is);
       rises = lane_rises c names answers v m all none goes

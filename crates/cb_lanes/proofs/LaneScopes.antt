@@ -28,7 +28,7 @@ use Rattle.cb_script.specs.declared.script.Line.{Line}
 use Rattle.cb_shared.specs.declared.answers.WriteAnswer.{WriteAnswer}
 use Rattle.cb_shared.specs.declared.answers.WriteAnswer.TheVariants as place
 use Rattle.cb_shared.specs.Calls.{IsLack, SaysAs, WriteCallEnds, WriteFinds, again_in, the_handle}
-use Rattle.cb_lanes.proofs.AskedTurns.{OwnOrLack, brings_lack, write_own}
+use Rattle.cb_shared.proofs.Laws.{OwnOrLack, brings_lack, write_own}
 use Rattle.cb_shared.specs.Turning.{PinsTold}
 use Rattle.cb_lanes.specs.declared.body.Named.{Named}
 use Rattle.cb_lanes.specs.Asked.{asked}
@@ -157,7 +157,8 @@ module _ (number : List ℕ → Option ℕ) (apart : AreHandlesApart number) (na
     left = subst (λ (b : Bool). AreNamedPins number
         (if b then older else named ∷ without_newest name older) (removed (pins_it h) (p ∷ pins)))
         (sym (same_name named p is on))
-        (subst (λ (b : Bool). AreNamedPins number older (cond b pins (p ∷ removed (pins_it h) pins)))
+        (subst (λ (b : Bool). AreNamedPins number older
+        (cond b pins (p ∷ removed (pins_it h) pins)))
         (sym (eq-eqb p.handle h on)) are);
   }
 
@@ -245,7 +246,8 @@ module _ (c : Config) where
       pinned_count k count e = cc
   here_pinned h at bytes (place.Ok version) r v d says x count told =
       absurd (let e = sym says ∙ told in cc)
-  here_pinned h at bytes place.Freed r v d says x count told = absurd (let e = sym says ∙ told in cc)
+  here_pinned h at bytes place.Freed r v d says x count told =
+      absurd (let e = sym says ∙ told in cc)
   here_pinned h at bytes (place.Range len) r v d says x count told =
       absurd (let e = sym says ∙ told in cc)
   here_pinned h at bytes place.Worn r v d says x count told = absurd (let e = sym says ∙ told in cc)
@@ -342,7 +344,8 @@ module _ (c : Config) where
         let from = given_named number apart name h at_name scope v.pins are x.some in
         record {
           says = subst (λ (o : Option ℕ). UnpinSays o r) (sym from.newest) x.told;
-          pins = subst (λ (z : Reply). AreNamedPins number (scope_after scope (Unpin name) z) w.pins)
+          pins = subst (λ (z : Reply). AreNamedPins number
+              (scope_after scope (Unpin name) z) w.pins)
               (sym x.told)
               (subst (AreNamedPins number (without_newest name scope))
               (sym (pins_of_same _ w x.left)) from.left);
@@ -395,7 +398,7 @@ module _ (c : Config) where
       still number None scope (Pin name) r v w are (pins_of_same v w goes.1)
       (ap (scope_after scope (Pin name)) goes.0) goes.0
   line_scoped number apart (Some h) scope (Pin name) r v w named are goes =
-      pin_scoped number apart scope name h (named name refl) v w are r goes
+      pin_scoped number apart scope name h (named name refl) v w are r goes.0
   line_scoped number apart None scope (Peek name) r v w named are goes =
       still number None scope (Peek name) r v w are (pins_of_same v w goes.1) refl goes.0
   line_scoped number apart (Some h) scope (Peek name) r v w named are goes =
@@ -406,32 +409,45 @@ module _ (c : Config) where
   line_scoped number apart (Some h) scope (Unpin name) r v w named are goes =
       unpin_scoped number apart scope name h (named name refl) v w are r goes
   line_scoped number apart handle scope line.Evict r v w named are goes =
-      quiet number handle scope line.Evict r v w are (call_pins c job.Evict r v w goes) refl tt (λ h. tt)
+      quiet number handle scope line.Evict r v w are (call_pins c job.Evict r v w goes) refl tt
+      (λ h. tt)
   line_scoped number apart handle scope line.Begin r v w named are goes =
-      quiet number handle scope line.Begin r v w are (call_pins c job.Begin r v w goes) refl tt (λ h. tt)
+      quiet number handle scope line.Begin r v w are (call_pins c job.Begin r v w goes) refl tt
+      (λ h. tt)
   line_scoped number apart handle scope line.Ship r v w named are goes =
-      quiet number handle scope line.Ship r v w are (call_pins c job.Ship r v w goes) refl tt (λ h. tt)
+      quiet number handle scope line.Ship r v w are (call_pins c job.Ship r v w goes) refl tt
+      (λ h. tt)
   line_scoped number apart handle scope line.Commit r v w named are goes =
-      quiet number handle scope line.Commit r v w are (call_pins c job.Commit r v w goes) refl tt (λ h. tt)
+      quiet number handle scope line.Commit r v w are (call_pins c job.Commit r v w goes) refl tt
+      (λ h. tt)
   line_scoped number apart handle scope line.Abort r v w named are goes =
-      quiet number handle scope line.Abort r v w are (call_pins c job.Abort r v w goes) refl tt (λ h. tt)
+      quiet number handle scope line.Abort r v w are (call_pins c job.Abort r v w goes) refl tt
+      (λ h. tt)
   line_scoped number apart handle scope line.Pair r v w named are goes =
-      quiet number handle scope line.Pair r v w are (call_pins c job.Pair r v w goes) refl tt (λ h. tt)
+      quiet number handle scope line.Pair r v w are (call_pins c job.Pair r v w goes) refl tt
+      (λ h. tt)
   line_scoped number apart handle scope line.Patch r v w named are goes =
-      quiet number handle scope line.Patch r v w are (call_pins c job.Patch r v w goes) refl tt (λ h. tt)
+      quiet number handle scope line.Patch r v w are (call_pins c job.Patch r v w goes) refl tt
+      (λ h. tt)
   line_scoped number apart handle scope line.Merge r v w named are goes =
-      quiet number handle scope line.Merge r v w are (call_pins c job.Merge r v w goes) refl tt (λ h. tt)
+      quiet number handle scope line.Merge r v w are (call_pins c job.Merge r v w goes) refl tt
+      (λ h. tt)
   line_scoped number apart handle scope line.Part r v w named are goes =
-      quiet number handle scope line.Part r v w are (call_pins c job.Part r v w goes) refl tt (λ h. tt)
+      quiet number handle scope line.Part r v w are (call_pins c job.Part r v w goes) refl tt
+      (λ h. tt)
   line_scoped number apart handle scope line.Compact r v w named are goes =
-      quiet number handle scope line.Compact r v w are (call_pins c job.Compact r v w goes) refl tt (λ h. tt)
+      quiet number handle scope line.Compact r v w are (call_pins c job.Compact r v w goes) refl tt
+      (λ h. tt)
   line_scoped number apart handle scope line.Rebuild r v w named are goes =
-      quiet number handle scope line.Rebuild r v w are (call_pins c job.Rebuild r v w goes) refl tt (λ h. tt)
+      quiet number handle scope line.Rebuild r v w are (call_pins c job.Rebuild r v w goes) refl tt
+      (λ h. tt)
   line_scoped number apart handle scope (line.Crash node) r v w named are goes =
-      quiet number handle scope (line.Crash node) r v w are (call_pins c (job.Crash node) r v w goes) refl tt
+      quiet number handle scope (line.Crash node) r v w are
+      (call_pins c (job.Crash node) r v w goes) refl tt
       (λ h. tt)
   line_scoped number apart handle scope (line.Join node) r v w named are goes =
-      quiet number handle scope (line.Join node) r v w are (call_pins c (job.Join node) r v w goes) refl tt
+      quiet number handle scope (line.Join node) r v w are
+      (call_pins c (job.Join node) r v w goes) refl tt
       (λ h. tt)
 
 -- ---- the handles of names behind the lines
@@ -458,7 +474,8 @@ made_as_right [] after name h made = made
 made_as_right (a ∷ before) after name h made = inr (made_as_right before after name h made)
 
 -- a name with a handle was made
-pub handle_is_made : (answers : List Answer) (name : List ℕ) (h : ℕ) → handle_of answers name ≡ Some h
+pub handle_is_made : (answers : List Answer) (name : List ℕ) (h : ℕ)
+    → handle_of answers name ≡ Some h
     → IsMadeAs answers name h
 handle_is_made [] name h is = absurd cc
 handle_is_made (a ∷ later) name h is =
@@ -529,7 +546,8 @@ module _ (c : Config) (names : List Named) (lane : ℕ) (given : List Answer)
         (sym (scope_push lane given before a own.0))
         (named_kept (number_behind names before) (number_behind names (before ++ a ∷ []))
         (scope_after (scope_of lane (given ++ before)) a.request a.reply) m.pins
-        (λ q h is. number_kept names given are_names before a q h (fewer (before ++ a ∷ []) after later)
+        (λ q h is. number_kept names given are_names before a q h
+        (fewer (before ++ a ∷ []) after later)
         is) one.pins)) rest),
   )
     where
@@ -559,13 +577,15 @@ pub keeps_scopes : (c : Config) (names : List Named) (nodes lane : ℕ) (lines :
     → AreNamesOf names given → scope_of lane given ≡ [] → AreScoped given answers
 keeps_scopes c names nodes lane lines answers v w none (m, goes, left) of is given named scope one =
     subst (λ (xs : List Answer). KeepScopes xs answers) (append-nil given)
-    (lines_scoped c names lane given named [] answers v m (answers_of nodes lane lines answers of is) one
+    (lines_scoped c names lane given named [] answers v m
+    (answers_of nodes lane lines answers of is) one
     (subst (λ (s : Scope). AreNamedPins (number_behind names []) s v.pins)
     (sym (ap (scope_of lane) (append-nil given) ∙ scope))
     (subst (AreNamedPins (number_behind names []) []) (sym none) tt)) goes)
 
 -- ---- once no name has two handles and no handle two names
-pub scoped_behind : (lane : ℕ) (names : List Named) (answers : List Answer) → LaneScoped lane names answers
+pub scoped_behind : (lane : ℕ) (names : List Named) (answers : List Answer)
+    → LaneScoped lane names answers
     → (given : List Answer) → AreNamesOf names given → scope_of lane given ≡ []
     → AreScoped given answers
 scoped_behind lane names answers scoped given named scope one = scoped given named scope

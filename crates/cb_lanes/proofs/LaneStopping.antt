@@ -88,7 +88,8 @@ front_of nodes lane front lines (back, is) are =
     all_front nodes lane front back (subst (AreLinesOf nodes lane) is are)
 
 -- ---- what a record has of its own objects it had before looks and turns came to it
-found_before : (looks : List Look) (d : Part) (v : View) (l : Look) → FoundBy l v → FoundBy l (grown d v)
+found_before : (looks : List Look) (d : Part) (v : View) (l : Look) → FoundBy l v
+    → FoundBy l (grown d v)
 found_before looks d v l (inl has) = inl (has_right l d.looks v.looks has)
 found_before looks d v l (inr (t, has, e, in_it, is)) =
     inr (t, has_right t d.turns v.turns has, e, in_it, is)
@@ -150,11 +151,14 @@ module _ (first : ℕ) (c : Config) (lane : ℕ) (names : List Named) (lines : L
     lines_stop = stops;
     left = left;
     part = lane_adds c names answers v ended none goes;
-    rises = lane_alone c names c.nodes lane (map asked answers) answers v ended w none goes are_front
+    rises = lane_alone c names c.nodes lane (map asked answers) answers v ended w none goes
+        are_front
         refl (subst (HasAllOf ended) (sym adds.grows) (λ h n freed has. has)) own.stands.ends;
-    scoped = lane_scoped c names c.nodes lane (map asked answers) answers first v ended w none knows goes
+    scoped = lane_scoped c names c.nodes lane
+        (map asked answers) answers first v ended w none knows goes
         own (leads_idly ended w adds) are_front refl;
-    alone = λ one unwritten. lane_keeps_alone c c.nodes lane names (map asked answers) answers v ended none
+    alone = λ one unwritten. lane_keeps_alone c c.nodes lane names
+        (map asked answers) answers v ended none
         fresh knows goes refl replies (keeps one unwritten);
     adds = adds;
   }

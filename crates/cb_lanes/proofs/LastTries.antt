@@ -17,14 +17,14 @@ use Rattle.cb_shared.specs.Calls.{IsAnswer, IsLack, ReadCallEnds, ReadGives, Say
 use Rattle.cb_shared.specs.Calls.{TurnGives, WriteAnswers, WriteCallEnds, again_in, the_handle}
 use Rattle.cb_shared.specs.declared.answers.WriteAnswer.{WriteAnswer}
 use Rattle.cb_shared.specs.declared.answers.WriteAnswer.TheVariants as place
-use Rattle.cb_shared.proofs.Laws.{read_lacks}
-use Rattle.cb_lanes.proofs.AskedTurns.{brings_lack, write_told}
+use Rattle.cb_shared.proofs.Laws.{brings_lack, read_lacks, write_told}
 use Rattle.cb_lanes.specs.declared.body.Named.{Named}
 use Rattle.cb_lanes.specs.Asked.{HasLineReply}
 use Rattle.cb_lanes.specs.Bodies.{LinesGo, handle_behind}
 use Rattle.cb_lanes.specs.LastTries.{EndsTries, HasLastTry, IsLastTry}
 use Rattle.cb_lanes.specs.LineGoes.{CallGoes, LineGoes}
 use Rattle.cb_lanes.specs.Passing.{PinEnds, PinGoes, goes_in}
+use Rattle.cb_lanes.proofs.Lacks.{by_lack}
 
 module _ (c : Config) where
   as_is : (r q : Reply) → EndsTries q → r ≡ q → EndsTries r
@@ -32,10 +32,7 @@ module _ (c : Config) where
 
   -- ---- what answers a call
   lack_ends : (again : Bool) (r : Reply) → IsLack again r → EndsTries r
-  lack_ends again (answer.Unavailable set lost) x = tt
-  lack_ends again answer.Worn x = tt
-  lack_ends again (answer.NoRoom frames loose nodes) x = tt
-  lack_ends again r x = absurd x
+  lack_ends again r x = by_lack EndsTries (λ set lost. tt) (λ frames loose nodes. tt) tt again r x
 
   told_ends : (r : Reply) → TellsOfIt r → EndsTries r
   told_ends (answer.Made handle version) x = tt
@@ -108,7 +105,7 @@ module _ (c : Config) where
   call_last h (line.Read name) r v w may x = read_goes h r v w x
   call_last h (line.Write name at bytes) r v w may x = write_goes h at bytes r v w x
   call_last h (line.Free name) r v w may x = free_goes h r v w x
-  call_last h (line.Pin name) r v w may x = pin_goes h r v w x
+  call_last h (line.Pin name) r v w may x = pin_goes h r v w x.0
   call_last h (line.Peek name) r v w may x =
       never (line.Peek name) r may (λ z. z)
   call_last h (line.Unpin name) r v w may x =

@@ -40,7 +40,8 @@ pub mod Eases
 pub mod LinesFixed
 pub mod LossOrder
 pub mod WorkedGoes
-mod AskedTurns
+pub mod PinTurns
+mod Lacks
 mod Backing
 mod BringsBack
 pub mod LineParts
@@ -84,6 +85,7 @@ pub mod Stopping
 pub mod LaneStopping
 pub mod UntilLack
 pub mod WorkedPassing
+pub mod WorkedPinTurns
 pub mod WorkedAsking
 pub mod WorkedBodies
 pub mod WorkedRising

@@ -20,34 +20,41 @@ use Rattle.cb_lanes.proofs.Turning.{Turning, LineGives, call_goes, refused_goes}
 
 -- ---- calls on objects
 
-pub read_goes : (answers : List Answer) (l : Line) (name : List ℕ) (h : ℕ) (r : Reply) (w new : WorldState)
+pub read_goes : (answers : List Answer) (l : Line) (name : List ℕ) (h : ℕ) (r : Reply)
+    (w new : WorldState)
     → (c : Turning answers w new) → h < w.desk.settings.handles → handle_of answers name ≡ Some h
     → TurnStep (job.Read (record { n = h })) w r new
     → LineGives answers (answer_to l (Read name) r) w new c.then.shown
 read_goes answers l name h r w new c below named step =
     let z = read_turn w new h name r c.before c.then c.few below step in
-    call_goes answers (answer_to l (Read name) r) w new (job.Read (record { n = h })) r h c step z.call named
+    call_goes answers (answer_to l (Read name) r) w new
+    (job.Read (record { n = h })) r h c step z.call named
     z.line
 
-pub write_goes : (answers : List Answer) (l : Line) (name : List ℕ) (at : ℕ) (bytes : List ℕ) (h : ℕ)
+pub write_goes : (answers : List Answer) (l : Line) (name : List ℕ) (at : ℕ) (bytes : List ℕ)
+    (h : ℕ)
     (r : Reply) (w new : WorldState) → (c : Turning answers w new) → h < w.desk.settings.handles
     → handle_of answers name ≡ Some h → TurnStep (job.Write (record { n = h }) at bytes) w r new
     → LineGives answers (answer_to l (Write name at bytes) r) w new c.then.shown
 write_goes answers l name at bytes h r w new c below named step =
     let z = write_turn w new h at bytes name r c.before c.then c.few below step in
-    call_goes answers (answer_to l (Write name at bytes) r) w new (job.Write (record { n = h }) at bytes) r h
+    call_goes answers (answer_to l (Write name at bytes) r) w new
+    (job.Write (record { n = h }) at bytes) r h
     c step z.call named z.line
 
-pub free_goes : (answers : List Answer) (l : Line) (name : List ℕ) (h : ℕ) (r : Reply) (w new : WorldState)
+pub free_goes : (answers : List Answer) (l : Line) (name : List ℕ) (h : ℕ) (r : Reply)
+    (w new : WorldState)
     → (c : Turning answers w new) → h < w.desk.settings.handles → handle_of answers name ≡ Some h
     → TurnStep (job.Free (record { n = h })) w r new
     → LineGives answers (answer_to l (Free name) r) w new c.then.shown
 free_goes answers l name h r w new c below named step =
     let z = free_turn w new h name r c.before c.then c.few below step in
-    call_goes answers (answer_to l (Free name) r) w new (job.Free (record { n = h })) r h c step z.call named
+    call_goes answers (answer_to l (Free name) r) w new
+    (job.Free (record { n = h })) r h c step z.call named
     z.line
 
-pub filter_goes : (answers : List Answer) (l : Line) (name : List ℕ) (h : ℕ) (r : Reply) (w new : WorldState)
+pub filter_goes : (answers : List Answer) (l : Line) (name : List ℕ) (h : ℕ) (r : Reply)
+    (w new : WorldState)
     → (c : Turning answers w new) → h < w.desk.settings.handles → handle_of answers name ≡ Some h
     → TurnStep (job.Filter (record { n = h })) w r new
     → LineGives answers (answer_to l (Filter name) r) w new c.then.shown
@@ -59,7 +66,8 @@ filter_goes answers l name h r w new c below named step =
 -- ---- makes
 
 -- a make that changed nothing was given no handle
-no_handle : (answers : List Answer) (name bytes : List ℕ) (r : Reply) → IsReplyOf (Make name bytes) r
+no_handle : (answers : List Answer) (name bytes : List ℕ) (r : Reply)
+    → IsReplyOf (Make name bytes) r
     → change_of (event_of (Make name bytes) r) ≡ [] → handle_for answers (Make name bytes) r ≡ None
 no_handle answers name bytes (answer.Made handle version) line silent = absurd (one silent)
   where
@@ -70,14 +78,16 @@ no_handle answers name bytes (answer.NoRoom frames loose nodes) line silent = re
 no_handle answers name bytes answer.Worn line silent = refl
 no_handle answers name bytes r line silent = absurd line
 
-pub make_goes : (answers : List Answer) (l : Line) (name bytes : List ℕ) (r : Reply) (w new : WorldState)
+pub make_goes : (answers : List Answer) (l : Line) (name bytes : List ℕ) (r : Reply)
+    (w new : WorldState)
     → (c : Turning answers w new) → TurnStep (job.Make bytes) w r new
     → LineGives answers (answer_to l (Make name bytes) r) w new c.then.shown
 make_goes answers l name bytes r w new c step =
     let z = make_turn w new bytes name r c.before c.then c.few step in by z.line z.call
   where
     by : IsReplyOf (Make name bytes) r
-        → IsMakeCall w.desk.settings.handles c.before.shown c.then.shown w.far new.far (Make name bytes) r
+        → IsMakeCall w.desk.settings.handles c.before.shown c.then.shown w.far new.far
+        (Make name bytes) r
         → LineGives answers (answer_to l (Make name bytes) r) w new c.then.shown
     by line (inl (h, v, is, call)) =
         call_goes answers (answer_to l (Make name bytes) r) w new (job.Make bytes) r h.n c step call

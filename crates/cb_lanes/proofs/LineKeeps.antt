@@ -17,6 +17,7 @@ use Rattle.cb_core.specs.declared.event.Event.TheVariants.{Turn}
 use Rattle.cb_core.specs.Jobs.{NeedsNoOrder}
 use Rattle.cb_core.specs.Pinning.{PinStep, UnpinStep}
 use Rattle.cb_core.specs.Step.{Leads, Step, TurnStep, held as other_holds, free, ordered}
+use Rattle.cb_core.proofs.Laws.{MakesWithin}
 use Rattle.cb_lanes.specs.GivingBack.{unpin_event, GivesAll, Rests}
 use Rattle.cb_lanes.specs.LineGoes.{job_of}
 use Rattle.cb_lanes.specs.LineStep.{LineStep, ObjectStep, OtherStep, TurnAt, PeekStep, not_pinned}
@@ -44,14 +45,29 @@ object_alone (job.Swap handle) is = tt
 object_alone (job.Filter handle) is = tt
 object_alone j is = absurd is
 
--- nor does one of a line about no object
-pub line_alone : (request : Request) (j : Job) → job_of request ≡ Some j → NeedsNoOrder j
-line_alone request j e = by request e
-  where
-    is : (i : Job) → NeedsNoOrder i → Some i ≡ Some j → NeedsNoOrder j
-    is i x e = subst NeedsNoOrder (same_Some i j e) x
+-- the job is one of a line about no object
+abbrev IsLineJob : Job → Type 0
+IsLineJob (job.Make bytes) = ⊥
+IsLineJob (job.Read handle) = ⊥
+IsLineJob (job.Write handle at bytes) = ⊥
+IsLineJob (job.Free handle) = ⊥
+IsLineJob (job.Swap handle) = ⊥
+IsLineJob (job.Filter handle) = ⊥
+IsLineJob job.Gather = ⊥
+IsLineJob job.Install = ⊥
+IsLineJob (job.Fetch handle) = ⊥
+IsLineJob job.Land = ⊥
+IsLineJob j = Unit {0}
 
-    by : (q : Request) → job_of q ≡ Some j → NeedsNoOrder j
+-- what holds of each such job holds of that of a line
+line_each : (P : Job → Type 0) → ((j : Job) → IsLineJob j → P j) → (request : Request) (j : Job)
+    → job_of request ≡ Some j → P j
+line_each P f request j e = by request e
+  where
+    is : (i : Job) → IsLineJob i → Some i ≡ Some j → P j
+    is i x e = subst P (same_Some i j e) (f i x)
+
+    by : (q : Request) → job_of q ≡ Some j → P j
     by Evict e = is job.Evict tt e
     by Begin e = is job.Begin tt e
     by Ship e = is job.Ship tt e
@@ -66,6 +82,25 @@ line_alone request j e = by request e
     by (Crash node) e = is (job.Crash node) tt e
     by (Join node) e = is (job.Join node) tt e
     by q e = absurd (none-some j e)
+
+-- such a job hands no order out and takes none, and makes no object
+pub line_alone : (request : Request) (j : Job) → job_of request ≡ Some j → NeedsNoOrder j
+line_alone = line_each NeedsNoOrder alone
+  where
+    alone : (j : Job) → IsLineJob j → NeedsNoOrder j
+    alone job.Gather is = is
+    alone job.Install is = is
+    alone (job.Fetch handle) is = is
+    alone job.Land is = is
+    alone j is = tt
+
+pub line_within : (most : ℕ) (request : Request) (j : Job) → job_of request ≡ Some j
+    → MakesWithin most j
+line_within most = line_each (MakesWithin most) within
+  where
+    within : (j : Job) → IsLineJob j → MakesWithin most j
+    within (job.Make bytes) is = absurd is
+    within j is = tt
 
 -- P is kept by each turn whose job may be, among them those on objects, by pins and their ends, and
 -- where rows given and keys drawn are counted otherwise
@@ -113,7 +148,8 @@ module _ (P : WorldState → Type 0) (May : Job → Type 0) (k : IsKeptByTurns P
   peek_kept seat h w new r (not_pinned none is same) p = same_kept w new same p
   peek_kept seat h w new r (shown at newest is same) p = same_kept w new same p
 
-  object_kept : (side : Side) (seat : ℕ) (handle : Option ℕ) (request : Request) (w new : WorldState) (r : Reply)
+  object_kept : (side : Side) (seat : ℕ) (handle : Option ℕ) (request : Request)
+      (w new : WorldState) (r : Reply)
       → ObjectStep side seat handle request w r new → P w → P new
   object_kept side seat None request w new r x p = same_kept w new x.1 p
   object_kept side seat (Some h) (Pin name) w new r x p = pin_kept seat h w new r x p

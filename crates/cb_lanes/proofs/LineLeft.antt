@@ -33,7 +33,8 @@ use Rattle.cb_core.specs.Pinning.{UnpinStep, not_pinned as none_given, given}
 use Rattle.cb_core.specs.Step.{Leads, Step, worn, done, held as other_holds, free, ordered}
 use Rattle.cb_core.specs.Unavailable.{IsLost, TellsUnavailable, brought_by}
 use Rattle.cb_core.specs.Unmoved.{IsUnmoved, HasPin, KeepsPinned}
-use Rattle.cb_core.proofs.Laws.{brought_only, step_pinned, step_settings, step_tells, swap_sound, touched}
+use Rattle.cb_core.proofs.Laws.{brought_only, step_pinned, step_settings, step_tells, swap_sound}
+use Rattle.cb_core.proofs.Laws.{touched}
 use Rattle.cb_core.proofs.Laws.{unmoved_same, unpin_step_sound}
 use Rattle.cb_lanes.specs.declared.side.Side.{Side}
 use Rattle.cb_lanes.specs.declared.side.Side.TheVariants as parities
@@ -84,7 +85,8 @@ gives_unmoved seat [] (r ∷ replies) w new k sound lt leads = absurd leads
 gives_unmoved seat (pin ∷ pins) [] w new k sound lt leads = absurd leads
 gives_unmoved seat (pin ∷ pins) (r ∷ replies) w new k sound lt (mid, step, rest) =
     unmoved_then k w.desk mid.desk new.desk (unpin_unmoved w mid seat pin.handle k r sound lt step)
-    (gives_unmoved seat pins replies mid new k (unpin_sound w mid seat pin.handle r sound lt step) lt rest)
+    (gives_unmoved seat pins replies mid new k
+    (unpin_sound w mid seat pin.handle r sound lt step) lt rest)
 
 all_unmoved : (seat : ℕ) (w new : WorldState) (k : ℕ) → IsSoundWorld w → seat < 64
     → GivesAll seat w new → IsUnmoved k w.desk new.desk
@@ -145,10 +147,12 @@ module _ (seat h : ℕ) (w new : WorldState) (r : Reply) (sound : IsSoundWorld w
   pin = event.Step seat (atomic.Pin (record { n = h }))
 
   below_then : (m : WorldState) (q : Reply) → Step w swap q m → h < m.desk.settings.handles
-  below_then m q step = subst (λ (c : Config). h < c.handles) (sym (step_settings w m swap q step)) below
+  below_then m q step = subst (λ (c : Config). h < c.handles)
+      (sym (step_settings w m swap q step)) below
 
   sound_then : (m : WorldState) (q : Reply) → Step w swap q m → IsSoundWorld m
-  sound_then m q step = swap_sound w m h q sound (turn_alone seat (job.Swap (record { n = h })) w m q tt lone step)
+  sound_then m q step = swap_sound w m h q sound
+      (turn_alone seat (job.Swap (record { n = h })) w m q tt lone step)
 
   pin_pinned : PinLine seat h w r new → KeepsPinned w new
   pin_pinned (at_once x never) = step_pinned pin w new r sound after (lt, below) x
@@ -156,7 +160,8 @@ module _ (seat h : ℕ) (w new : WorldState) (r : Reply) (sound : IsSoundWorld w
   pin_pinned (swapped_in m q away x is y) = λ k some still.
       let mid = sound_then m q x in
       let pinned = pins_stay w m k sound mid
-      (event_seats seat (job.Swap (record { n = h })) w m q tt x) (step_settings w m swap q x) some in
+      (event_seats seat (job.Swap (record { n = h })) w m q tt x)
+      (step_settings w m swap q x) some in
       unmoved_then k w.desk m.desk new.desk
       (step_pinned swap w m q sound mid (lt, below) x k some pinned)
       (step_pinned pin m new r mid after (lt, below_then m q x) y k pinned still)
@@ -167,7 +172,8 @@ module _ (seat h : ℕ) (w new : WorldState) (r : Reply) (sound : IsSoundWorld w
   same_handle : (k : ℕ) → Some h ≡ Some k → k ≡ h
   same_handle k e = cc
 
-  in_reply : (q : Reply) (id : SetId) (l : List Loss) → q ≡ answer.Unavailable id l → IsInReply q → ⊥
+  in_reply : (q : Reply) (id : SetId) (l : List Loss) → q ≡ answer.Unavailable id l → IsInReply q
+      → ⊥
   in_reply q id l e is = subst IsInReply e is
 
   swap_tells : (m : WorldState) (q : Reply) → IsSoundWorld m → Step w swap q m
@@ -207,7 +213,8 @@ module _ (side : Side) (seat : ℕ) (w new : WorldState) (r : Reply) (sound : Is
   abbrev Ready : Option ℕ → Type 0
   Ready handle = (h : ℕ) → handle ≡ Some h → h < w.desk.settings.handles
 
-  turn_keeps : (j : Job) → IsAsked w.desk.settings j → Step w (Turn seat j) r new → KeepsPinned w new
+  turn_keeps : (j : Job) → IsAsked w.desk.settings j → Step w (Turn seat j) r new
+      → KeepsPinned w new
   turn_keeps j ok step = step_pinned (Turn seat j) w new r sound after (lt, ok.0) step
 
   peek_keeps : (h : ℕ) → PeekStep seat h w r new → KeepsPinned w new
@@ -312,7 +319,8 @@ module _ (side : Side) (seat : ℕ) (w new : WorldState) (r : Reply) (sound : Is
       → LineTells seat (Some h) request w r
   turn_told h request j brings may ok step =
       let t = step_tells (Turn seat j) w new r sound after (lt, ok.0) step in record {
-        only = λ id l e. let z = brought_only w (Turn seat j) r t (λ id l x. no_landing x.1) id l e in
+        only = λ id l e. let z = brought_only w (Turn seat j) r t
+            (λ id l x. no_landing x.1) id l e in
             (z.0, sym brings ∙ z.1, may, z.2);
         each = λ k id l e room few lost.
             t.each k id l (brings ∙ e) (lone_other w.seats seat lone, few) lost;

@@ -17,7 +17,8 @@ use Rattle.cb_core.specs.declared.event.Event.TheVariants.{Turn}
 use Rattle.cb_core.specs.Jobs.{NeedsNoOrder}
 use Rattle.cb_core.specs.Narrow.{IsLong, IsLongMade, IsMade, IsNarrow}
 use Rattle.cb_core.specs.Step.{Step, held as other_holds, free, ordered}
-use Rattle.cb_core.proofs.Laws.{KeepsNarrow, narrow_configured, narrow_same, narrow_stays, narrow_then}
+use Rattle.cb_core.proofs.Laws.{KeepsNarrow, narrow_configured, narrow_same, narrow_stays}
+use Rattle.cb_core.proofs.Laws.{narrow_then}
 use Rattle.cb_core.proofs.Laws.{pin_far, turn_keeps_narrow, unpin_far}
 use Rattle.cb_lanes.specs.LineGoes.{job_of}
 use Rattle.cb_lanes.specs.LineStep.{LineStep, LinesLead, ObjectStep, OtherStep, TurnAt, PeekStep}
@@ -71,7 +72,8 @@ peek_narrow : (seat h : ℕ) (w new : WorldState) (r : Reply) → PeekStep seat 
 peek_narrow seat h w new r (not_pinned none is same) = same_world w new same
 peek_narrow seat h w new r (shown at newest is same) = same_world w new same
 
-object_narrow : (side : Side) (seat : ℕ) (handle : Option ℕ) (request : Request) (w new : WorldState)
+object_narrow : (side : Side) (seat : ℕ) (handle : Option ℕ) (request : Request)
+    (w new : WorldState)
     (r : Reply) → ObjectStep side seat handle request w r new → KeepsNarrow w.far new.far
 object_narrow side seat None request w new r x = same_world w new x.1
 object_narrow side seat (Some h) (Pin name) w new r x = pin_narrow seat h w new r x
@@ -146,7 +148,8 @@ pub lines_keep_narrow : (side : Side) (before after : List Answer) (w new : Worl
 lines_keep_narrow side before [] w new none same = same_world w new same
 lines_keep_narrow side before (a ∷ after) w new (short, rest) (between, rested, step, rests, lead) =
     narrow_then w.far between.far new.far
-    (line_keeps_narrow side a.lane.n (handle_named before (name_of a.request)) a.request w between a.reply short
+    (line_keeps_narrow side a.lane.n (handle_named before (name_of a.request)) a.request w between
+    a.reply short
     step)
     (narrow_then between.far rested.far new.far
     (narrow_same between.far rested.far (rests_far _ a.lane.n between rested rests))

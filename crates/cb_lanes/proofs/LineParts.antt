@@ -1,6 +1,7 @@
 -- What a line adds to the record of its pass, and that it backs the line's answer.
 use Rattle.std.proofs.Common.{◌≡◌, ◌⊎◌, ℕ, zero, suc, ◌<◌, ◌≤◌, false, List, [], ◌∷◌, ◌++◌}
-use Rattle.std.proofs.Common.{length, Option, None, Some, Ok, inl, inr, sym, refl, ap, ◌∙◌, subst, arith, ◌+◌}
+use Rattle.std.proofs.Common.{length, Option, None, Some, Ok, inl, inr, sym, refl, ap, ◌∙◌, subst}
+use Rattle.std.proofs.Common.{arith, ◌+◌}
 use Rattle.std.specs.Prelude.{MatchOption}
 use Rattle.std.proofs.lemmas.Bool.{cases_lt}
 use Rattle.std.proofs.lemmas.List.{append-nil}
@@ -49,12 +50,11 @@ use Rattle.cb_shared.specs.declared.reading.ReadAnswer.TheVariants as found
 use Rattle.cb_shared.specs.Reading.{FindsGone, IsReadHere, looked, looked_freed, read_once}
 use Rattle.cb_shared.specs.Turning.{DidAs, FindsAtLast, JobReads, TurnAdds, TurnBy, made_by_turn}
 use Rattle.cb_shared.specs.Turning.{turn_part}
-use Rattle.cb_shared.proofs.Laws.{asked_alone, freed_part}
+use Rattle.cb_shared.proofs.Laws.{OwnOrLack, asked_alone, freed_part, read_own, write_own}
 use Rattle.cb_lanes.specs.Names.{IsOnObject}
 use Rattle.cb_lanes.specs.LineGoes.{CallGoes, LineGoes, job_of}
 use Rattle.cb_lanes.specs.Passing.{CallGives, IsNewestPin, IsNotPinned, LeaveGoes, PeekGoes}
 use Rattle.cb_lanes.specs.Passing.{PinEnds, PinGoes, PinsAtLast, UnpinGoes, goes_in, peeks_of}
-use Rattle.cb_lanes.proofs.AskedTurns.{OwnOrLack, read_own, write_own}
 use Rattle.cb_lanes.proofs.Backing.{vain_backs, ends_back, IsByTurn}
 use Rattle.cb_lanes.proofs.Backing.{IsLast, is_last, turn_backs, its_turn, still_backs}
 use Rattle.cb_lanes.proofs.BringsBack.{bring_backs, pin_by_bringing, read_by_bringing}
@@ -78,8 +78,10 @@ make_handle r = None
 make_meets : (c : Config) (name bytes : List ℕ) (r : Reply) (v : View) (d : Part)
     → (x : TurnAdds c (job.Make bytes) (Ok r) v d) → IsAnswer (again_in d.turns) r
     → Meets (turn_part x.turn x.more x.within x.later) (need_of (make_handle r) (Make name bytes) r)
-make_meets c name bytes (answer.Full n) v d x a = its_turn c _ None (job.Make bytes) _ v d refl x refl
-make_meets c name bytes (answer.NoRoom f l n) v d x a = its_turn c _ None (job.Make bytes) _ v d refl x
+make_meets c name bytes (answer.Full n) v d x a =
+    its_turn c _ None (job.Make bytes) _ v d refl x refl
+make_meets c name bytes (answer.NoRoom f l n) v d x a =
+    its_turn c _ None (job.Make bytes) _ v d refl x
     (room_last c (job.Make bytes) f l n v d x a)
 make_meets c name bytes (answer.Unavailable s l) v d x a =
     its_turn c _ None (job.Make bytes) _ v d refl x refl
@@ -100,7 +102,8 @@ make_line c name bytes r v w (d, x, is) = (
   d,
   adds_by v w d (made_by_turn (job.Make bytes) (Some r) ++ v.own) v.pins is,
   ends_back _ _ _ v d _ x (turn_backs c (job.Make bytes) _ _ r (grown x.before v) x.last x.ends_so.1
-      (make_by (make_handle r) name bytes r) (make_meets c name bytes r (grown x.before v) x.last x.ends_so.1
+      (make_by (make_handle r) name bytes r)
+      (make_meets c name bytes r (grown x.before v) x.last x.ends_so.1
       x.ends_so.0)),
 )
 
@@ -141,13 +144,15 @@ record IsTurnLine (q : Request) (j : Job) : Type 0 where
 deed_turned : (q : Request) (j : Job) (r : Reply)
     → turn_at None q r ≡ record { job = j; reply = Some r } ∷ []
     → IsSublist (turn_at None q r) (record { job = j; reply = Some r } ∷ [])
-deed_turned q j r is = subst (λ (l : List Deed). IsSublist l (record { job = j; reply = Some r } ∷ []))
+deed_turned q j r is = subst
+    (λ (l : List Deed). IsSublist l (record { job = j; reply = Some r } ∷ []))
     (sym is) (both _ [] [] ended)
 
 -- a step of an eviction or a compaction is not one of those that are counted
 step_turned : (q : Request) (j : Job) (r : Reply) → turn_at None q r ≡ []
     → IsSublist (turn_at None q r) (record { job = j; reply = Some r } ∷ [])
-step_turned q j r is = subst (λ (l : List Deed). IsSublist l (record { job = j; reply = Some r } ∷ []))
+step_turned q j r is = subst
+    (λ (l : List Deed). IsSublist l (record { job = j; reply = Some r } ∷ []))
     (sym is) (beside [] _ [] ended)
 
 line_of : (q : Request) (j : Job) → IsPlain j → own_job None q ≡ Some j
@@ -173,9 +178,11 @@ turn_line line.Compact = line_of line.Compact job.Compact tt refl (λ r es x. x)
     (λ r. deed_turned line.Compact job.Compact r refl) (λ r. refl)
 turn_line line.Rebuild = line_of line.Rebuild job.Rebuild tt refl (λ r es x. x) (λ r. refl)
     (λ r. deed_turned line.Rebuild job.Rebuild r refl) (λ r. refl)
-turn_line (line.Crash node) = line_of (line.Crash node) (job.Crash node) tt refl (λ r es x. x) (λ r. refl)
+turn_line (line.Crash node) = line_of (line.Crash node) (job.Crash node) tt refl (λ r es x. x)
+    (λ r. refl)
     (λ r. deed_turned (line.Crash node) (job.Crash node) r refl) (λ r. refl)
-turn_line (line.Join node) = line_of (line.Join node) (job.Join node) tt refl (λ r es x. x) (λ r. refl)
+turn_line (line.Join node) = line_of (line.Join node) (job.Join node) tt refl (λ r es x. x)
+    (λ r. refl)
     (λ r. deed_turned (line.Join node) (job.Join node) r refl) (λ r. refl)
 turn_line line.Begin = line_of line.Begin job.Begin tt refl (λ r es x. x) (λ r. refl)
     (λ r. step_turned line.Begin job.Begin r refl) (λ r. refl)
@@ -255,7 +262,8 @@ unmade_line q v w r is same on = (
 freed_backs : (h : ℕ) (q : Request) (version word : ℕ) → EntersAt (Some h) q answer.Freed []
     → (Meets (looked_freed h version word) (AFreed h)
     → Meets (looked_freed h version word) (need_of (Some h) q answer.Freed))
-    → state_of word ≡ state.Empty → pins_at q answer.Freed ≡ 0 → turn_at (Some h) q answer.Freed ≡ []
+    → state_of word ≡ state.Empty → pins_at q answer.Freed ≡ 0
+    → turn_at (Some h) q answer.Freed ≡ []
     → happened_at q answer.Freed ≡ []
     → Backs (looked_freed h version word) (told_as (Some h) q answer.Freed ∷ [])
 freed_backs h q version word enters needs empty no_pin turned happens =
@@ -358,7 +366,8 @@ read_ends : (c : Config) (h : ℕ) (name : List ℕ) (r : Reply) (v : View) (d :
 read_ends c h name r v d (inl x) = in_place_backs h name r v d x
 read_ends c h name r v d (inr x) = by (read_own c h r v d x)
   where
-    by : OwnOrLack c (job.Read (the_handle h)) h r v d → Backs d (told_as (Some h) (Read name) r ∷ [])
+    by : OwnOrLack c (job.Read (the_handle h)) h r v d
+        → Backs d (told_as (Some h) (Read name) r ∷ [])
     by (inl y) = read_turn c h name r v d y.0 y.1
     by (inr y) = bring_backs c h (Read name) r v d (read_by_bringing h name) y
 
@@ -372,7 +381,8 @@ read_line c h name r v w (d, x, grew) = (
 
 -- ---- a write
 write_needs : (c : Config) (h at : ℕ) (name bytes : List ℕ) (r : Reply) (v : View) (d : Part)
-    → (x : TurnAdds c (job.Write (the_handle h) at bytes) (Ok r) v d) → IsAnswer (again_in d.turns) r
+    → (x : TurnAdds c (job.Write (the_handle h) at bytes) (Ok r) v d)
+    → IsAnswer (again_in d.turns) r
     → Meets (turn_part x.turn x.more x.within x.later) (need_of (Some h) (Write name at bytes) r)
 write_needs c h at name bytes (answer.Pinned count) v d x a =
     inr (its_turn c _ (Some h) _ _ v d refl x refl)
@@ -407,16 +417,19 @@ look_backs h word q r enters meets no_pin turned happens =
     (subst (λ (l : List Deed). IsSublist l []) (sym turned) ended) (sym happens)
 
 write_here : (h at : ℕ) (name bytes : List ℕ) (a : WriteAnswer) (r : Reply) (v : View) (d : Part)
-    → SaysAs a r → WriteFinds h at bytes a v d → Backs d (told_as (Some h) (Write name at bytes) r ∷ [])
+    → SaysAs a r → WriteFinds h at bytes a v d
+    → Backs d (told_as (Some h) (Write name at bytes) r ∷ [])
 write_here h at name bytes (place.Ok version) r v d says x =
     subst (λ (q : Reply). Backs d (told_as (Some h) (Write name at bytes) q ∷ [])) (sym says)
-    (subst (λ (z : Part). Backs z (told_as (Some h) (Write name at bytes) (answer.Version version) ∷ []))
+    (subst (λ (z : Part). Backs z
+    (told_as (Some h) (Write name at bytes) (answer.Version version) ∷ []))
     (sym x.part)
     (one_backs (written_once h x.word version x.old x.new) _
     (len_of x.word, x.old, x.new, x.write, x.room.1, refl) tt (omega arith) ended refl))
 write_here h at name bytes place.Freed r v d says (word, version, empty, newest, is) =
     subst (λ (q : Reply). Backs d (told_as (Some h) (Write name at bytes) q ∷ [])) (sym says)
-    (subst (λ (z : Part). Backs z (told_as (Some h) (Write name at bytes) answer.Freed ∷ [])) (sym is)
+    (subst (λ (z : Part). Backs z (told_as (Some h) (Write name at bytes) answer.Freed ∷ []))
+    (sym is)
     (freed_backs h (Write name at bytes) version word refl (λ m. m) empty refl refl refl))
 write_here h at name bytes (place.Range len) r v d says (word, past, is) =
     subst (λ (q : Reply). Backs d (told_as (Some h) (Write name at bytes) q ∷ [])) (sym says)
@@ -425,14 +438,16 @@ write_here h at name bytes (place.Range len) r v d says (word, past, is) =
     (inl (inl (refl, past.0.0, past.0.1, past.0.2))) refl refl refl))
 write_here h at name bytes (place.Pinned count) r v d says (word, pinned, is) =
     subst (λ (q : Reply). Backs d (told_as (Some h) (Write name at bytes) q ∷ [])) (sym says)
-    (subst (λ (z : Part). Backs z (told_as (Some h) (Write name at bytes) (answer.Pinned count) ∷ []))
+    (subst (λ (z : Part). Backs z
+    (told_as (Some h) (Write name at bytes) (answer.Pinned count) ∷ []))
     (sym is) (look_backs h word (Write name at bytes) (answer.Pinned count) refl
     (inl (inl (refl, pinned.1.0))) refl refl refl))
 write_here h at name bytes place.Worn r v d says x =
     subst (λ (q : Reply). Backs d (told_as (Some h) (Write name at bytes) q ∷ [])) (sym says)
     (subst (λ (z : Part). Backs z (told_as (Some h) (Write name at bytes) answer.Worn ∷ []))
     (sym x.part)
-    (one_backs (worn_once h x.word x.words) _ refl (inl (inl (refl, refl))) (omega arith) ended refl))
+    (one_backs (worn_once h x.word x.words) _ refl (inl (inl (refl, refl)))
+    (omega arith) ended refl))
 write_here h at name bytes place.NotHere r v d says x = absurd says
 write_here h at name bytes place.Moving r v d says x = absurd says
 write_here h at name bytes (place.Raced saw other) r v d says x = absurd says
@@ -517,7 +532,8 @@ filter_off c h start es took gave (done few does) =
 filter_needs : (c : Config) (h : ℕ) (name : List ℕ) (r : Reply) (v : View) (d : Part)
     → IsNotOfRoom r → (x : TurnAdds c (job.Filter (the_handle h)) (Ok r) v d)
     → Meets (turn_part x.turn x.more x.within x.later) (need_of (Some h) (Filter name) r)
-filter_needs c h name answer.Freed v d off x = absurd (filter_off c h x.turn.start x.turn.acts x.turn.took
+filter_needs c h name answer.Freed v d off x =
+    absurd (filter_off c h x.turn.start x.turn.acts x.turn.took
     x.turn.gave (asked_alone c x.turn (job.Filter (the_handle h)) (Some answer.Freed) tt x.job_is
     x.reply_is x.did))
 filter_needs c h name (answer.Full n) v d off x = its_turn c _ (Some h) _ _ v d refl x refl
@@ -528,13 +544,15 @@ filter_needs c h name answer.Worn v d off x = its_turn c _ (Some h) _ _ v d refl
 filter_needs c h name r v d off x = tt
 
 filter_line : (c : Config) (h : ℕ) (name : List ℕ) (r : Reply) (v w : View)
-    → TurnBy c (job.Filter (the_handle h)) (Ok r) v w → LineAdds v w (told_as (Some h) (Filter name) r)
-filter_line c h name r v w x = by_turn c (job.Filter (the_handle h)) (Some h) (Filter name) r v w (record {
-  enters = λ es y. y;
-  no_pin = refl;
-  turned = both _ [] [] ended;
-  happens = refl;
-}) (λ d y. filter_needs c h name r v d (λ frames loose nodes is.
+    → TurnBy c (job.Filter (the_handle h)) (Ok r) v w
+    → LineAdds v w (told_as (Some h) (Filter name) r)
+filter_line c h name r v w x = by_turn c (job.Filter (the_handle h)) (Some h) (Filter name) r v w
+    (record {
+      enters = λ es y. y;
+      no_pin = refl;
+      turned = both _ [] [] ended;
+      happens = refl;
+    }) (λ d y. filter_needs c h name r v d (λ frames loose nodes is.
     subst (IsReplyOf (Filter name)) is (filter_reply c h name r v w x)) y) x
 
 -- ---- a pin
@@ -544,7 +562,8 @@ pin_ends c h name (answer.Version version) v w x = (
   read_once h x.word version x.words,
   adds_by v w (read_once h x.word version x.words) v.own
       (stand h (len_of x.word) (place_of x.word) version x.words ∷ v.pins) x.left,
-  one_backs (read_once h x.word version x.words) _ refl (inl (refl, refl, refl)) (omega arith) ended refl,
+  one_backs (read_once h x.word version x.words) _ refl (inl (refl, refl, refl))
+      (omega arith) ended refl,
 )
 pin_ends c h name answer.Freed v w x = (
   looked_freed h x.1 x.0,
@@ -552,8 +571,12 @@ pin_ends c h name answer.Freed v w x = (
   freed_backs h (Pin name) x.1 x.0 refl (λ m. m) x.2 refl refl refl,
 )
 pin_ends c h name answer.ScopeFull v w x = absurd x
-pin_ends c h name r v w x =
-    (x.0, adds_grown v w x.0 x.2, bring_backs c h (Pin name) r v x.0 (pin_by_bringing h name) x.1.turned)
+pin_ends c h name r v w x = (
+  x.0,
+  adds_grown v w x.0 x.2,
+  bring_backs c h (Pin name) r v x.0
+      (pin_by_bringing h name) x.1.turned,
+)
 
 pin_at_last : (c : Config) (h : ℕ) (name : List ℕ) (r : Reply) (v w : View)
     → PinsAtLast c h r v w → LineAdds v w (told_as (Some h) (Pin name) r)
@@ -655,7 +678,7 @@ call_adds : (c : Config) (h : ℕ) (q : Request) (r : Reply) (v w : View)
 call_adds c h (Read name) r v w x = read_line c h name r v w x
 call_adds c h (Write name at bytes) r v w x = write_line c h at name bytes r v w x
 call_adds c h (Free name) r v w x = free_line c h name r v w x
-call_adds c h (Pin name) r v w x = pin_line c h name r v w x
+call_adds c h (Pin name) r v w x = pin_line c h name r v w x.0
 call_adds c h (Peek name) r v w x = peek_line h name r v w x
 call_adds c h (Unpin name) r v w x = unpin_line h name r v w x
 call_adds c h (Filter name) r v w x = filter_line c h name r v w x

@@ -1,11 +1,10 @@
 -- A line of a lane beside others is answered a reply that it may have.
-use Rattle.std.proofs.Common.{◌≡◌, ℕ, Bool, List, [], ◌∷◌, ◌++◌, Option, None, Some, Ok, inl, inr, subst}
+use Rattle.std.proofs.Common.{◌≡◌, ℕ, Bool, List, [], ◌∷◌, ◌++◌, Option, None, Some, Ok, inl, inr}
+use Rattle.std.proofs.Common.{subst}
 use Rattle.std.specs.List.{AllByRecursion}
 use Rattle.cb_ptr.specs.Word.{state_of}
-use Rattle.cb_member.specs.declared.names.Loss.{Loss}
 use Rattle.cb_types.specs.declared.answer.Answer.{Answer}
 use Rattle.cb_types.specs.declared.config.Config.{Config}
-use Rattle.cb_types.specs.declared.handle.SetId.{SetId}
 use Rattle.cb_types.specs.declared.job.Job.{Job}
 use Rattle.cb_types.specs.declared.job.Job.TheVariants as job
 use Rattle.cb_types.specs.declared.reply.Reply.{Reply}
@@ -21,7 +20,7 @@ use Rattle.cb_core.specs.Parts.{Holding}
 use Rattle.cb_core.specs.Turned.{Does}
 use Rattle.cb_rule.specs.declared.view.View.{View}
 use Rattle.cb_record.specs.Parts.{Part, grown}
-use Rattle.cb_shared.specs.Calls.{IsAnswer, IsLack, ReadCallEnds, ReadGives, SaysAs, TurnGives}
+use Rattle.cb_shared.specs.Calls.{IsAnswer, ReadCallEnds, ReadGives, SaysAs, TurnGives}
 use Rattle.cb_shared.specs.Calls.{again_in}
 use Rattle.cb_shared.specs.Calls.{WriteAnswers, WriteCallEnds, the_handle}
 use Rattle.cb_shared.specs.declared.answers.WriteAnswer.{WriteAnswer}
@@ -29,13 +28,13 @@ use Rattle.cb_shared.specs.declared.answers.WriteAnswer.TheVariants as place
 use Rattle.cb_core.specs.Jobs.{NeedsNoOrder}
 use Rattle.cb_shared.specs.Turning.{DidAs, ReadsByPin, Slate, TurnAdds, TurnBy, slate_run}
 use Rattle.cb_shared.specs.Turning.{slate_shows}
-use Rattle.cb_shared.proofs.Laws.{asked_alone, read_lacks}
-use Rattle.cb_lanes.proofs.AskedTurns.{OwnOrLack, brings_lack, write_own}
+use Rattle.cb_shared.proofs.Laws.{OwnOrLack, asked_alone, brings_lack, read_lacks, write_own}
 use Rattle.cb_lanes.specs.declared.body.Named.{Named}
 use Rattle.cb_lanes.specs.Asked.{HasLineReply}
 use Rattle.cb_lanes.specs.Bodies.{LinesGo, handle_behind}
 use Rattle.cb_lanes.specs.LineGoes.{CallGoes, LineGoes}
 use Rattle.cb_lanes.specs.Passing.{PeekGoes, PinEnds, PinGoes, UnpinGoes, goes_in}
+use Rattle.cb_lanes.proofs.Lacks.{by_lack}
 use Rattle.cb_lanes.proofs.TurnReplies.{so, room_for, write_where, turned_so, free_as, filter_as}
 use Rattle.cb_lanes.proofs.TurnReplies.{evict_rule, begin_rule, ship_rule, commit_rule, abort_rule}
 use Rattle.cb_lanes.proofs.TurnReplies.{rebuild_step, crash_turn, join_turn}
@@ -49,7 +48,8 @@ module _ (c : Config) where
       by (asked_alone c x.turn j (Some r) alone x.job_is x.reply_is x.did)
     where
       by : DidAs c j (Some r) x.turn.start x.turn.acts x.turn.took x.turn.gave → IsReplyOf q r
-      by turned = turned_so slate_run slate_shows c ReadsByPin j q r _ _ (λ does. may _ _ does) last turned
+      by turned = turned_so slate_run slate_shows c ReadsByPin j q r _ _
+          (λ does. may _ _ does) last turned
 
   by_turn : (j : Job) (q : Request) (r : Reply) (v w : View) → NeedsNoOrder j
       → ((a b : Holding Slate) → Does slate_run slate_shows ReadsByPin c j a r b → IsReplyOf q r)
@@ -60,32 +60,25 @@ module _ (c : Config) where
   make_reply : (name bytes : List ℕ) (r : Reply) (v w : View) → TurnGives c (job.Make bytes) r v w
       → IsReplyOf (Make name bytes) r
   make_reply name bytes r v w (d, x, is) = turn_reply (job.Make bytes) (Make name bytes) r
-      (grown x.before v) x.last tt (λ a b y. room_for slate_run slate_shows c name bytes a b r y) tt x.ends_so.1
+      (grown x.before v) x.last tt (λ a b y. room_for slate_run slate_shows c name bytes a b r y) tt
+      x.ends_so.1
 
   free_reply : (h : ℕ) (name : List ℕ) (r : Reply) (v w : View)
       → TurnGives c (job.Free (the_handle h)) r v w → IsReplyOf (Free name) r
   free_reply h name r v w (d, x, is) = turn_reply (job.Free (the_handle h)) (Free name) r
       (grown x.before v) x.last tt (λ a b y.
-      free_as (state_of y.rule.reply.word) h y.rule.reply.word name y.events r y.rule.reply.answer) tt
+      free_as (state_of y.rule.reply.word) h y.rule.reply.word name y.events r y.rule.reply.answer)
+      tt
       x.ends_so.1
 
-  -- why an object can't be brought in, for a line that may be told so
-  lack_reply : (q : Request) (again : Bool) (r : Reply)
-      → ((set : SetId) (lost : List Loss) → IsReplyOf q (answer.Unavailable set lost))
-      → ((frames loose nodes : ℕ) → IsReplyOf q (answer.NoRoom frames loose nodes))
-      → IsReplyOf q answer.Worn → IsLack again r → IsReplyOf q r
-  lack_reply q again (answer.Unavailable set lost) away room worn x = away set lost
-  lack_reply q again answer.Worn away room worn x = worn
-  lack_reply q again (answer.NoRoom frames loose nodes) away room worn x = room frames loose nodes
-  lack_reply q again r away room worn x = absurd x
-
+  -- why an object can't be brought in may be told to these lines
   read_ends : (h : ℕ) (name : List ℕ) (r : Reply) (v : View) (d : Part) → ReadCallEnds c h r v d
       → IsReplyOf (Read name) r
   read_ends h name (answer.Bytes version bytes) v d x = tt
   read_ends h name answer.Freed v d x = tt
   read_ends h name r v d x =
-      lack_reply (Read name) (again_in d.turns) r (λ set lost. tt) (λ frames loose nodes. tt) tt
-      (read_lacks c h r v d (λ t. t) x)
+      by_lack (IsReplyOf (Read name)) (λ set lost. tt) (λ frames loose nodes. tt) tt
+      (again_in d.turns) r (read_lacks c h r v d (λ t. t) x)
 
   read_reply : (h : ℕ) (name : List ℕ) (r : Reply) (v w : View) → ReadGives c h r v w
       → IsReplyOf (Read name) r
@@ -93,10 +86,12 @@ module _ (c : Config) where
 
   says_so : (name bytes : List ℕ) (at : ℕ) (a : WriteAnswer) (r : Reply) → SaysAs a r
       → IsReplyOf (Write name at bytes) r
-  says_so name bytes at (place.Ok version) r is = so (Write name at bytes) r (answer.Version version) tt is
+  says_so name bytes at (place.Ok version) r is =
+      so (Write name at bytes) r (answer.Version version) tt is
   says_so name bytes at place.Freed r is = so (Write name at bytes) r answer.Freed tt is
   says_so name bytes at (place.Range len) r is = so (Write name at bytes) r (answer.Range len) tt is
-  says_so name bytes at (place.Pinned count) r is = so (Write name at bytes) r (answer.Pinned count) tt is
+  says_so name bytes at (place.Pinned count) r is =
+      so (Write name at bytes) r (answer.Pinned count) tt is
   says_so name bytes at place.Worn r is = so (Write name at bytes) r answer.Worn tt is
   says_so name bytes at place.NotHere r is = absurd is
   says_so name bytes at place.Moving r is = absurd is
@@ -120,10 +115,11 @@ module _ (c : Config) where
 
       by : OwnOrLack c work h r v d → IsReplyOf (Write name at bytes) r
       by (inl y) = turn_reply work (Write name at bytes) r v d tt
-          (λ a b z. write_where slate_run slate_shows c name bytes h at a b r (here_again _ r y.0) z)
+          (λ a b z. write_where slate_run slate_shows c name bytes h at a b r
+          (here_again _ r y.0) z)
           tt y.1
-      by (inr y) = lack_reply (Write name at bytes) (again_in d.turns) r (λ set lost. tt)
-          (λ frames loose nodes. tt) tt (brings_lack c h r v d y)
+      by (inr y) = by_lack (IsReplyOf (Write name at bytes)) (λ set lost. tt)
+          (λ frames loose nodes. tt) tt (again_in d.turns) r (brings_lack c h r v d y)
 
   write_reply : (h at : ℕ) (name bytes : List ℕ) (r : Reply) (v w : View)
       → WriteAnswers c h at bytes r v w → IsReplyOf (Write name at bytes) r
@@ -142,8 +138,8 @@ module _ (c : Config) where
   pin_ends h name (answer.Version version) v w x = tt
   pin_ends h name answer.Freed v w x = tt
   pin_ends h name answer.ScopeFull v w x = tt
-  pin_ends h name r v w x = lack_reply (Pin name) (again_in x.0.turns) r (λ set lost. tt)
-      (λ frames loose nodes. tt) tt (brings_lack c h r v x.0 x.1.turned)
+  pin_ends h name r v w x = by_lack (IsReplyOf (Pin name)) (λ set lost. tt)
+      (λ frames loose nodes. tt) tt (again_in x.0.turns) r (brings_lack c h r v x.0 x.1.turned)
 
   pin_reply : (h : ℕ) (name : List ℕ) (r : Reply) (v w : View) → PinGoes c h v r w
       → IsReplyOf (Pin name) r
@@ -166,7 +162,7 @@ module _ (c : Config) where
   call_reply h (Read name) r v w x = read_reply h name r v w x
   call_reply h (Write name at bytes) r v w x = write_reply h at name bytes r v w x
   call_reply h (Free name) r v w x = free_reply h name r v w x
-  call_reply h (Pin name) r v w x = pin_reply h name r v w x
+  call_reply h (Pin name) r v w x = pin_reply h name r v w x.0
   call_reply h (Peek name) r v w x = peek_reply h name r v w x
   call_reply h (Unpin name) r v w x = unpin_reply h name r v w x
   call_reply h (Filter name) r v w x = filter_reply h name r v w x

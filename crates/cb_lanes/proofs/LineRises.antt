@@ -20,7 +20,7 @@ use Rattle.cb_shared.specs.Reading.{IsReadHere}
 use Rattle.cb_shared.specs.Turning.{JobReads}
 use Rattle.cb_lanes.specs.LineGoes.{CallGoes, Calls, LineGoes, Peeks}
 use Rattle.cb_lanes.specs.Passing.{IsPinnedOnce, PinGoes, goes_in}
-use Rattle.cb_lanes.proofs.AskedTurns.{OwnOrLack, brings_lack, read_own}
+use Rattle.cb_shared.proofs.Laws.{OwnOrLack, brings_lack, read_own}
 use Rattle.cb_lanes.proofs.LineParts.{about, make_handle}
 use Rattle.cb_lanes.proofs.LineVersions.{by_line}
 use Rattle.cb_lanes.proofs.PinsRead.{has_grown}
@@ -71,7 +71,8 @@ pin_higher : (c : Config) (h : ℕ) (name : List ℕ) (r : Reply) (v w : View) �
     → IsHigher v h (event_of (Pin name) r)
 pin_higher c h name (answer.Version version) v w (room, x) n freed has =
     let once : IsPinnedOnce h version x.between w = x.ends_so in
-    newest_above h version x.between once.newest n freed (subst (λ (z : View). HasVersion z h n freed)
+    newest_above h version x.between once.newest n freed
+    (subst (λ (z : View). HasVersion z h n freed)
     (sym x.in_vain.2) (has_grown x.in_vain.0 v h n freed has))
 pin_higher c h name answer.Freed v w x n freed has = tt
 pin_higher c h name r v w x n freed has = tt
@@ -95,11 +96,13 @@ peek_higher h name (answer.Bytes version bytes) v new n freed has = new n freed 
 peek_higher h name answer.Freed v new n freed has = tt
 peek_higher h name r v new n freed has = tt
 
-unpin_higher : (h : ℕ) (name : List ℕ) (r : Reply) (v : View) → IsHigher v h (event_of (Unpin name) r)
+unpin_higher : (h : ℕ) (name : List ℕ) (r : Reply) (v : View)
+    → IsHigher v h (event_of (Unpin name) r)
 unpin_higher h name answer.Freed v n freed has = tt
 unpin_higher h name r v n freed has = tt
 
-filter_higher : (h : ℕ) (name : List ℕ) (r : Reply) (v : View) → IsHigher v h (event_of (Filter name) r)
+filter_higher : (h : ℕ) (name : List ℕ) (r : Reply) (v : View)
+    → IsHigher v h (event_of (Filter name) r)
 filter_higher h name answer.Freed v n freed has = tt
 filter_higher h name r v n freed has = tt
 
@@ -110,7 +113,7 @@ module _ (c : Config) (v w : View) (r : Reply) where
       (ask_new c (Calls (job.Write (record { n = h }) at bytes)) v r w x)
   call_higher h (Free name) x = free_higher h name r v
       (ask_new c (Calls (job.Free (record { n = h }))) v r w x)
-  call_higher h (Pin name) x = pin_higher c h name r v w x
+  call_higher h (Pin name) x = pin_higher c h name r v w x.0
   call_higher h (Peek name) x = peek_higher h name r v (ask_new c (Peeks h) v r w x)
   call_higher h (Unpin name) x = unpin_higher h name r v
   call_higher h (Filter name) x = filter_higher h name r v

@@ -146,11 +146,13 @@ peek_stands h name (answer.Bytes version bytes) v w read all (inr x) = all h ver
 peek_stands h name answer.Freed v w read all x = tt
 peek_stands h name r v w read all x = tt
 
-quiet_unpin : (w : View) (h : ℕ) (name : List ℕ) (r : Reply) → StandsInRecord w h (event_of (Unpin name) r)
+quiet_unpin : (w : View) (h : ℕ) (name : List ℕ) (r : Reply)
+    → StandsInRecord w h (event_of (Unpin name) r)
 quiet_unpin w h name answer.Freed = tt
 quiet_unpin w h name r = tt
 
-quiet_filter : (w : View) (h : ℕ) (name : List ℕ) (r : Reply) → StandsInRecord w h (event_of (Filter name) r)
+quiet_filter : (w : View) (h : ℕ) (name : List ℕ) (r : Reply)
+    → StandsInRecord w h (event_of (Filter name) r)
 quiet_filter w h name answer.Freed = tt
 quiet_filter w h name r = tt
 
@@ -191,20 +193,24 @@ module _ (c : Config) (v w : View) (r : Reply) where
   call_stands : PinsRead v → (h : ℕ) (q : Request) → CallGoes (goes_in c) h q v r w
       → StandsInRecord w h (event_of q r)
   call_stands read h (Read name) x =
-      let one : LineAdds v w (told_as (Some h) (Read name) r) = line_adds c (Some h) (Read name) r v w x in
+      let one : LineAdds v w (told_as (Some h) (Read name) r) =
+      line_adds c (Some h) (Read name) r v w x in
       backed_read v w one.0 one.1 h name r one.2
   call_stands read h (Write name at bytes) x =
       let one : LineAdds v w (told_as (Some h) (Write name at bytes) r) =
       line_adds c (Some h) (Write name at bytes) r v w x in
       backed_write v w one.0 one.1 h at name bytes r one.2
   call_stands read h (Free name) x =
-      let one : LineAdds v w (told_as (Some h) (Free name) r) = line_adds c (Some h) (Free name) r v w x in
+      let one : LineAdds v w (told_as (Some h) (Free name) r) =
+      line_adds c (Some h) (Free name) r v w x in
       backed_free v w one.0 one.1 h name r one.2
   call_stands read h (Pin name) x =
-      let one : LineAdds v w (told_as (Some h) (Pin name) r) = line_adds c (Some h) (Pin name) r v w x in
+      let one : LineAdds v w (told_as (Some h) (Pin name) r) =
+      line_adds c (Some h) (Pin name) r v w x in
       backed_pin v w one.0 one.1 h name r one.2
   call_stands read h (Peek name) x =
-      let one : LineAdds v w (told_as (Some h) (Peek name) r) = line_adds c (Some h) (Peek name) r v w x in
+      let one : LineAdds v w (told_as (Some h) (Peek name) r) =
+      line_adds c (Some h) (Peek name) r v w x in
       peek_stands h name r v w read (adds_all v w one.0 one.1) x
   call_stands read h (Unpin name) x = quiet_unpin w h name r
   call_stands read h (Filter name) x = quiet_filter w h name r

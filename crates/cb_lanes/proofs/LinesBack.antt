@@ -52,7 +52,8 @@ handle_append [] before name = first_none (handle_of before name)
 handle_append (a ∷ given) before name =
     ap (λ (o : Option ℕ). first_of o (handle_made name a.request a.reply))
     (handle_append given before name)
-    ∙ first_assoc (handle_of before name) (handle_of given name) (handle_made name a.request a.reply)
+    ∙ first_assoc (handle_of before name) (handle_of given name)
+    (handle_made name a.request a.reply)
 
 pub named_behind : (names : List Named) (given before : List Answer) (o : Option (List ℕ))
     → AreNamesOf names given → handle_named (given ++ before) o ≡ handle_behind names before o
@@ -90,7 +91,8 @@ lines_more c names before after x v m w goes later = (
     h : Option ℕ
     h = handle_behind names before (name_of x.request)
 
-    one : (d : Part) × Adds v d m × Backs d (told_as (about h x.request x.reply) x.request x.reply ∷ [])
+    one : (d : Part) × Adds v d m
+        × Backs d (told_as (about h x.request x.reply) x.request x.reply ∷ [])
     one = line_adds c h x.request x.reply v m goes
 
 pub lines_add : (c : Config) (names : List Named) (before after : List Answer) (v w : View)
@@ -98,7 +100,8 @@ pub lines_add : (c : Config) (names : List Named) (before after : List Answer) (
 lines_add c names before [] v w is =
     (nothing_more, adds_none v w is, λ given are. idle_backs nothing_more refl refl)
 lines_add c names before (x ∷ after) v w (m, goes, rest) =
-    lines_more c names before after x v m w goes (lines_add c names (before ++ x ∷ []) after m w rest)
+    lines_more c names before after x v m w goes
+    (lines_add c names (before ++ x ∷ []) after m w rest)
 
 pub lane_adds : (c : Config) (names : List Named) (answers : List Answer) (v w : View)
     → v.pins ≡ [] → LaneGoes c names v answers w → AddsBacked names answers v w
@@ -147,7 +150,8 @@ number_made kept (Make made bytes) (answer.Made handle version) name = by (bytes
 number_made kept (Make made bytes) r name = refl
 number_made kept q r name = refl
 
-pub handles_push : (names : List Named) (kept later : KeptNames) (answers : List Answer) (a : Answer)
+pub handles_push : (names : List Named) (kept later : KeptNames) (answers : List Answer)
+    (a : Answer)
     → KeepHandles kept names answers → AreKept kept a.request a.reply later
     → KeepHandles later names (answers ++ a ∷ [])
 handles_push names kept later answers a keep are name = are name
@@ -158,7 +162,8 @@ handles_push names kept later answers a keep are name = are name
     ∙ ap (λ (o : Option ℕ). first_of o (handle_among names name))
     (sym (handle_append answers (a ∷ []) name))
 
-pub handle_kept : (names : List Named) (kept : KeptNames) (answers : List Answer) (o : Option (List ℕ))
+pub handle_kept : (names : List Named) (kept : KeptNames) (answers : List Answer)
+    (o : Option (List ℕ))
     → KeepHandles kept names answers → kept_for kept o ≡ handle_behind names answers o
 handle_kept names kept answers None keep = refl
 handle_kept names kept answers (Some name) keep = keep name
@@ -191,7 +196,8 @@ record IsMakeLine (q : Request) (r : Reply) (k : ℕ) : Type 0 where
 
 number_case : (kept : KeptNames) (q : Request) (r : Reply) (name : List ℕ) (k : ℕ)
     → number_after kept q r name ≡ Some k → (kept_number kept name ≡ Some k) ⊎ IsMakeLine q r k
-number_case kept (Make made bytes) (answer.Made handle version) name k is = by (bytes_eq made name) is
+number_case kept (Make made bytes) (answer.Made handle version) name k is =
+    by (bytes_eq made name) is
   where
     by : (b : Bool) → cond b (Some handle.n) (kept_number kept name) ≡ Some k
         → (kept_number kept name ≡ Some k)

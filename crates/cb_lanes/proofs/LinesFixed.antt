@@ -45,7 +45,8 @@ AreOneEnd r q a b = (r ≡ q) × (a ≡ b)
 
 -- ---- pins that are given back
 ends_fixed : (seat : ℕ) (pins : List Held) (rs qs : List Reply) (w a b : WorldState)
-    → Leads w (map (unpin_event seat) pins) rs a → Leads w (map (unpin_event seat) pins) qs b → a ≡ b
+    → Leads w (map (unpin_event seat) pins) rs a → Leads w (map (unpin_event seat) pins) qs b
+    → a ≡ b
 ends_fixed seat [] [] [] w a b x y = x ∙ sym y
 ends_fixed seat [] [] (q ∷ qs) w a b x y = absurd y
 ends_fixed seat [] (r ∷ rs) qs w a b x y = absurd x
@@ -59,7 +60,8 @@ ends_fixed seat (pin ∷ pins) (r ∷ rs) (q ∷ qs) w a b x y =
 all_fixed : (seat : ℕ) (w a b : WorldState) → GivesAll seat w a → GivesAll seat w b → a ≡ b
 all_fixed seat w a b x y = ends_fixed seat (reverse (pins_of_seat w.seats seat)) _ _ w a b x y
 
-rests_fixed : (left seat : ℕ) (w a b : WorldState) → Rests left seat w a → Rests left seat w b → a ≡ b
+rests_fixed : (left seat : ℕ) (w a b : WorldState) → Rests left seat w a → Rests left seat w b
+    → a ≡ b
 rests_fixed zero seat w a b x y = all_fixed seat w a b x y
 rests_fixed (suc left) seat w a b x y = x ∙ sym y
 
@@ -111,11 +113,14 @@ module _ (seat h : ℕ) (w a b : WorldState) (r q : Reply) (sound : IsSoundWorld
   turn_fixed : (j : Job) → Step w (Turn seat j) r a → Step w (Turn seat j) q b → AreOneEnd r q a b
   turn_fixed j x y = step_fixes w a b (Turn seat j) r q sound x y
 
-object_fixed : (side : Side) (seat : ℕ) (handle : Option ℕ) (request : Request) (w a b : WorldState) (r q : Reply)
-    → IsSoundWorld w → ObjectStep side seat handle request w r a → ObjectStep side seat handle request w q b
+object_fixed : (side : Side) (seat : ℕ) (handle : Option ℕ) (request : Request) (w a b : WorldState)
+    (r q : Reply)
+    → IsSoundWorld w → ObjectStep side seat handle request w r a
+    → ObjectStep side seat handle request w q b
     → AreOneEnd r q a b
 object_fixed side seat None request w a b r q sound x y = (x.0 ∙ sym y.0, x.1 ∙ sym y.1)
-object_fixed side seat (Some h) (Pin name) w a b r q sound x y = pin_fixed seat h w a b r q sound x y
+object_fixed side seat (Some h) (Pin name) w a b r q sound x y =
+    pin_fixed seat h w a b r q sound x y
 object_fixed side seat (Some h) (Peek name) w a b r q sound x y = peek_fixed seat h w a b r q x y
 object_fixed side seat (Some h) (Unpin name) w a b r q sound x y =
     unpin_fixed seat h w a b r q x y
@@ -181,17 +186,21 @@ lanes_asked (a ∷ answers) = ap (λ (l : List ℕ). a.lane.n ∷ l) (lanes_aske
 
 -- what remains once both lists begin with one answer
 pub lines_fix : (side : Side) (before : List Answer) (w a b : WorldState) (xs ys : List Answer)
-    → IsSoundWorld w → LinesLeadSoundly side before w xs a → LinesLead side before w ys b → map asked xs ≡ map asked ys
+    → IsSoundWorld w → LinesLeadSoundly side before w xs a → LinesLead side before w ys b
+    → map asked xs ≡ map asked ys
     → (xs ≡ ys) × (a ≡ b)
 lines_fix side before w a b [] [] sound x y lines = (refl, x ∙ sym y)
 lines_fix side before w a b [] (d ∷ ys) sound x y lines =
-    absurd (let n : 0 ≡ suc (length (map asked ys)) = ap (λ (l : List Line). length l) lines in omega (arith, n))
+    absurd (let n : 0 ≡ suc (length (map asked ys)) = ap
+    (λ (l : List Line). length l) lines in omega (arith, n))
 lines_fix side before w a b (c ∷ xs) [] sound x y lines =
-    absurd (let n : suc (length (map asked xs)) ≡ 0 = ap (λ (l : List Line). length l) lines in omega (arith, n))
+    absurd (let n : suc (length (map asked xs)) ≡ 0 = ap
+    (λ (l : List Line). length l) lines in omega (arith, n))
 lines_fix side before w a b (c ∷ xs) (d ∷ ys) sound x y lines =
     let split = heads_same (asked c) (asked d) (map asked xs) (map asked ys) lines in
     let line = split.0 in
-    let done = line_fixes side d.lane.n (handle_named before (name_of d.request)) d.request w x.0 y.0 c.reply
+    let done = line_fixes side d.lane.n (handle_named before (name_of d.request)) d.request w x.0
+    y.0 c.reply
     d.reply sound (subst (λ (l : Line). AskedStep side before l w c.reply x.0) line x.2) y.2 in
     let same : c ≡ d = λ i. record {
       lane = (line i).lane;
@@ -199,16 +208,20 @@ lines_fix side before w a b (c ∷ xs) (d ∷ ys) sound x y lines =
       request = (line i).request;
       reply = done.0 i;
     } in
-    let lanes : map (λ (e : Answer). e.lane.n) xs ≡ map (λ (e : Answer). e.lane.n) ys = lanes_asked xs
+    let lanes : map (λ (e : Answer). e.lane.n) xs ≡ map (λ (e : Answer). e.lane.n) ys =
+    lanes_asked xs
     ∙ ap (map (λ (l : Line). l.lane.n)) split.1 ∙ sym (lanes_asked ys) in
     let left : lines_by c.lane.n (map (λ (e : Answer). e.lane.n) xs)
     ≡ lines_by d.lane.n (map (λ (e : Answer). e.lane.n) ys) =
     λ i. lines_by (same i).lane.n (lanes i) in
-    let rested = rests_fixed (lines_by d.lane.n (map (λ (e : Answer). e.lane.n) ys)) d.lane.n y.0 x.1 y.1
-    (subst (λ (v : WorldState). Rests (lines_by d.lane.n (map (λ (e : Answer). e.lane.n) ys)) d.lane.n v x.1)
+    let rested = rests_fixed (lines_by d.lane.n (map (λ (e : Answer). e.lane.n) ys)) d.lane.n y.0
+    x.1 y.1
+    (subst (λ (v : WorldState). Rests (lines_by d.lane.n (map (λ (e : Answer). e.lane.n) ys))
+    d.lane.n v x.1)
     done.1
     (subst (λ (n : ℕ). Rests n d.lane.n x.0 x.1) left
-    (subst (λ (e : Answer). Rests (lines_by c.lane.n (map (λ (f : Answer). f.lane.n) xs)) e.lane.n x.0 x.1)
+    (subst (λ (e : Answer). Rests (lines_by c.lane.n (map (λ (f : Answer). f.lane.n) xs)) e.lane.n
+    x.0 x.1)
     same x.3))) y.3 in
     let rest = lines_fix side (before ++ c ∷ []) x.1 a b xs ys x.4.sound x.5
     (subst (λ (v : WorldState). LinesLead side (before ++ c ∷ []) v ys b) (sym rested)

@@ -94,24 +94,25 @@ unbound version (Refused subject) none = tt
 unbound version Wrong none = tt
 
 module _ (v : View) (h : ℕ) (later : Event)
-    (behind : (n : ℕ) (freed : Bool) → HasVersion v h n freed → MayFollowVersion n freed later) where
-  follows_at : (version n : ℕ) → HasVersion v h version false → Some version ≡ Some n
-      → IsNotBelow n later
-  follows_at version n x is = subst (λ (k : ℕ). IsNotBelow k later) (same_Some version n is)
-      (behind version false x)
+    (behind : (n : ℕ) (freed : Bool) → HasVersion v h n freed → MayFollowVersion n freed later)
+  where
+    follows_at : (version n : ℕ) → HasVersion v h version false → Some version ≡ Some n
+        → IsNotBelow n later
+    follows_at version n x is = subst (λ (k : ℕ). IsNotBelow k later) (same_Some version n is)
+        (behind version false x)
 
-  follows : (e : Event) → StandsInRecord v h e → MayComeLater e later
-  follows (Makes bytes version) x = λ n is. follows_at version n x is
-  follows (Shows version bytes) x = λ n is. follows_at version n x is
-  follows (Pins version) x = λ n is. follows_at version n x is
-  follows (Writes at bytes version) x = λ n is. follows_at version n x is
-  follows (Frees version) x = λ n is. unbound n later (behind version true x)
-  follows FindsFreed x = behind x.0 true x.1
-  follows (FindsFull handles) x = λ n is. absurd (none-some n is)
-  follows FindsUnmade x = λ n is. absurd (none-some n is)
-  follows (FindsEnd at bytes len) x = λ n is. absurd (none-some n is)
-  follows (Refused subject) x = λ n is. absurd (none-some n is)
-  follows Wrong x = λ n is. absurd (none-some n is)
+    follows : (e : Event) → StandsInRecord v h e → MayComeLater e later
+    follows (Makes bytes version) x = λ n is. follows_at version n x is
+    follows (Shows version bytes) x = λ n is. follows_at version n x is
+    follows (Pins version) x = λ n is. follows_at version n x is
+    follows (Writes at bytes version) x = λ n is. follows_at version n x is
+    follows (Frees version) x = λ n is. unbound n later (behind version true x)
+    follows FindsFreed x = behind x.0 true x.1
+    follows (FindsFull handles) x = λ n is. absurd (none-some n is)
+    follows FindsUnmade x = λ n is. absurd (none-some n is)
+    follows (FindsEnd at bytes len) x = λ n is. absurd (none-some n is)
+    follows (Refused subject) x = λ n is. absurd (none-some n is)
+    follows Wrong x = λ n is. absurd (none-some n is)
 
 -- ---- lists of calls
 
@@ -125,7 +126,8 @@ never_falls v earlier later stands behind h told on_e on_l = follows v h later.e
     (λ n freed has. behind h n freed on_l has) earlier.event (stands h on_e)
 
 -- ---- lines
-module _ (c : Config) (names : List Named) (given : List Answer) (are : AreNamesOf names given) where
+module _ (c : Config) (names : List Named) (given : List Answer)
+    (are : AreNamesOf names given) where
   -- the record keeps what it has
   lines_all : (before after : List Answer) (v w : View) → LinesGo (goes_in c) names before v after w
       → HasAllOf v w
@@ -142,19 +144,22 @@ module _ (c : Config) (names : List Named) (given : List Answer) (are : AreNames
       → LineGoes (goes_in c) (handle_behind names before (name_of x.request)) x.request v x.reply m
       → StandsOn m (called (given ++ before) x)
   one_stands before x v m read goes h on = line_stands c v m x.reply read
-      (handle_behind names before (name_of x.request)) x.request goes h (sym (handle_is before x) ∙ on)
+      (handle_behind names before (name_of x.request)) x.request goes h
+      (sym (handle_is before x) ∙ on)
 
   stands_on : (before after : List Answer) (v w all : View) → PinsRead v
       → LinesGo (goes_in c) names before v after w → HasAllOf w all
       → AllByRecursion (StandsOn all) (calls_behind (given ++ before) after)
   stands_on before [] v w all read goes more = tt
   stands_on before (x ∷ after) v w all read (m, one, rest) more = (
-    λ h on. stands_more m all h _ (has_both m w all (lines_all (before ++ x ∷ []) after m w rest) more)
+    λ h on. stands_more m all h _
+        (has_both m w all (lines_all (before ++ x ∷ []) after m w rest) more)
         (one_stands before x v m read one h on),
     subst (λ (l : List Answer). AllByRecursion (StandsOn all) (calls_behind l after))
         (sym (append_assoc given before (x ∷ [])))
         (stands_on (before ++ x ∷ []) after m w all
-        (line_pins c (handle_behind names before (name_of x.request)) x.request x.reply v m one read)
+        (line_pins c (handle_behind names before (name_of x.request)) x.request x.reply v m one
+        read)
         rest more),
   )
 
@@ -166,7 +171,8 @@ module _ (c : Config) (names : List Named) (given : List Answer) (are : AreNames
       (λ call x h on. stands_known w h call.event (x h on))
       (stands_on before after v w w read goes (has_same w))
 
-  -- a line is answered as behind all that the record had, where behind a freed version there is none
+  -- a line is answered as behind all that the record had, where behind a freed version there is
+  -- none
   pub one_behind : (before : List Answer) (x : Answer) (v m all : View) → PinsRead v
       → LineGoes (goes_in c) (handle_behind names before (name_of x.request)) x.request v x.reply m
       → HasAllOf v m → HasAllOf m all → FreedIsLast all → IsBehind v (called (given ++ before) x)
@@ -197,7 +203,8 @@ module _ (c : Config) (names : List Named) (given : List Answer) (are : AreNames
   }
     where
       keeps : HasAllOf v m
-      keeps = let a = line_adds c (handle_behind names before (name_of x.request)) x.request x.reply v m one in
+      keeps = let a = line_adds c (handle_behind names before (name_of x.request)) x.request x.reply
+          v m one in
           adds_all v m a.0 a.1
 
       later : RisesFrom m (calls_behind ((given ++ before) ++ x ∷ []) after)

@@ -1,5 +1,6 @@
 -- The answers of a lane's lines suit the handles of their names, and what its pass has read.
-use Rattle.std.proofs.Common.{Bool, ◌≡◌, ◌≢◌, ℕ, List, [], ◌∷◌, ◌++◌, length, Option, None, Some, inl}
+use Rattle.std.proofs.Common.{Bool, ◌≡◌, ◌≢◌, ℕ, List, [], ◌∷◌, ◌++◌, length, Option, None, Some}
+use Rattle.std.proofs.Common.{inl}
 use Rattle.std.proofs.Common.{inr, refl, sym, ap, ◌∙◌, append_assoc, subst}
 use Rattle.std.specs.List.{AllByRecursion}
 use Rattle.std.proofs.lemmas.List.{append-nil}
@@ -31,10 +32,9 @@ use Rattle.cb_record.specs.Upheld.{IsSeenLong}
 use Rattle.cb_record.proofs.Laws.{has_left}
 use Rattle.cb_shared.specs.Calls.{IsAnswer, IsLack, ReadCallEnds, ReadGives, SaysAs, WriteCallEnds}
 use Rattle.cb_shared.specs.Calls.{again_in}
-use Rattle.cb_lanes.proofs.AskedTurns.{brings_lack, write_told}
+use Rattle.cb_shared.proofs.Laws.{brings_lack, read_lacks, write_told}
 use Rattle.cb_shared.specs.declared.answers.WriteAnswer.{WriteAnswer}
 use Rattle.cb_shared.specs.declared.answers.WriteAnswer.TheVariants as place
-use Rattle.cb_shared.proofs.Laws.{read_lacks}
 use Rattle.cb_lanes.specs.declared.body.Named.{Named}
 use Rattle.cb_lanes.specs.Asked.{HasLineReply}
 use Rattle.cb_lanes.specs.Bodies.{AreNamesOf, KnowsNames, LaneGoes, LinesGo, handle_behind}
@@ -55,7 +55,8 @@ adds_seen v w d x s has = subst (λ (z : View). Has s z.seen) (sym x) (reads_gro
 
 one_more : {A : Type 0} (P Q : A → Type 0) (xs ys : List A) → ((x : A) → Has x xs → Has x ys)
     → ((x : A) → P x → Q x) → HasOne P xs → HasOne Q ys
-one_more {A = A} P Q xs ys all less one = let z = found xs one in put ys z.0 (all z.0 z.1) (less z.0 z.2)
+one_more {A = A} P Q xs ys all less one = let z =
+    found xs one in put ys z.0 (all z.0 z.1) (less z.0 z.2)
   where
     found : (zs : List A) → HasOne P zs → (x : A) × Has x zs × P x
     found [] none = absurd none
@@ -255,14 +256,16 @@ not_pin c h answer.ScopeFull v w x is = absurd cc
 not_pin c h r v w x is = not_pinned c h r x.1.between w x.1.ends_so is
 
 not_peek : (h : ℕ) (r : Reply) (v w : View) → PeekGoes h v r w → r ≢ answer.Unmade
-not_peek h r v w (inl x) is = absurd (let e : answer.Unmade ≡ answer.NotPinned = sym is ∙ x.told in cc)
+not_peek h r v w (inl x) is =
+    absurd (let e : answer.Unmade ≡ answer.NotPinned = sym is ∙ x.told in cc)
 not_peek h r v w (inr x) is = not_bytes x.pin.version _ (sym is ∙ x.peeks.told)
   where
     not_bytes : (version : ℕ) (bytes : List ℕ) → answer.Unmade ≡ answer.Bytes version bytes → ⊥
     not_bytes version bytes e = cc
 
 not_unpin : (h : ℕ) (r : Reply) (v w : View) → UnpinGoes h v r w → r ≢ answer.Unmade
-not_unpin h r v w (inl x) is = absurd (let e : answer.Unmade ≡ answer.NotPinned = sym is ∙ x.told in cc)
+not_unpin h r v w (inl x) is =
+    absurd (let e : answer.Unmade ≡ answer.NotPinned = sym is ∙ x.told in cc)
 not_unpin h r v w (inr x) is = absurd (let e : answer.Unmade ≡ answer.Done = sym is ∙ x.told in cc)
 
 -- ---- what is shown is as long as what was read
@@ -284,7 +287,8 @@ peek_shows h r v w read all (inr x) version bytes is =
       z.2,
       z.3 ∙ sym (ap bytes_version told),
       z.4,
-      z.5 ∙ sym (ap (λ (q : Reply). length (bytes_told q)) told ∙ bytes_length x.pin.words x.pin.len),
+      z.5 ∙ sym (ap (λ (q : Reply). length (bytes_told q)) told
+          ∙ bytes_length x.pin.words x.pin.len),
     )) (inl refl)
   where
     by : (s : Seen) → Has s ((newest_read v h x.pin v.pins read x.newest).0 ∷ []) → Has s w.seen
@@ -297,12 +301,19 @@ read_shows : (c : Config) (h : ℕ) (name : List ℕ) (r : Reply) (v w : View) �
     → (version : ℕ) (bytes : List ℕ) → r ≡ answer.Bytes version bytes
     → HasOne (IsSeenLong h version (length bytes)) w.seen
 read_shows c h name r v w x version bytes is =
-    let one : LineAdds v w (told_as (Some h) (Read name) r) = line_adds c (Some h) (Read name) r v w x in
+    let one : LineAdds v w (told_as (Some h) (Read name) r) =
+    line_adds c (Some h) (Read name) r v w x in
     let m : HasOne (IsReadAs h version bytes) one.0.seen =
     subst (λ (q : Reply). Meets one.0 (need_of (Some h) (Read name) q)) is one.2.tells.0 in
     one_more (IsReadAs h version bytes) (IsSeenLong h version (length bytes)) one.0.seen w.seen
     (λ s there. subst (λ (z : View). Has s z.seen) (sym one.1) (has_left s one.0.seen v.seen there))
-    (λ s is. (is.0, is.1, is.2, sym (bytes_length s.words s.len) ∙ ap (λ (b : List ℕ). length b) (sym is.3)))
+    (λ s is. (
+      is.0,
+      is.1,
+      is.2,
+      sym (bytes_length s.words s.len)
+          ∙ ap (λ (b : List ℕ). length b) (sym is.3),
+    ))
     m
 
 -- ---- a line, by its request
@@ -311,14 +322,17 @@ module _ (c : Config) (v w : View) (r : Reply) where
       → CallGoes (goes_in c) h q v r w → Suits w.seen (Some h) (event_of q r)
   call_suits h (Read name) knows read all reply x = read_suits w.seen h name r reply
       (not_read c h r (grown x.1.before v) x.1.last x.1.ends_so) (read_shows c h name r v w x)
-  call_suits h (Write name at bytes) knows read all reply x = write_suits w.seen h at name bytes r reply
+  call_suits h (Write name at bytes) knows read all reply x =
+      write_suits w.seen h at name bytes r reply
       (not_written c h at bytes r (grown x.1.before v) x.1.last x.1.ends_so)
   call_suits h (Free name) knows read all reply x =
       free_suits w.seen h name r reply (not_told (again_in x.1.last.turns) r x.1.ends_so.0)
-  call_suits h (Pin name) knows read all reply x = pin_suits w.seen h name r reply (not_pin c h r v w x)
+  call_suits h (Pin name) knows read all reply x =
+      pin_suits w.seen h name r reply (not_pin c h r v w x.0)
   call_suits h (Peek name) knows read all reply x =
       peek_suits w.seen h name r reply (not_peek h r v w x) (peek_shows h r v w read all x)
-  call_suits h (Unpin name) knows read all reply x = unpin_suits w.seen h name r reply (not_unpin h r v w x)
+  call_suits h (Unpin name) knows read all reply x =
+      unpin_suits w.seen h name r reply (not_unpin h r v w x)
   call_suits h (Filter name) knows read all reply x = filter_suits w.seen h name r reply
       (filter_made c (record { n = h }) r v x.0 x.1 knows)
   call_suits h q knows read all reply x = absurd x
@@ -327,36 +341,56 @@ module _ (c : Config) (v w : View) (r : Reply) where
       → ReadsAll v w → IsReplyOf q r → LineGoes (goes_in c) o q v r w
       → Suits w.seen (about o q r) (event_of q r)
   line_suits o (Make name bytes) knows read all reply x = make_suits w.seen name bytes r reply
-  line_suits o Leave knows read all reply x = silent_suits w.seen _ (nothing_told Leave r refl reply)
-  line_suits o line.Evict knows read all reply x = silent_suits w.seen _ (nothing_told line.Evict r refl reply)
-  line_suits o line.Begin knows read all reply x = silent_suits w.seen _ (nothing_told line.Begin r refl reply)
-  line_suits o line.Ship knows read all reply x = silent_suits w.seen _ (nothing_told line.Ship r refl reply)
-  line_suits o line.Commit knows read all reply x = silent_suits w.seen _ (nothing_told line.Commit r refl reply)
-  line_suits o line.Abort knows read all reply x = silent_suits w.seen _ (nothing_told line.Abort r refl reply)
-  line_suits o line.Pair knows read all reply x = silent_suits w.seen _ (nothing_told line.Pair r refl reply)
-  line_suits o line.Patch knows read all reply x = silent_suits w.seen _ (nothing_told line.Patch r refl reply)
-  line_suits o line.Merge knows read all reply x = silent_suits w.seen _ (nothing_told line.Merge r refl reply)
-  line_suits o line.Part knows read all reply x = silent_suits w.seen _ (nothing_told line.Part r refl reply)
-  line_suits o line.Compact knows read all reply x = silent_suits w.seen _ (nothing_told line.Compact r refl reply)
-  line_suits o line.Rebuild knows read all reply x = silent_suits w.seen _ (nothing_told line.Rebuild r refl reply)
+  line_suits o Leave knows read all reply x =
+      silent_suits w.seen _ (nothing_told Leave r refl reply)
+  line_suits o line.Evict knows read all reply x =
+      silent_suits w.seen _ (nothing_told line.Evict r refl reply)
+  line_suits o line.Begin knows read all reply x =
+      silent_suits w.seen _ (nothing_told line.Begin r refl reply)
+  line_suits o line.Ship knows read all reply x =
+      silent_suits w.seen _ (nothing_told line.Ship r refl reply)
+  line_suits o line.Commit knows read all reply x =
+      silent_suits w.seen _ (nothing_told line.Commit r refl reply)
+  line_suits o line.Abort knows read all reply x =
+      silent_suits w.seen _ (nothing_told line.Abort r refl reply)
+  line_suits o line.Pair knows read all reply x =
+      silent_suits w.seen _ (nothing_told line.Pair r refl reply)
+  line_suits o line.Patch knows read all reply x =
+      silent_suits w.seen _ (nothing_told line.Patch r refl reply)
+  line_suits o line.Merge knows read all reply x =
+      silent_suits w.seen _ (nothing_told line.Merge r refl reply)
+  line_suits o line.Part knows read all reply x =
+      silent_suits w.seen _ (nothing_told line.Part r refl reply)
+  line_suits o line.Compact knows read all reply x =
+      silent_suits w.seen _ (nothing_told line.Compact r refl reply)
+  line_suits o line.Rebuild knows read all reply x =
+      silent_suits w.seen _ (nothing_told line.Rebuild r refl reply)
   line_suits o (line.Crash node) knows read all reply x =
       silent_suits w.seen _ (nothing_told (line.Crash node) r refl reply)
   line_suits o (line.Join node) knows read all reply x =
       silent_suits w.seen _ (nothing_told (line.Join node) r refl reply)
   line_suits None (Read name) knows read all reply x = unmade_suits w.seen (Read name) r x.0 tt
-  line_suits None (Write name at bytes) knows read all reply x = unmade_suits w.seen (Write name at bytes) r x.0 tt
+  line_suits None (Write name at bytes) knows read all reply x =
+      unmade_suits w.seen (Write name at bytes) r x.0 tt
   line_suits None (Free name) knows read all reply x = unmade_suits w.seen (Free name) r x.0 tt
   line_suits None (Pin name) knows read all reply x = unmade_suits w.seen (Pin name) r x.0 tt
   line_suits None (Peek name) knows read all reply x = unmade_suits w.seen (Peek name) r x.0 tt
   line_suits None (Unpin name) knows read all reply x = unmade_suits w.seen (Unpin name) r x.0 tt
   line_suits None (Filter name) knows read all reply x = unmade_suits w.seen (Filter name) r x.0 tt
-  line_suits (Some h) (Read name) knows read all reply x = call_suits h (Read name) (knows h refl) read all reply x
-  line_suits (Some h) (Write name at bytes) knows read all reply x = call_suits h (Write name at bytes) (knows h refl) read all reply x
-  line_suits (Some h) (Free name) knows read all reply x = call_suits h (Free name) (knows h refl) read all reply x
-  line_suits (Some h) (Pin name) knows read all reply x = call_suits h (Pin name) (knows h refl) read all reply x
-  line_suits (Some h) (Peek name) knows read all reply x = call_suits h (Peek name) (knows h refl) read all reply x
-  line_suits (Some h) (Unpin name) knows read all reply x = call_suits h (Unpin name) (knows h refl) read all reply x
-  line_suits (Some h) (Filter name) knows read all reply x = call_suits h (Filter name) (knows h refl) read all reply x
+  line_suits (Some h) (Read name) knows read all reply x =
+      call_suits h (Read name) (knows h refl) read all reply x
+  line_suits (Some h) (Write name at bytes) knows read all reply x =
+      call_suits h (Write name at bytes) (knows h refl) read all reply x
+  line_suits (Some h) (Free name) knows read all reply x =
+      call_suits h (Free name) (knows h refl) read all reply x
+  line_suits (Some h) (Pin name) knows read all reply x =
+      call_suits h (Pin name) (knows h refl) read all reply x
+  line_suits (Some h) (Peek name) knows read all reply x =
+      call_suits h (Peek name) (knows h refl) read all reply x
+  line_suits (Some h) (Unpin name) knows read all reply x =
+      call_suits h (Unpin name) (knows h refl) read all reply x
+  line_suits (Some h) (Filter name) knows read all reply x =
+      call_suits h (Filter name) (knows h refl) read all reply x
 
 -- ---- all lines
 module _ (c : Config) (names : List Named) where
@@ -365,7 +399,8 @@ module _ (c : Config) (names : List Named) where
   reads_on before after v w goes =
       let a = lines_add c names before after v w goes in adds_seen v w a.0 a.1
 
-  line_reads : (o : Option ℕ) (q : Request) (r : Reply) (v w : View) → LineGoes (goes_in c) o q v r w
+  line_reads : (o : Option ℕ) (q : Request) (r : Reply) (v w : View)
+      → LineGoes (goes_in c) o q v r w
       → ReadsAll v w
   line_reads o q r v w goes = let a = line_adds c o q r v w goes in adds_seen v w a.0 a.1
 
@@ -376,12 +411,14 @@ module _ (c : Config) (names : List Named) where
   lines_suit before [] v w read knows replies goes given are = tt
   lines_suit before (a ∷ after) v w read knows replies (m, goes, rest) given are =
       let o : Option ℕ = handle_behind names before (name_of a.request) in (
-        suits_more m.seen w.seen (handle_for (given ++ before) a.request a.reply) (event_of a.request a.reply)
+        suits_more m.seen w.seen (handle_for (given ++ before) a.request a.reply)
+            (event_of a.request a.reply)
             (reads_on (before ++ a ∷ []) after m w rest)
             (subst (λ (z : Option ℕ). Suits m.seen z (event_of a.request a.reply))
             (sym (about_for (given ++ before) a.request a.reply ∙ ap (λ (z : Option ℕ).
             about z a.request a.reply) (named_behind names given before (name_of a.request) are)))
-            (line_suits c v m a.reply o a.request (λ h is. knows_named names before v (name_of a.request) h knows is)
+            (line_suits c v m a.reply o a.request
+            (λ h is. knows_named names before v (name_of a.request) h knows is)
             read (line_reads o a.request a.reply v m goes) replies.0 goes)),
         subst (λ (l : List Answer). AreSuited w.seen (tolds l after))
             (sym (append_assoc given before (a ∷ [])))
@@ -396,4 +433,5 @@ module _ (c : Config) (names : List Named) where
   lane_suits answers v w none known replies (m, goes, left) given are =
       subst (λ (z : View). AreSuited z.seen (tolds given answers)) (sym left)
       (subst (λ (l : List Answer). AreSuited m.seen (tolds l answers)) (append-nil given)
-      (lines_suit [] answers v m (pins_none v none) (knows_first names v known) replies goes given are))
+      (lines_suit [] answers v m (pins_none v none)
+      (knows_first names v known) replies goes given are))

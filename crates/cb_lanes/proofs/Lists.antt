@@ -1,7 +1,7 @@
 -- What holds of each element of a list, and of one.
 use Rattle.std.proofs.Common.{◌≡◌, ℕ, Bool, cond, List, [], ◌∷◌, ◌++◌, refl, ap, inl, inr}
 use Rattle.std.specs.List.{AllByRecursion}
-use Rattle.cb_rule.specs.Lists.{Has}
+use Rattle.cb_rule.specs.Lists.{Each, Has}
 use Rattle.cb_record.specs.Lists.{HasOne}
 
 -- one, where it is so
@@ -27,6 +27,14 @@ module _ {A : Type 0} where
       → AllByRecursion Q xs
   all_map P Q [] f all = tt
   all_map P Q (x ∷ xs) f all = (f x all.0, all_map P Q xs f all.1)
+
+  pub each_both : (P : A → Type 0) (xs ys : List A) → Each P xs → Each P ys → Each P (xs ++ ys)
+  each_both P [] ys a b = b
+  each_both P (x ∷ xs) ys a b = (a.0, each_both P xs ys a.1 b)
+
+  pub each_map : (P Q : A → Type 0) → ((x : A) → P x → Q x) → (xs : List A) → Each P xs → Each Q xs
+  each_map P Q f [] all = tt
+  each_map P Q f (x ∷ xs) all = (f x all.0, each_map P Q f xs all.1)
 
   pub found_one : (P : A → Type 0) (xs : List A) → HasOne P xs → (x : A) × Has x xs × P x
   found_one P [] one = absurd one

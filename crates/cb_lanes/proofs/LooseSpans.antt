@@ -1,10 +1,12 @@
 -- Every span that is not loose has an object that a seat has pinned. So where no run of frames is
 -- free that a span of some class fits, there are loose spans for all the frames but those for pins.
-use Rattle.std.proofs.Common.{◌≡◌, ◌≢◌, ◌⊎◌, ℕ, suc, ◌+◌, ◌*◌, ◌<◌, ◌≤◌, max, Bool, true, false, ◌&&◌, ◌||◌}
+use Rattle.std.proofs.Common.{◌≡◌, ◌≢◌, ◌⊎◌, ℕ, suc, ◌+◌, ◌*◌, ◌<◌, ◌≤◌, max, Bool, true, false}
+use Rattle.std.proofs.Common.{◌&&◌, ◌||◌}
 use Rattle.std.proofs.Common.{List, [], ◌∷◌, ◌++◌, length, get_or, Option, None, Some, refl, sym}
 use Rattle.std.proofs.Common.{ap, ◌∙◌, subst, arith, inl, inr, nat_eq, not, eq-eqb, ne_eqb}
 use Rattle.std.proofs.Common.{if◌then◌else◌}
-use Rattle.std.specs.List.{Contains, filter, list_all, list_any, range_with_len, slice_index_or, sum_by}
+use Rattle.std.specs.List.{Contains, filter, list_all, list_any, range_with_len, slice_index_or}
+use Rattle.std.specs.List.{sum_by}
 use Rattle.std.proofs.lemmas.Bool.{cases_Bool, cases_eq, cases_lt, true≢false, or_left, or_right}
 use Rattle.std.proofs.lemmas.List.{get_or_default, get_or_past, length-append}
 use Rattle.std.proofs.lemmas.List.Folds.{list_any-append, list_any_at}
@@ -51,7 +53,8 @@ use Rattle.cb_lanes.proofs.Lists.{one_if}
 abbrev pub NoClaims : List SeatState → Type 0
 NoClaims seats = (seat : ℕ) → claims_of_seat seats seat ≡ []
 
-pub never_moving : (x : Words) (far : FarState) (seats : List SeatState) (h : ℕ) → AreOpen x far seats
+pub never_moving : (x : Words) (far : FarState) (seats : List SeatState) (h : ℕ)
+    → AreOpen x far seats
     → NoClaims seats → far.leaving ≡ None → h < length x.words
     → state_of (word_at x h) ≡ word.Moving → ⊥
 never_moving x far seats h are none idle below moves = by (are.moving h below moves)
@@ -104,7 +107,8 @@ frame_of s far sound h = by (object_at s h) refl
 
     by : (o : Object) → object_at s h ≡ o → HasFrame far h
     by (is.Empty v) e = nowhere (λ len place l. subst (λ (q : Object). LiesAt q len place) e l)
-    by (is.Far n v words) e = nowhere (λ len place l. subst (λ (q : Object). LiesAt q len place) e l)
+    by (is.Far n v words) e =
+        nowhere (λ len place l. subst (λ (q : Object). LiesAt q len place) e l)
     by (is.Here n p) e = placed n p (subst (λ (q : Object). LiesAt q n p) (sym e) (refl, refl))
     by (is.Claimed n p v words) e =
         placed n p (subst (λ (q : Object). LiesAt q n p) (sym e) (refl, refl))
@@ -147,7 +151,8 @@ module _ (s : Shown) (far : FarState) (frame : (h : ℕ) → HasFrame far h) whe
           → list_any (nat_eq f) (pin_frames (pin ∷ pins)) ≡ true
       by later (inl e) = or_left (here (frame pin.handle).0) (list_any (nat_eq f) (pin_frames pins))
           (eq-eqb f (frame pin.handle).0 ((frame pin.handle).1 f slot (r ∙ ap Some (sym e))))
-      by later (inr off) = or_right (here (frame pin.handle).0) (list_any (nat_eq f) (pin_frames pins))
+      by later (inr off) = or_right (here (frame pin.handle).0)
+          (list_any (nat_eq f) (pin_frames pins))
           (later (let all = sum_by-cons (λ (p : Pin). one_if (nat_eq p.handle h)) pin pins in
           let none : one_if (nat_eq pin.handle h) ≡ 0 = ap one_if (ne_eqb pin.handle h off) in
           omega (arith, all, none, some)))
@@ -161,7 +166,8 @@ module _ (s : Shown) (far : FarState) (frame : (h : ℕ) → HasFrame far h) whe
     where
       by : (1 ≤ all_pins_on h seats → list_any (nat_eq f) (seat_frames seats) ≡ true)
           → (0 < pins_among h seat.pins) ⊎ (pins_among h seat.pins ≤ 0)
-          → (list_any (nat_eq f) (pin_frames seat.pins) || list_any (nat_eq f) (seat_frames seats)) ≡ true
+          → (list_any (nat_eq f) (pin_frames seat.pins) || list_any (nat_eq f)
+          (seat_frames seats)) ≡ true
       by later (inl own) = or_left (list_any (nat_eq f) (pin_frames seat.pins))
           (list_any (nat_eq f) (seat_frames seats))
           (pin_there f slot h seat.pins r (omega (arith, own)))
@@ -274,11 +280,13 @@ candidate far f span idle below there =
     passes : (temp : Temp) → span.temp ≡ temp
         → may_leave far.spans (leaving_frames far.leaving) temp f ≡ true
     passes temp e = (λ i. has_temp temp (there i) && not (is_among (leaving_frames (idle i)) f))
-        ∙ ap (λ (t : Temp). same_temp temp t && true) e ∙ ap (λ (b : Bool). b && true) (same_one temp)
+        ∙ ap (λ (t : Temp). same_temp temp t && true) e
+        ∙ ap (λ (b : Bool). b && true) (same_one temp)
 
     has : (temp : Temp) → span.temp ≡ temp → list_any (nat_eq f) (of temp) ≡ true
     has temp e = any_filter (may_leave far.spans (leaving_frames far.leaving) temp)
-        (range_with_len 0 (length far.spans)) f (passes temp e) (in_range (length far.spans) f below)
+        (range_with_len 0 (length far.spans)) f (passes temp e)
+        (in_range (length far.spans) f below)
 
     by : (temp : Temp) → span.temp ≡ temp
         → (list_any (nat_eq f) (of Cold) || list_any (nat_eq f) (of Hot)) ≡ true

@@ -1,5 +1,5 @@
--- The losses of a script are in the order of their epochs: no line makes the epoch fall, and a crash that
--- took place began a new one.
+-- The losses of a script are in the order of their epochs: no line makes the epoch fall, and a
+-- crash that took place began a new one.
 use Rattle.std.proofs.Common.{◌≡◌, ℕ, zero, suc, ◌+◌, ◌<◌, ◌≤◌, List, [], ◌∷◌, ◌++◌, map, Option}
 use Rattle.std.proofs.Common.{None, Some, refl, sym, ap, ◌∙◌, arith}
 use Rattle.std.specs.List.{AllByRecursion, cons_option}
@@ -54,7 +54,8 @@ peek_rises : (seat h : ℕ) (w new : WorldState) (r : Reply) → PeekStep seat h
 peek_rises seat h w new r (not_pinned n e same) = stays w new same
 peek_rises seat h w new r (shown at x e same) = stays w new same
 
-object_rises : (side : Side) (seat : ℕ) (handle : Option ℕ) (request : Request) (w new : WorldState) (r : Reply)
+object_rises : (side : Side) (seat : ℕ) (handle : Option ℕ) (request : Request) (w new : WorldState)
+    (r : Reply)
     → ObjectStep side seat handle request w r new → EpochRises w new
 object_rises side seat None request w new r x = stays w new x.1
 object_rises side seat (Some h) (Pin name) w new r x = pin_rises seat h w new r x
@@ -85,7 +86,8 @@ other_rises side seat handle request (Some j) w new r x =
     let z = turn_beside j side seat w new r x in
     let rise = step_rises w z.mid (Turn seat j) r z.step in
     let same = ap (λ (f : FarState). f.members.epoch) z.counts.far in omega (arith, rise, same)
-other_rises side seat handle request None w new r x = object_rises side seat handle request w new r x
+other_rises side seat handle request None w new r x =
+    object_rises side seat handle request w new r x
 
 line_rises : (side : Side) (seat : ℕ) (handle : Option ℕ) (request : Request) (w new : WorldState)
     (r : Reply) → LineStep side seat handle request w r new → EpochRises w new
@@ -120,7 +122,8 @@ crash_new node w new r loss (done few (words, crashed up reply state) seats) e =
     record { later = omega (arith, at); reached = omega (arith, at, now) }
 
 line_new : (side : Side) (seat : ℕ) (handle : Option ℕ) (request : Request) (w new : WorldState)
-    (r : Reply) (loss : Loss) → LineStep side seat handle request w r new → told_loss request r ≡ Some loss
+    (r : Reply) (loss : Loss) → LineStep side seat handle request w r new
+    → told_loss request r ≡ Some loss
     → IsNew loss w new
 line_new side seat handle (Crash node) w new r loss (other_holds holder off holds is same) e =
     absurd (none-some loss (sym (ap (told_loss (Crash node)) is) ∙ e))
@@ -157,10 +160,12 @@ losses_ascend side before [] w new x = (tt, tt)
 losses_ascend side before (a ∷ after) w new (between, rested, step, rests, rest) =
     let named = handle_named before (name_of a.request) in
     let line = line_rises side a.lane.n named a.request w between a.reply step in
-    let back = rests_rise (lines_by a.lane.n (map (λ (later : Answer). later.lane.n) after)) a.lane.n
+    let back = rests_rise (lines_by a.lane.n (map (λ (later : Answer). later.lane.n) after))
+    a.lane.n
     between rested rests in
     let more = losses_ascend side (before ++ a ∷ []) after rested new rest in
-    one_more w.far.members.epoch rested.far.members.epoch (told_loss a.request a.reply) (losses_of after)
+    one_more w.far.members.epoch rested.far.members.epoch (told_loss a.request a.reply)
+    (losses_of after)
     (omega (arith, line, back))
     (λ loss e. let z = line_new side a.lane.n named a.request w between a.reply loss step e in
     let reached = z.reached in (z.later, omega (arith, reached, back))) more.0 more.1

@@ -45,11 +45,13 @@ use Rattle.cb_lanes.proofs.PinsRead.{adds_all, has_both, has_grown}
 use Rattle.cb_lanes.proofs.TellingNew.{IsAbove, ask_new}
 
 -- ---- a make in a record of which is told what it has of its own objects
-pub makes_told : (c : Config) (bytes : List ℕ) (handle : Handle) (version first : ℕ) (v m all : View)
+pub makes_told : (c : Config) (bytes : List ℕ) (handle : Handle) (version first : ℕ)
+    (v m all : View)
     → TurnGives c (job.Make bytes) (answer.Made handle version) v m
     → ((t : Turn) → Has t m.turns → Has t all.turns) → MakesFirst first all.turns → version ≡ first
 makes_told c bytes handle version first v m all (d, y, is) turns makes =
-    let x = y.ends_so.1 in makes x.turn (turns x.turn (subst (λ (z : View). Has x.turn z.turns) (sym is)
+    let x = y.ends_so.1 in makes x.turn
+    (turns x.turn (subst (λ (z : View). Has x.turn z.turns) (sym is)
     (has_left x.turn d.turns v.turns (subst (λ (p : Part). Has x.turn p.turns) (sym y.part)
     (has_left x.turn y.last.turns y.before.turns
     (subst (λ (p : Part). Has x.turn p.turns) (sym x.part) (inl refl)))))))
@@ -104,24 +106,28 @@ leads_idly v w x = record {
   own = λ k has. subst (λ (z : View). Has k z.own) (sym x.grows) has;
   has = λ h n freed has. subst (λ (z : View). HasVersion z h n freed) (sym x.grows)
       (has_grown d v h n freed has);
-  turns = λ t has. subst (λ (z : View). Has t z.turns) (sym x.grows) (has_right t x.turns v.turns has);
+  turns = λ t has. subst (λ (z : View). Has t z.turns) (sym x.grows)
+      (has_right t x.turns v.turns has);
 }
   where
     d : Part
     d = record nothing_more { looks = x.looks; turns = x.turns }
 
 module _ (c : Config) (names : List Named) (first : ℕ) (all : View) (told : Recalls first all) where
-  line_leads : (o : Option ℕ) (q : Request) (r : Reply) (v m : View) → LineGoes (goes_in c) o q v r m
+  line_leads : (o : Option ℕ) (q : Request) (r : Reply) (v m : View)
+      → LineGoes (goes_in c) o q v r m
       → LeadsOn m all → LeadsOn v all
   line_leads o q r v m goes on = let a = line_adds c o q r v m goes in
       leads_back v m all a.0 a.1 (line_own c o q r v m goes) on
 
-  line_keeps : (o : Option ℕ) (q : Request) (r : Reply) (v m : View) → LineGoes (goes_in c) o q v r m
+  line_keeps : (o : Option ℕ) (q : Request) (r : Reply) (v m : View)
+      → LineGoes (goes_in c) o q v r m
       → (h : ℕ) → Knows h v → Knows h m
   line_keeps o q r v m goes h knows = let a = line_adds c o q r v m goes in
       adds_knows h v m a.0 a.1 knows
 
-  lines_lead : (before after : List Answer) (v w : View) → LinesGo (goes_in c) names before v after w
+  lines_lead : (before after : List Answer) (v w : View)
+      → LinesGo (goes_in c) names before v after w
       → LeadsOn w all → LeadsOn v all
   lines_lead before [] v w is on = subst (λ (z : View). LeadsOn z all) is on
   lines_lead before (a ∷ after) v w (m, one, rest) on =
@@ -138,7 +144,8 @@ module _ (c : Config) (names : List Named) (first : ℕ) (all : View) (told : Re
       (on.own handle.n (subst (λ (z : View). Has handle.n z.own) (sym goes.2) (inl refl))) from.has
 
   gave : (name : List ℕ) (h : ℕ) (o : Option ℕ) (q : Request) (r : Reply) (v m : View)
-      → handle_made name q r ≡ Some h → LineGoes (goes_in c) o q v r m → LeadsOn m all → LeadsOn v all
+      → handle_made name q r ≡ Some h → LineGoes (goes_in c) o q v r m → LeadsOn m all
+      → LeadsOn v all
       → (Knows h v → ⊥) × Knows h m
   gave name h o (Make made bytes) (answer.Made handle version) v m is goes on from =
       elim (name_cases made name) [
@@ -166,7 +173,8 @@ module _ (c : Config) (names : List Named) (first : ℕ) (all : View) (told : Re
       (line_leads o a.request a.reply v m one behind)).0 knows
   lines_new before (a ∷ after) v w (m, one, rest) on name h (inr made) knows =
       lines_new (before ++ a ∷ []) after m w rest on name h made
-      (line_keeps (handle_behind names before (name_of a.request)) a.request a.reply v m one h knows)
+      (line_keeps (handle_behind names before (name_of a.request)) a.request a.reply v m one h
+      knows)
 
   -- a later line makes no object of the same handle
   made_later : (before after : List Answer) (a : Answer) (v m w : View)
@@ -187,7 +195,8 @@ module _ (c : Config) (names : List Named) (first : ℕ) (all : View) (told : Re
       sym (by p g is_p (name_cases made p)) ∙ by q h is_q (name_cases made q)
     where
       by : (name : List ℕ) (k : ℕ) → (if bytes_eq made name then Some handle.n else None) ≡ Some k
-          → ((bytes_eq made name ≡ true) × (made ≡ name)) ⊎ ((bytes_eq made name ≡ false) × (made ≢ name))
+          → ((bytes_eq made name ≡ true) × (made ≡ name))
+          ⊎ ((bytes_eq made name ≡ false) × (made ≢ name))
           → made ≡ name
       by name k is (inl same) = same.1
       by name k is (inr other) = absurd (let e : None ≡ Some k =
@@ -195,7 +204,8 @@ module _ (c : Config) (names : List Named) (first : ℕ) (all : View) (told : Re
   made_name p q g h (Make made bytes) r is_p is_q = absurd cc
   made_name p q g h request r is_p is_q = absurd cc
 
-  lines_apart : (before after : List Answer) (v w : View) → LinesGo (goes_in c) names before v after w
+  lines_apart : (before after : List Answer) (v w : View)
+      → LinesGo (goes_in c) names before v after w
       → LeadsOn w all → (p q : List ℕ) (h : ℕ) → IsMadeAs after p h → IsMadeAs after q h → p ≡ q
   lines_apart before [] v w is on p q h made_p made_q = absurd made_p
   lines_apart before (a ∷ after) v w (m, one, rest) on p q h (inl is_p) (inl is_q) =
@@ -231,17 +241,20 @@ has_handle (a ∷ given) name h (inr made) = let z = has_handle given name h mad
     (z.0, ap (λ (o : Option ℕ). first_of o (handle_made name a.request a.reply)) z.1)
 
 -- ---- a lane, behind the answers that gave the names
-module _ (c : Config) (names : List Named) (given : List Answer) (are_names : AreNamesOf names given)
+module _ (c : Config) (names : List Named) (given : List Answer)
+    (are_names : AreNamesOf names given)
     (first : ℕ) (v w all : View) (told : Recalls first all) (knows : KnowsNames v names)
     (answers : List Answer) (goes : LinesGo (goes_in c) names [] v answers w) (on : LeadsOn w all)
     (one : AreOneToOne given) (each : HaveOneHandle (given ++ answers)) where
   given_known : (name : List ℕ) (h : ℕ) → IsMadeAs given name h → Knows h v
   given_known name h made = let z = has_handle given name h made in
-      subst (λ (k : ℕ). Knows k v) ((one name name z.0 h (handle_is_made given name z.0 z.1) made).0 refl)
+      subst (λ (k : ℕ). Knows k v)
+      ((one name name z.0 h (handle_is_made given name z.0 z.1) made).0 refl)
       (among_known names v name z.0 knows (sym (are_names name) ∙ z.1))
 
   new_behind : (p q : List ℕ) (h : ℕ) → IsMadeAs given p h → IsMadeAs answers q h → ⊥
-  new_behind p q h made_p made_q = lines_new c names first all told [] answers v w goes on q h made_q
+  new_behind p q h made_p made_q = lines_new c names first all told
+      [] answers v w goes on q h made_q
       (given_known p h made_p)
 
   names_same : (p q : List ℕ) (h : ℕ) → IsMadeAs given p h ⊎ IsMadeAs answers p h
@@ -265,7 +278,8 @@ pub lane_scoped : (c : Config) (names : List Named) (nodes lane : ℕ) (lines : 
     (answers : List Answer) (first : ℕ) (v w all : View) → v.pins ≡ [] → KnowsNames v names
     → LaneGoes c names v answers w → Recalls first all → LeadsOn w all
     → AreLinesOf nodes lane lines → map asked answers ≡ lines → LaneScoped lane names answers
-lane_scoped c names nodes lane lines answers first v w all none knows (m, goes, left) told on of is given
+lane_scoped c names nodes lane lines answers first v w all none knows
+    (m, goes, left) told on of is given
     named scope one each =
     keeps_scopes c names nodes lane lines answers v w none (m, goes, left) of is given named scope
     (made_one_to_one c names given named first v m all told knows answers goes unpinned one each)

@@ -41,7 +41,8 @@ step_among names i n name lt at =
 -- one with a handle, which is kept now
 pub keeps_more : (names : List Named) (i : ℕ) (n : Named) (h : Handle) (kept later : KeptNames)
     → i < length names → n ≡ get_or names i n → n.handle ≡ Some h → KeepsFirst kept names i
-    → ((q : List ℕ) → kept_number later q ≡ cond (bytes_eq n.name q) (Some h.n) (kept_number kept q))
+    → ((q : List ℕ) → kept_number later q ≡ cond (bytes_eq n.name q) (Some h.n)
+    (kept_number kept q))
     → KeepsFirst later names (i + 1)
 keeps_more names i n h kept later lt at has keep put name =
     put name ∙ ap (cond (bytes_eq n.name name) (Some h.n)) (keep name)
@@ -70,7 +71,8 @@ keeps_none names i n kept lt at none keep name =
     by true = refl
     by false = refl
 
-pub kept_all : (names : List Named) (i : ℕ) (kept : KeptNames) → length names ≤ i → KeepsFirst kept names i
+pub kept_all : (names : List Named) (i : ℕ) (kept : KeptNames) → length names ≤ i
+    → KeepsFirst kept names i
     → (name : List ℕ) → kept_number kept name ≡ handle_among names name
 kept_all names i kept all keep name = keep name
     ∙ ap (λ (l : List Named). handle_among l name) (take_all i names all)
@@ -96,4 +98,5 @@ among_known (n ∷ names) v name k knows is = first_is (handle_among names name)
 
 pub names_known : (names : List Named) (kept : KeptNames) (v : View) → KnowsNames v names
     → KeepHandles kept names [] → KnowsKept kept v
-names_known names kept v knows keep name k is = among_known names v name k knows (sym (keep name) ∙ is)
+names_known names kept v knows keep name k is =
+    among_known names v name k knows (sym (keep name) ∙ is)

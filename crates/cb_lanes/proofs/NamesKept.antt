@@ -39,7 +39,8 @@ name_within names made (Some q) h within e = within q h e
 -- ---- the handles that may be named
 
 -- one more name, whose handle may be named
-pub made_ready : (named after : ℕ → Type 0) (names kept : KeptNames) (name bytes : List ℕ) (handle : Handle)
+pub made_ready : (named after : ℕ → Type 0) (names kept : KeptNames) (name bytes : List ℕ)
+    (handle : Handle)
     (version : ℕ) → AreNamed named names → StayNamed named after → after handle.n
     → AreKept names (Make name bytes) (reply.Made handle version) kept → AreNamed after kept
 made_ready named after names kept name bytes handle version ready stay own are q h e =
@@ -55,7 +56,8 @@ pub reordered : (names kept : KeptNames) → IsReordered (λ x y. bytes_eq x.now
 reordered names kept same q =
     ap (option_map (λ (h : Handle). h.n)) (same.2 (record { ref_ptr = (0, 0); now = q }))
 
-pub made_behind : (names room kept : KeptNames) (name bytes : List ℕ) (handle : Handle) (version : ℕ)
+pub made_behind : (names room kept : KeptNames) (name bytes : List ℕ) (handle : Handle)
+    (version : ℕ)
     → ((q : List ℕ) → kept_number room q ≡ kept_number names q)
     → AreKept room (Make name bytes) (reply.Made handle version) kept
     → AreKept names (Make name bytes) (reply.Made handle version) kept

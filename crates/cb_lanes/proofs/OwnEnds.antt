@@ -36,8 +36,8 @@ use Rattle.cb_shared.specs.declared.answers.WriteAnswer.{WriteAnswer}
 use Rattle.cb_shared.specs.declared.answers.WriteAnswer.TheVariants as place
 use Rattle.cb_shared.specs.Calls.{IsLack, SaysAs, WriteAnswers, WriteCallEnds, WriteFinds, again_in}
 use Rattle.cb_shared.specs.Calls.{the_handle}
-use Rattle.cb_lanes.proofs.AskedTurns.{OwnOrLack, brings_lack, write_own}
-use Rattle.cb_shared.proofs.Laws.{asked_alone}
+use Rattle.cb_shared.proofs.Laws.{OwnOrLack, asked_alone, brings_lack, write_own}
+use Rattle.cb_lanes.proofs.Lacks.{by_lack}
 use Rattle.cb_shared.specs.Turning.{ReadsByPin, Slate, TurnAdds, held_by, slate_run}
 use Rattle.cb_shared.specs.Turning.{slate_shows}
 
@@ -86,7 +86,8 @@ module _ (h at : ℕ) (bytes : List ℕ) (r : Reply) (of_word : IsOfWord r) wher
     pub some : state_of word ≢ state.Empty
     pub says : Says word
 
-  found_in : (w : ℕ) (es : List Event) → IsFound h w es → state_of w ≢ state.Empty → Says w → FoundIn es
+  found_in : (w : ℕ) (es : List Event) → IsFound h w es → state_of w ≢ state.Empty → Says w
+      → FoundIn es
   found_in w es found some says = let z = look_of h w es found in record {
     word = w;
     event = z.0;
@@ -128,7 +129,8 @@ module _ (h at : ℕ) (bytes : List ℕ) (r : Reply) (of_word : IsOfWord r) wher
       (so (answer.Range (len_of w)) x.1 w (refl, x.0))
   here_in w es found is (inr (fits, inl x)) = found_in w es found (λ e. here_some (sym is ∙ e))
       (so (answer.Pinned (pins_of w)) x.1 w fits)
-  here_in w es found is (inr (fits, inr (none, (v, words, taken, next)))) = absurd (next_none v next)
+  here_in w es found is (inr (fits, inr (none, (v, words, taken, next)))) =
+      absurd (next_none v next)
 
   rule_in : (es : List Event) → WriteRule h at bytes r es → FoundIn es
   rule_in es a = by (state_of a.word) refl a.answer
@@ -165,7 +167,8 @@ module _ (h at : ℕ) (bytes : List ℕ) (r : Reply) (of_word : IsOfWord r) wher
   swap_none : (id p : ℕ) (far new : FarState) (es : List Event) → SwapRule id p far new r es → ⊥
   swap_none id p far new es x =
       by_answer (λ (q : Reply). r ≡ q → ⊥) far id x.set (λ broken e. not_so _ e (λ z. z))
-      (λ fine free e. not_so answer.NoFrame e (λ z. z)) (λ f fine free e. not_so _ e (λ z. z)) x.reply
+      (λ fine free e. not_so answer.NoFrame e (λ z. z))
+      (λ f fine free e. not_so _ e (λ z. z)) x.reply
 
   bring_none : (c : Config) (a b : Hold) → Brings slate_run slate_shows c h a r b → ⊥
   bring_none c a b bring = by (room_ends c.frames (Swaps slate_run slate_shows h)
@@ -196,7 +199,8 @@ module _ (h at : ℕ) (bytes : List ℕ) (r : Reply) (of_word : IsOfWord r) wher
       → (x : TurnAdds c (job.Write (the_handle h) at bytes) (Ok r) u d) → FoundIn x.turn.acts
   did_in c u d x = turned_in c (held_by x.turn.start [] x.turn.took)
       (held_by (played x.turn.acts x.turn.start) x.turn.acts x.turn.gave)
-      (asked_alone c x.turn (job.Write (the_handle h) at bytes) (Some r) tt x.job_is x.reply_is x.did)
+      (asked_alone c x.turn (job.Write (the_handle h) at bytes)
+      (Some r) tt x.job_is x.reply_is x.did)
 
   -- ---- such a word was found by the record, and is not empty
   pub record SawWord (m : View) : Type 0 where
@@ -236,12 +240,15 @@ module _ (h at : ℕ) (bytes : List ℕ) (r : Reply) (of_word : IsOfWord r) wher
   place_saw : (u : View) (d : Part) (m : View) → ((l : Look) → Has l d.looks → Has l m.looks)
       → (a : WriteAnswer) → SaysAs a r → WriteFinds h at bytes a u d → SawWord m
   place_saw u d m more (place.Range len) says (word, x, is) = look_saw m word
-      (more (look_at h word) (subst (λ (p : Part). Has (look_at h word) p.looks) (sym is) (inl refl)))
+      (more (look_at h word) (subst (λ (p : Part). Has (look_at h word) p.looks) (sym is)
+      (inl refl)))
       x.0.0 (so (answer.Range len) says word (x.0.1, x.0.2))
   place_saw u d m more (place.Pinned count) says (word, x, is) = look_saw m word
-      (more (look_at h word) (subst (λ (p : Part). Has (look_at h word) p.looks) (sym is) (inl refl)))
+      (more (look_at h word) (subst (λ (p : Part). Has (look_at h word) p.looks) (sym is)
+      (inl refl)))
       x.0.0 (so (answer.Pinned count) says word x.0.1)
-  place_saw u d m more (place.Ok version) says x = absurd (not_so (answer.Version version) says (λ z. z))
+  place_saw u d m more (place.Ok version) says x =
+      absurd (not_so (answer.Version version) says (λ z. z))
   place_saw u d m more place.Freed says x = absurd (not_so answer.Freed says (λ z. z))
   place_saw u d m more place.Worn says x = absurd (not_so answer.Worn says (λ z. z))
   place_saw u d m more place.NotHere says x = absurd says
@@ -250,10 +257,8 @@ module _ (h at : ℕ) (bytes : List ℕ) (r : Reply) (of_word : IsOfWord r) wher
 
   -- why an object can't be brought in says nothing of its word
   lack_word : (again : Bool) (q : Reply) → IsLack again q → IsOfWord q → ⊥
-  lack_word again (answer.Unavailable set lost) lack is = is
-  lack_word again (answer.NoRoom frames loose nodes) lack is = is
-  lack_word again answer.Worn lack is = is
-  lack_word again q lack is = absurd lack
+  lack_word = by_lack (λ (q : Reply). IsOfWord q → ⊥) (λ set lost is. is)
+      (λ frames loose nodes is. is) (λ is. is)
 
   ends_saw : (c : Config) (u : View) (d : Part) (m : View)
       → ((l : Look) → Has l d.looks → Has l m.looks) → ((t : Turn) → Has t d.turns → Has t m.turns)
@@ -268,7 +273,9 @@ module _ (h at : ℕ) (bytes : List ℕ) (r : Reply) (of_word : IsOfWord r) wher
   pub saw_write : (c : Config) (v m : View) → WriteAnswers c h at bytes r v m → SawWord m
   saw_write c v m (d, x, is) = ends_saw c (grown x.before v) x.last m
       (λ l has. subst (λ (z : View). Has l z.looks) (sym is) (has_left l d.looks v.looks
-      (subst (λ (p : Part). Has l p.looks) (sym x.part) (has_left l x.last.looks x.before.looks has))))
+      (subst (λ (p : Part). Has l p.looks) (sym x.part)
+      (has_left l x.last.looks x.before.looks has))))
       (λ t has. subst (λ (z : View). Has t z.turns) (sym is) (has_left t d.turns v.turns
-      (subst (λ (p : Part). Has t p.turns) (sym x.part) (has_left t x.last.turns x.before.turns has))))
+      (subst (λ (p : Part). Has t p.turns) (sym x.part)
+      (has_left t x.last.turns x.before.turns has))))
       x.ends_so

@@ -25,7 +25,7 @@ use Rattle.cb_shared.specs.Reading.{FindsGone, IsReadHere}
 use Rattle.cb_shared.specs.Turning.{FindsAtLast, FindsFreedAfter, JobReads, TurnAdds, made_by_turn}
 use Rattle.cb_shared.specs.Turning.{object_of, turn_part, with_own}
 use Rattle.cb_lanes.specs.Passing.{IsPinnedOnce, PinGoes}
-use Rattle.cb_lanes.proofs.AskedTurns.{OwnOrLack, brings_lack, read_own, write_own}
+use Rattle.cb_shared.proofs.Laws.{OwnOrLack, brings_lack, read_own, write_own}
 
 -- a state of the record with these entries and own handles, by which the version was the newest
 pub record SawNewest (h version : ℕ) (v : View) : Type 0 where
@@ -91,7 +91,8 @@ gone_saw h v before last none (word, version, empty, newest, is) = (
 -- by a turn that was answered so, which wrote nothing
 turn_gone : (h : ℕ) (v : View) (d : Part) (t : Turn) (made : List ℕ) (more : List Entry)
     (within later : Part) → more ≡ []
-    → FindsAtLast h found.Freed (with_own made (grown (turn_part t more within nothing_more) v)) later
+    → FindsAtLast h found.Freed (with_own made (grown (turn_part t more within nothing_more) v))
+    later
     → d ≡ turn_part t more within later → SawGone h v d
 turn_gone h v d t made more within later none x part =
     let u = with_own made (grown (turn_part t more within nothing_more) v) in
@@ -124,7 +125,8 @@ asks_gone : (c : Config) (j : Job) (h : ℕ) (v : View) (before last : Part) →
     → x.more ≡ [] → SawGone h v last
 asks_gone c j h v before last none on x wrote =
     let u = grown before v in
-    let finds = subst (λ (o : Option ℕ). FindsFreedAfter o (with_own (made_by_turn j (Some answer.Freed))
+    let finds = subst (λ (o : Option ℕ). FindsFreedAfter o
+    (with_own (made_by_turn j (Some answer.Freed))
     (grown (turn_part x.turn x.more x.within nothing_more) u)) x.later) on x.finds in
     let z = turn_gone h u last x.turn (made_by_turn j (Some answer.Freed)) x.more x.within x.later
     wrote finds x.part in (
@@ -179,7 +181,8 @@ read_gone : (c : Config) (h : ℕ) (v : View) (before last : Part) → before.wr
 read_gone c h v before last none (inl x) = gone_saw h v before last none x
 read_gone c h v before last none (inr x) = by (read_own c h answer.Freed (grown before v) last x)
   where
-    by : OwnOrLack c (job.Read (the_handle h)) h answer.Freed (grown before v) last → SawGone h v last
+    by : OwnOrLack c (job.Read (the_handle h)) h answer.Freed (grown before v) last
+        → SawGone h v last
     by (inl y) = asks_gone c (job.Read (the_handle h)) h v before last none refl y.1 y.1.wrote
     by (inr y) = absurd (brings_lack c h answer.Freed (grown before v) last y)
 
@@ -235,7 +238,8 @@ saw_pin c h version v w (room, x) =
     let grew : x.between ≡ grown before v = x.in_vain.2 in
     let pin = stand h (len_of once.word) (place_of once.word) version once.words in record {
       room = room;
-      saw = saw_grown h version v x.between before (vain_written (AtThis h) _ before x.in_vain.1) grew
+      saw = saw_grown h version v x.between before
+          (vain_written (AtThis h) _ before x.in_vain.1) grew
           once.newest;
       pin = pin;
       handle = refl;

@@ -20,7 +20,8 @@ use Rattle.cb_lanes.proofs.OwnObjects.{handle_cases, last_has, last_hit, last_pa
 -- versions of these objects rise
 abbrev pub AreRising : (ℕ → Type 0) → List Entry → Type 0
 AreRising mine [] = Unit {0}
-AreRising mine (e ∷ es) = (mine e.handle → (x : Entry) → Has x es → x.handle ≡ e.handle → x.version < e.version)
+AreRising mine (e ∷ es) =
+    (mine e.handle → (x : Entry) → Has x es → x.handle ≡ e.handle → x.version < e.version)
     × AreRising mine es
 
 -- what is told of the own objects of a record in which no turn runs
@@ -47,28 +48,33 @@ module _ (w : View) (told : Recalls 1 w) (calm : w.fresh ≡ []) where
       (z.0, written_in z.0 z.1, z.2, z.3, z.4)
 
   -- an entry that is older stands behind
-  older_behind : (later es : List Entry) (e x : Entry) → AreRising Mine (later ++ e ∷ es) → Mine x.handle
+  older_behind : (later es : List Entry) (e x : Entry) → AreRising Mine (later ++ e ∷ es)
+      → Mine x.handle
       → e.handle ≡ x.handle → Has x (later ++ e ∷ es) → x.version < e.version → Has x es
   older_behind [] es e x rising mine same (inl is) less =
-      absurd (let v : e.version ≡ x.version = ap (λ (z : Entry). z.version) is in omega (arith, v, less))
+      absurd (let v : e.version ≡ x.version = ap (λ (z : Entry). z.version) is in omega
+      (arith, v, less))
   older_behind [] es e x rising mine same (inr has) less = has
   older_behind (y ∷ later) es e x rising mine same (inl is) less = absurd (
       let at : y.handle ≡ x.handle = ap (λ (z : Entry). z.handle) is in
       let v : y.version ≡ x.version = ap (λ (z : Entry). z.version) is in
-      let up = rising.0 (subst Mine (sym at) mine) e (has_right e later (e ∷ es) (inl refl)) (same ∙ sym at) in
+      let up = rising.0 (subst Mine (sym at) mine) e (has_right e later (e ∷ es) (inl refl))
+      (same ∙ sym at) in
       omega (arith, v, up, less))
   older_behind (y ∷ later) es e x rising mine same (inr has) less =
       older_behind later es e x rising.1 mine same has less
 
   -- the last entry is the newest
-  last_newest : (es : List Entry) (h : ℕ) (y x : Entry) → AreRising Mine es → Mine h → last_in es h ≡ Some y
+  last_newest : (es : List Entry) (h : ℕ) (y x : Entry) → AreRising Mine es → Mine h
+      → last_in es h ≡ Some y
       → Has x es → x.handle ≡ h → x.version ≤ y.version
   last_newest [] h y x rising mine is has same = absurd has
   last_newest (e ∷ es) h y x rising mine is has same =
       by (handle_cases e h) has (λ z was has_. last_newest es h z x rising.1 mine was has_ same)
     where
       by : (e.handle ≡ h) ⊎ (e.handle ≢ h) → (e ≡ x) ⊎ Has x es
-          → ((z : Entry) → last_in es h ≡ Some z → Has x es → x.version ≤ z.version) → x.version ≤ y.version
+          → ((z : Entry) → last_in es h ≡ Some z → Has x es → x.version ≤ z.version)
+          → x.version ≤ y.version
       by (inl at) (inl one) rest = let v : x.version ≡ y.version = ap (λ (z : Entry). z.version)
           (sym one ∙ same_Some e y (sym (last_hit e es h at) ∙ is)) in omega (arith, v)
       by (inl at) (inr behind) rest =
@@ -85,7 +91,8 @@ module _ (w : View) (told : Recalls 1 w) (calm : w.fresh ≡ []) where
   -- each entry comes behind the last one before it
   comes_behind : (later es : List Entry) (e : Entry) → w.written ≡ later ++ e ∷ es
       → AreRising Mine (later ++ e ∷ es) → Mine e.handle → ComesBehind (last_in es e.handle) e
-  comes_behind later es e split rising mine = by (last_in es e.handle) refl (told.own.goes_on e (wrote e here) mine)
+  comes_behind later es e split rising mine =
+      by (last_in es e.handle) refl (told.own.goes_on e (wrote e here) mine)
     where
       here : Has e w.written
       here = subst (Has e) (sym split) (has_right e later (e ∷ es) (inl refl))
@@ -96,8 +103,10 @@ module _ (w : View) (told : Recalls 1 w) (calm : w.fresh ≡ []) where
       among : (y : Entry) → Has y es → Has y w.written
       among y has = subst (Has y) (sym split) (has_right y later (e ∷ es) (inr has))
 
-      below : (x : Entry) → WroteItself w x → x.handle ≡ e.handle → x.version + 1 ≡ e.version → Has x es
-      below x there same next = older_behind later es e x rising (subst Mine (sym same) mine) (sym same)
+      below : (x : Entry) → WroteItself w x → x.handle ≡ e.handle → x.version + 1 ≡ e.version
+          → Has x es
+      below x there same next = older_behind later es e x rising (subst Mine (sym same) mine)
+          (sym same)
           (subst (Has x) split (written_in x there)) (omega (arith, next))
 
       by : (o : Option Entry) → last_in es e.handle ≡ o → EntryGoesOn 1 (w ∷ []) e → ComesBehind o e

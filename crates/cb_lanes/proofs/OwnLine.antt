@@ -1,5 +1,5 @@
--- One line of a lane: where it is the lane's own it is answered as the lane is by itself, and what the
--- lane has by itself stays what the record of its pass has.
+-- One line of a lane: where it is the lane's own it is answered as the lane is by itself, and what
+-- the lane has by itself stays what the record of its pass has.
 use Rattle.std.proofs.Common.{◌≡◌, ◌≢◌, ◌⊎◌, ℕ, ◌+◌, ◌*◌, ◌≤◌, Bool, true, false, List, [], ◌∷◌}
 use Rattle.std.proofs.Common.{◌++◌, length, Option, None, Some, inl, inr, sym, refl, ap, ◌∙◌, subst}
 use Rattle.std.proofs.Common.{arith, if◌then◌else◌}
@@ -36,7 +36,7 @@ use Rattle.cb_lanes.specs.KeepsOwn.{KeepsOwn, last_in}
 use Rattle.cb_lanes.specs.LineGoes.{Calls}
 use Rattle.cb_lanes.specs.Passing.{PeekGoes, PinGoes, UnpinGoes}
 use Rattle.cb_lanes.specs.Scopes.{named_on, newest_on, without_newest}
-use Rattle.cb_lanes.proofs.AskedTurns.{brings_lack}
+use Rattle.cb_shared.proofs.Laws.{brings_lack}
 use Rattle.cb_lanes.proofs.LineParts.{LineAdds, told_as}
 use Rattle.cb_lanes.proofs.OwnObjects.{last_hit}
 use Rattle.cb_lanes.proofs.OwnSays.{OwnAt, comes_next, free_one, free_reply, goes_own, peek_reply}
@@ -48,7 +48,8 @@ use Rattle.cb_lanes.proofs.OwnSteps.{Grew, OwnMore, call_pins, pinned_held, pins
 use Rattle.cb_lanes.proofs.OwnSteps.{stands_changed, stands_still}
 use Rattle.cb_lanes.proofs.PinLists.{name_cases}
 
--- The record in the end: it has all that the record m has, and keeps what it has of its own objects.
+-- The record in the end: it has all that the record m has, and keeps what it has of its own
+-- objects.
 pub record LeadsTo (m all : View) : Type 0 where
   pub keeps : KeepsOwn all
   pub rest : List Entry
@@ -71,7 +72,8 @@ no_entry v m t y none = let b = y.2.wrote in ap (λ (z : View). z.written) y.1
     ∙ ap (λ (l : List Entry). l ++ v.written) (b.2 ∙ (λ i. b.4 i ++ none b.0 b.3 i))
 
 -- ---- names
-nows_same : (p : List ℕ) (objects : List NamedNow) (now : MapNow) → now ≡ now_named p objects → (q : List ℕ)
+nows_same : (p : List ℕ) (objects : List NamedNow) (now : MapNow) → now ≡ now_named p objects
+    → (q : List ℕ)
     → now_named q (record { name = p; now = now } ∷ objects) ≡ now_named q objects
 nows_same p objects now same q = by (name_cases p q)
   where
@@ -83,7 +85,8 @@ nows_same p objects now same q = by (name_cases p q)
 
 module _ (c : Config) (lines : List Line) (lane : ℕ) (named : Option (List ℕ) → Option ℕ)
     (later : List ℕ → Option ℕ) (state : LaneState) (v m all : View)
-    (z : LaneStands lines lane (λ q. named (Some q)) state v) (leads : LeadsTo m all) (grew : Grew v m) where
+    (z : LaneStands lines lane (λ q. named (Some q)) state v) (leads : LeadsTo m all)
+    (grew : Grew v m) where
   abbrev handle : List ℕ → Option ℕ
   handle q = named (Some q)
 
@@ -128,9 +131,13 @@ module _ (c : Config) (lines : List Line) (lane : ℕ) (named : Option (List ℕ
   pins_kept same = subst (LanePinsStand lines lane handle v.written state.scope) (sym same) z.pins
 
   -- a line on an own name that changes nothing
-  pub quiet_own : (p : List ℕ) (now : MapNow) → Same → now ≡ now_named p state.objects → m.written ≡ v.written
+  pub quiet_own : (p : List ℕ) (now : MapNow) → Same → now ≡ now_named p state.objects
+      → m.written ≡ v.written
       → m.pins ≡ v.pins
-      → Later (record { objects = record { name = p; now = now } ∷ state.objects; scope = state.scope })
+      → Later (record {
+        objects = record { name = p; now = now } ∷ state.objects;
+        scope = state.scope;
+      })
   quiet_own p now same is wrote pins =
       quiet _ same (nows_same p state.objects now is) wrote (pins_kept pins)
 
@@ -143,7 +150,8 @@ module _ (c : Config) (lines : List Line) (lane : ℕ) (named : Option (List ℕ
     pins_are = named_pins lines lane handle v.written p h at apart state.scope v.pins z.pins
 
     held : 1 ≤ pins_on h v → o.last.freed ≡ false
-    held some_one = pinned_held lines lane handle v.written h o.last o.is_last state.scope v.pins z.pins some_one
+    held some_one = pinned_held lines lane handle v.written h o.last o.is_last state.scope v.pins
+        z.pins some_one
 
     -- a read
     pub own_read : (r : Reply) → goes_own c (Calls (job.Read (record { n = h }))) v r m
@@ -155,15 +163,18 @@ module _ (c : Config) (lines : List Line) (lane : ℕ) (named : Option (List ℕ
           (no_entry v m _ adds (λ es e. e)) (call_pins c (job.Read (record { n = h })) r v m x.0),
     )
       where
-        still : (r : Reply) → now_after (now_named p state.objects) (Read p) r ≡ now_named p state.objects
+        still : (r : Reply) → now_after (now_named p state.objects)
+            (Read p) r ≡ now_named p state.objects
         still (answer.Bytes version bytes) = refl
         still answer.Freed = refl
         still answer.Unmade = refl
         still r = refl
 
     -- a write
-    writes : (at_ : ℕ) (bytes : List ℕ) (n : ℕ) → (x : goes_own c (Calls (job.Write (record { n = h }) at_ bytes)) v
-        (answer.Version n) m) → LineAdds v m (told_as (Some h) (Write p at_ bytes) (answer.Version n))
+    writes : (at_ : ℕ) (bytes : List ℕ) (n : ℕ)
+        → (x : goes_own c (Calls (job.Write (record { n = h }) at_ bytes)) v
+        (answer.Version n) m) → LineAdds v m
+        (told_as (Some h) (Write p at_ bytes) (answer.Version n))
         → Later (alone_after state (Write p at_ bytes) (answer.Version n))
     writes at_ bytes n x adds =
         let a = own_at h _ _ adds o in
@@ -174,42 +185,56 @@ module _ (c : Config) (lines : List Line) (lane : ℕ) (named : Option (List ℕ
         let same_len = next.same_len w.1 in
         let fits = w.3 in
         let sized = w.2.sized in
-        let past : length e.before ≡ length o.last.after = ap (λ (l : List ℕ). length l) next.past in
+        let past : length e.before ≡ length o.last.after =
+        ap (λ (l : List ℕ). length l) next.past in
         let now = now_after (now_named p state.objects) (Write p at_ bytes) (answer.Version n) in
-        stands_changed lines lane handle later state (alone_after state (Write p at_ bytes) (answer.Version n)) v m p h
+        stands_changed lines lane handle later state
+        (alone_after state (Write p at_ bytes) (answer.Version n)) v m p h
         e now grew same refl own at w.0.written w.0.handle
-        (call_pins c (job.Write (record { n = h }) at_ bytes) (answer.Version n) v m x.0) (x.1 o.own) (record {
+        (call_pins c (job.Write (record { n = h }) at_ bytes) (answer.Version n) v m x.0)
+        (x.1 o.own) (record {
           own = grew.own h o.own;
           last = e;
-          is_last = ap (λ (l : List Entry). last_in l h) w.0.written ∙ last_hit e v.written h w.0.handle;
+          is_last = ap (λ (l : List Entry). last_in l h) w.0.written
+              ∙ last_hit e v.written h w.0.handle;
           long = λ _. omega (arith, long, same_len, sized, past);
           is_now = ap (λ (i : MapNow). now_after i (Write p at_ bytes) (answer.Version n)) o.is_now
               ∙ ap (λ (b : Bool). now_after (Some (if b then Freed o.last.version
-              else Held o.last.version (bytes_in o.last.after o.last.len))) (Write p at_ bytes) (answer.Version n)) next.there
-              ∙ (λ i. Some (Held (sym w.0.number i) (sym (written e w.2 fits (omega (arith, long, same_len, past))
+              else Held o.last.version (bytes_in o.last.after o.last.len))) (Write p at_ bytes)
+              (answer.Version n)) next.there
+              ∙ (λ i. Some (Held (sym w.0.number i)
+              (sym (written e w.2 fits (omega (arith, long, same_len, past))
               ∙ (λ j. overwritten (bytes_in (next.past j) (same_len j)) at_ bytes)) i)))
-              ∙ sym (ap (λ (b : Bool). Some (if b then Freed e.version else Held e.version (bytes_in e.after e.len))) w.1);
+              ∙ sym (ap (λ (b : Bool). Some
+              (if b then Freed e.version else Held e.version (bytes_in e.after e.len))) w.1);
         }) z
       where
-        written : (e : Entry) → IsWrite e.before at_ bytes e.after → at_ + length bytes ≤ e.len → e.len ≤ 8 * length e.before
+        written : (e : Entry) → IsWrite e.before at_ bytes e.after → at_ + length bytes ≤ e.len
+            → e.len ≤ 8 * length e.before
             → bytes_in e.after e.len ≡ overwritten (bytes_in e.before e.len) at_ bytes
         written e w fits long = write_bytes e.before e.after at_ e.len bytes w fits long
 
-    pub own_write : (at_ : ℕ) (bytes : List ℕ) (r : Reply) → goes_own c (Calls (job.Write (record { n = h }) at_ bytes)) v r m
-        → LineAdds v m (told_as (Some h) (Write p at_ bytes) r) → IsReplyOf (Write p at_ bytes) r → is_lack r ≡ false
+    pub own_write : (at_ : ℕ) (bytes : List ℕ) (r : Reply)
+        → goes_own c (Calls (job.Write (record { n = h }) at_ bytes)) v r m
+        → LineAdds v m (told_as (Some h) (Write p at_ bytes) r) → IsReplyOf (Write p at_ bytes) r
+        → is_lack r ≡ false
         → Comes (Write p at_ bytes) r
     own_write at_ bytes r x adds line room = (
-      write_reply (λ k. Has k all.own) h o.last v m all (own_at h _ _ adds o) c p bytes at_ r x.0 (x.1 o.own) adds
+      write_reply (λ k. Has k all.own) h o.last v m all (own_at h _ _ adds o) c p bytes at_ r x.0
+          (x.1 o.own) adds
           line held room
           ∙ (λ i. write_alone (sym o.is_now i) (sym pins_are i) at_ (length bytes)),
       moves r x adds,
     )
       where
         moves : (r : Reply) → goes_own c (Calls (job.Write (record { n = h }) at_ bytes)) v r m
-            → LineAdds v m (told_as (Some h) (Write p at_ bytes) r) → Later (alone_after state (Write p at_ bytes) r)
+            → LineAdds v m (told_as (Some h) (Write p at_ bytes) r)
+            → Later (alone_after state (Write p at_ bytes) r)
         moves (answer.Version n) x adds = writes at_ bytes n x adds
-        moves r x adds = quiet_own p (now_after (now_named p state.objects) (Write p at_ bytes) r) same refl
-            (no_entry v m _ adds (λ es e. e)) (call_pins c (job.Write (record { n = h }) at_ bytes) r v m x.0)
+        moves r x adds = quiet_own p (now_after (now_named p state.objects) (Write p at_ bytes) r)
+            same refl
+            (no_entry v m _ adds (λ es e. e))
+            (call_pins c (job.Write (record { n = h }) at_ bytes) r v m x.0)
 
     -- a free
     frees : (n : ℕ) → (x : goes_own c (Calls (job.Free (record { n = h }))) v (answer.Version n) m)
@@ -220,17 +245,21 @@ module _ (c : Config) (lines : List Line) (lane : ℕ) (named : Option (List ℕ
         let w = free_one (λ k. Has k all.own) h o.last v m all a p n adds in
         let e = w.0.entry_is in
         let next = comes_next (λ k. Has k all.own) h o.last v m all a n w.0 in
-        stands_changed lines lane handle later state (alone_after state (Free p) (answer.Version n)) v m p h
+        stands_changed lines lane handle later state
+        (alone_after state (Free p) (answer.Version n)) v m p h
         e (Some (Freed n)) grew same
-        (ap (λ (i : MapNow). record { objects = record { name = p; now = i } ∷ state.objects; scope = state.scope })
+        (ap (λ (i : MapNow). record
+        { objects = record { name = p; now = i } ∷ state.objects; scope = state.scope })
         (gone n (now_named p state.objects))) own at w.0.written w.0.handle
         (call_pins c (job.Free (record { n = h })) (answer.Version n) v m x.0) (x.1 o.own) (record {
           own = grew.own h o.own;
           last = e;
-          is_last = ap (λ (l : List Entry). last_in l h) w.0.written ∙ last_hit e v.written h w.0.handle;
+          is_last = ap (λ (l : List Entry). last_in l h) w.0.written
+              ∙ last_hit e v.written h w.0.handle;
           long = λ off. absurd (true≢false (sym w.1 ∙ off));
           is_now = (λ i. Some (Freed (sym w.0.number i)))
-              ∙ sym (ap (λ (b : Bool). Some (if b then Freed e.version else Held e.version (bytes_in e.after e.len))) w.1);
+              ∙ sym (ap (λ (b : Bool). Some
+              (if b then Freed e.version else Held e.version (bytes_in e.after e.len))) w.1);
         }) z
       where
         gone : (n : ℕ) (now : MapNow) → now_after now (Free p) (answer.Version n) ≡ Some (Freed n)
@@ -239,9 +268,11 @@ module _ (c : Config) (lines : List Line) (lane : ℕ) (named : Option (List ℕ
         gone n (Some (Freed a)) = refl
 
     pub own_free : (r : Reply) → goes_own c (Calls (job.Free (record { n = h }))) v r m
-        → LineAdds v m (told_as (Some h) (Free p) r) → IsReplyOf (Free p) r → is_lack r ≡ false → Comes (Free p) r
+        → LineAdds v m (told_as (Some h) (Free p) r) → IsReplyOf (Free p) r → is_lack r ≡ false
+        → Comes (Free p) r
     own_free r x adds line room = (
-      free_reply (λ k. Has k all.own) h o.last v m all (own_at h _ _ adds o) c p r x.0 (x.1 o.own) adds line held room
+      free_reply (λ k. Has k all.own) h o.last v m all (own_at h _ _ adds o) c p r x.0
+          (x.1 o.own) adds line held room
           ∙ (λ i. free_alone (sym o.is_now i) (sym pins_are i)),
       moves r x adds,
     )
@@ -253,7 +284,8 @@ module _ (c : Config) (lines : List Line) (lane : ℕ) (named : Option (List ℕ
             (no_entry v m _ adds (λ es e. e)) (call_pins c (job.Free (record { n = h })) r v m x.0)
 
     -- a pin
-    pub own_pin : (r : Reply) → PinGoes c h v r m → LineAdds v m (told_as (Some h) (Pin p) r) → is_lack r ≡ false
+    pub own_pin : (r : Reply) → PinGoes c h v r m → LineAdds v m (told_as (Some h) (Pin p) r)
+        → is_lack r ≡ false
         → Comes (Pin p) r
     own_pin r x adds room = (
       pin_reply (λ k. Has k all.own) h o.last v m all (own_at h _ _ adds o) c r x room
@@ -265,13 +297,15 @@ module _ (c : Config) (lines : List Line) (lane : ℕ) (named : Option (List ℕ
         wrote : (r : Reply) → LineAdds v m (told_as (Some h) (Pin p) r) → m.written ≡ v.written
         wrote r adds = no_entry v m _ adds (λ es e. e)
 
-        moves : (r : Reply) → PinGoes c h v r m → LineAdds v m (told_as (Some h) (Pin p) r) → is_lack r ≡ false
+        moves : (r : Reply) → PinGoes c h v r m → LineAdds v m (told_as (Some h) (Pin p) r)
+            → is_lack r ≡ false
             → Later (alone_after state (Pin p) r)
         moves (answer.Version n) x adds room =
             let y = pin_shows (λ k. Has k all.own) h o.last v m all (own_at h _ _ adds o) c n x in
             quiet (alone_after state (Pin p) (answer.Version n)) same
             (nows_same p state.objects (now_named p state.objects) refl) (wrote _ adds)
-            (subst (LanePinsStand lines lane handle v.written (record { name = p; version = n } ∷ state.scope))
+            (subst (LanePinsStand lines lane handle v.written
+            (record { name = p; version = n } ∷ state.scope))
             (sym y.0.pins) (
               record {
                 own = own;
@@ -280,9 +314,11 @@ module _ (c : Config) (lines : List Line) (lane : ℕ) (named : Option (List ℕ
               },
               z.pins,
             ))
-        moves answer.Freed x adds room = quiet_own p (now_named p state.objects) same refl (wrote _ adds)
+        moves answer.Freed x adds room = quiet_own p (now_named p state.objects) same refl
+            (wrote _ adds)
             (ap (λ (k : View). k.pins) x.1.ends_so.4 ∙ ap (λ (k : View). k.pins) x.1.in_vain.2)
-        moves answer.ScopeFull x adds room = quiet_own p (now_named p state.objects) same refl (wrote _ adds)
+        moves answer.ScopeFull x adds room = quiet_own p (now_named p state.objects) same refl
+            (wrote _ adds)
             (ap (λ (k : View). k.pins) x.1)
         moves (answer.NoRoom f l n) x adds room = absurd (true≢false room)
         moves (answer.Unavailable s l) x adds room = absurd (true≢false room)
@@ -290,17 +326,21 @@ module _ (c : Config) (lines : List Line) (lane : ℕ) (named : Option (List ℕ
         moves r x adds room = let e = x.1.ends_so in absurd (brings_lack c h r _ e.0 e.1.turned)
 
     -- a peek
-    pub own_peek : (r : Reply) → PeekGoes h v r m → LineAdds v m (told_as (Some h) (Peek p) r) → Comes (Peek p) r
+    pub own_peek : (r : Reply) → PeekGoes h v r m → LineAdds v m (told_as (Some h) (Peek p) r)
+        → Comes (Peek p) r
     own_peek r x adds = (
       peek_reply h o.last v m (newest_on p state.scope) r o.is_last
-          (λ none. newest_none lines lane handle v.written p h at apart state.scope v.pins z.pins none)
-          (λ q is. newest_some lines lane handle v.written p h at apart state.scope v.pins q z.pins is) x
+          (λ none. newest_none lines lane handle v.written p h at apart state.scope v.pins z.pins
+          none)
+          (λ q is. newest_some lines lane handle v.written p h at apart state.scope v.pins q z.pins
+          is) x
           ∙ ap (λ (i : MapNow). peek_alone i (newest_on p state.scope)) (sym o.is_now),
       quiet_own p (now_after (now_named p state.objects) (Peek p) r) same (still r)
           (no_entry v m _ adds (λ es e. e)) (pins x),
     )
       where
-        still : (r : Reply) → now_after (now_named p state.objects) (Peek p) r ≡ now_named p state.objects
+        still : (r : Reply) → now_after (now_named p state.objects)
+            (Peek p) r ≡ now_named p state.objects
         still (answer.Bytes version bytes) = refl
         still answer.Freed = refl
         still answer.Unmade = refl
@@ -311,25 +351,30 @@ module _ (c : Config) (lines : List Line) (lane : ℕ) (named : Option (List ℕ
         pins (inr y) = ap (λ (k : View). k.pins) y.peeks.left
 
     -- an unpin
-    pub own_unpin : (r : Reply) → UnpinGoes h v r m → LineAdds v m (told_as (Some h) (Unpin p) r) → Comes (Unpin p) r
+    pub own_unpin : (r : Reply) → UnpinGoes h v r m → LineAdds v m (told_as (Some h) (Unpin p) r)
+        → Comes (Unpin p) r
     own_unpin r x adds = (
       unpin_reply h o.last v m (newest_on p state.scope) r
-          (λ none. newest_none lines lane handle v.written p h at apart state.scope v.pins z.pins none)
+          (λ none. newest_none lines lane handle v.written p h at apart state.scope v.pins z.pins
+          none)
           (λ some_one. (given some_one).0) x
           ∙ ap (λ (i : MapNow). unpin_alone i (newest_on p state.scope)) (sym o.is_now),
       moves x,
     )
       where
         given : 1 ≤ pins_on h v → ((version : ℕ) × (newest_on p state.scope ≡ Some version))
-            × LanePinsStand lines lane handle v.written (without_newest p state.scope) (removed (pins_it h) v.pins)
-        given some_one = given_back lines lane handle v.written p h at apart state.scope v.pins z.pins some_one
+            × LanePinsStand lines lane handle v.written (without_newest p state.scope)
+            (removed (pins_it h) v.pins)
+        given some_one = given_back lines lane handle v.written p h at apart state.scope v.pins
+            z.pins some_one
 
         wrote : m.written ≡ v.written
         wrote = no_entry v m _ adds (λ es e. e)
 
         moves : UnpinGoes h v r m → Later (alone_after state (Unpin p) r)
         moves (inl y) = subst (λ (q : Reply). Later (alone_after state (Unpin p) q)) (sym y.told)
-            (quiet_own p (now_named p state.objects) same refl wrote (ap (λ (k : View). k.pins) y.left))
+            (quiet_own p (now_named p state.objects) same refl wrote
+            (ap (λ (k : View). k.pins) y.left))
         moves (inr y) = subst (λ (q : Reply). Later (alone_after state (Unpin p) q)) (sym y.told)
             (quiet (alone_after state (Unpin p) answer.Done) same
             (nows_same p state.objects (now_named p state.objects) refl) wrote

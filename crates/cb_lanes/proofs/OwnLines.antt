@@ -79,7 +79,8 @@ ChangesNone (Write name at bytes) = ⊥
 ChangesNone (Free name) = ⊥
 ChangesNone q = Unit {0}
 
-pub enters_none : (o : Option ℕ) (q : Request) (r : Reply) (es : List Entry) → ChangesNone q → EntersAt o q r es
+pub enters_none : (o : Option ℕ) (q : Request) (r : Reply) (es : List Entry) → ChangesNone q
+    → EntersAt o q r es
     → es ≡ []
 enters_none o (Make p bytes) r es idle x = absurd idle
 enters_none o (Write p at bytes) r es idle x = absurd idle
@@ -92,10 +93,12 @@ module _ (c : Config) (v m : View) (r : Reply) where
   peek_pins h (inl y) = ap (λ (k : View). k.pins) y.left
   peek_pins h (inr y) = ap (λ (k : View). k.pins) y.peeks.left
 
-  object_pins : (o : Option ℕ) (q : Request) → KeepsScope q → ObjectGoes (goes_in c) o q v r m → m.pins ≡ v.pins
+  object_pins : (o : Option ℕ) (q : Request) → KeepsScope q → ObjectGoes (goes_in c) o q v r m
+      → m.pins ≡ v.pins
   object_pins None q plain x = ap (λ (k : View). k.pins) x.1
   object_pins (Some h) (Read p) plain x = call_pins c (job.Read (record { n = h })) r v m x
-  object_pins (Some h) (Write p at bytes) plain x = call_pins c (job.Write (record { n = h }) at bytes) r v m x
+  object_pins (Some h) (Write p at bytes) plain x =
+      call_pins c (job.Write (record { n = h }) at bytes) r v m x
   object_pins (Some h) (Free p) plain x = call_pins c (job.Free (record { n = h })) r v m x
   object_pins (Some h) (Filter p) plain x = call_pins c (job.Filter (record { n = h })) r v m x
   object_pins (Some h) (Peek p) plain x = peek_pins h x
@@ -104,7 +107,8 @@ module _ (c : Config) (v m : View) (r : Reply) where
   object_pins (Some h) q plain x = absurd x
 
   -- such a line leaves the pins
-  plain_pins : (o : Option ℕ) (q : Request) → KeepsScope q → LineGoes (goes_in c) o q v r m → m.pins ≡ v.pins
+  plain_pins : (o : Option ℕ) (q : Request) → KeepsScope q → LineGoes (goes_in c) o q v r m
+      → m.pins ≡ v.pins
   plain_pins o (Make p bytes) plain x = absurd plain
   plain_pins o Leave plain x = absurd plain
   plain_pins o line.Evict plain x = call_pins c job.Evict r v m x
@@ -124,7 +128,8 @@ module _ (c : Config) (v m : View) (r : Reply) where
 
 -- What is known of a line of a lane, where names have these handles: its reply is one that it may
 -- have, what it makes is the lane's own and new, and what it pins the lane's own.
-pub record IsLaneLine (lines : List Line) (lane : ℕ) (handle : List ℕ → Option ℕ) (q : Request) (r : Reply)
+pub record IsLaneLine (lines : List Line) (lane : ℕ) (handle : List ℕ → Option ℕ) (q : Request)
+    (r : Reply)
     : Type 0 where
   pub line : IsReplyOf q r
   pub makes : (p bytes : List ℕ) → q ≡ Make p bytes
@@ -133,7 +138,8 @@ pub record IsLaneLine (lines : List Line) (lane : ℕ) (handle : List ℕ → Op
 
 module _ (c : Config) (lines : List Line) (lane : ℕ) (named : Option (List ℕ) → Option ℕ)
     (later : List ℕ → Option ℕ) (state : LaneState) (v m all : View)
-    (z : LaneStands lines lane (λ q. named (Some q)) state v) (leads : LeadsTo m all) (grew : Grew v m) where
+    (z : LaneStands lines lane (λ q. named (Some q)) state v) (leads : LeadsTo m all)
+    (grew : Grew v m) where
   abbrev handle : List ℕ → Option ℕ
   handle q = named (Some q)
 
@@ -149,14 +155,19 @@ module _ (c : Config) (lines : List Line) (lane : ℕ) (named : Option (List ℕ
 
   -- ---- a make
   own_make : (p bytes : List ℕ) (r : Reply) → goes_own c (Calls (job.Make bytes)) v r m
-      → LineAdds v m (told_as (make_handle r) (Make p bytes) r) → IsReplyOf (Make p bytes) r → is_lack r ≡ false
+      → LineAdds v m (told_as (make_handle r) (Make p bytes) r) → IsReplyOf (Make p bytes) r
+      → is_lack r ≡ false
       → handle p ≡ None
-      → ((q : List ℕ) → later q ≡ first_of (handle_made q (Make p bytes) r) (handle q)) → Comes (Make p bytes) r
+      → ((q : List ℕ) → later q ≡ first_of (handle_made q (Make p bytes) r) (handle q))
+      → Comes (Make p bytes) r
   own_make p bytes (answer.Made hd version) ((d, y, is), tells) adds line room none more = (
     (hd, ap (answer.Made hd) first),
-    stands_made lines lane handle later state (alone_after state (Make p bytes) (answer.Made hd version)) v m p hd.n e
-        (Some (Held version bytes)) grew (λ q off. more q ∙ other q off (name_cases p q)) (more p ∙ made (name_cases p p))
-        refl none fresh wrote refl (call_pins c (job.Make bytes) (answer.Made hd version) v m (d, y, is)) (record {
+    stands_made lines lane handle later state
+        (alone_after state (Make p bytes) (answer.Made hd version)) v m p hd.n e
+        (Some (Held version bytes)) grew (λ q off. more q ∙ other q off (name_cases p q))
+        (more p ∙ made (name_cases p p))
+        refl none fresh wrote refl
+        (call_pins c (job.Make bytes) (answer.Made hd version) v m (d, y, is)) (record {
           own = subst (λ (k : View). Has hd.n k.own) (sym is) (inl refl);
           last = e;
           is_last = ap (λ (l : List Entry). last_in l hd.n) wrote ∙ last_hit e v.written hd.n refl;
@@ -183,14 +194,18 @@ module _ (c : Config) (lines : List Line) (lane : ℕ) (named : Option (List ℕ
       fresh = made_fresh hd.n version v all first
           (ask_new c (Calls (job.Make bytes)) v (answer.Made hd version) m (d, y, is))
           (leads.own hd.n (subst (λ (k : View). Has hd.n k.own) (sym is) (inl refl))) leads.keeps
-          (λ x has. subst (Has x) (sym (leads.grows ∙ ap (λ (l : List Entry). leads.rest ++ l) wrote))
+          (λ x has. subst (Has x) (sym
+          (leads.grows ∙ ap (λ (l : List Entry). leads.rest ++ l) wrote))
           (has_right x leads.rest (e ∷ v.written) (inr has)))
-          (λ s has. leads.seen s (subst (λ (k : View). Has s k.seen) (sym is) (has_right s d.seen v.seen has)))
+          (λ s has. leads.seen s (subst (λ (k : View). Has s k.seen) (sym is)
+          (has_right s d.seen v.seen has)))
 
-      other : (q : List ℕ) → p ≢ q → ((bytes_eq p q ≡ true) × (p ≡ q)) ⊎ ((bytes_eq p q ≡ false) × (p ≢ q))
+      other : (q : List ℕ) → p ≢ q → ((bytes_eq p q ≡ true) × (p ≡ q))
+          ⊎ ((bytes_eq p q ≡ false) × (p ≢ q))
           → first_of (if bytes_eq p q then Some hd.n else None) (handle q) ≡ handle q
       other q off (inl x) = absurd (off x.1)
-      other q off (inr x) = ap (λ (b : Bool). first_of (if b then Some hd.n else None) (handle q)) x.0
+      other q off (inr x) = ap (λ (b : Bool). first_of (if b then Some hd.n else None) (handle q))
+          x.0
 
       made : ((bytes_eq p p ≡ true) × (p ≡ p)) ⊎ ((bytes_eq p p ≡ false) × (p ≢ p))
           → first_of (if bytes_eq p p then Some hd.n else None) (handle p) ≡ Some hd.n
@@ -208,30 +223,37 @@ module _ (c : Config) (lines : List Line) (lane : ℕ) (named : Option (List ℕ
         scope = state.scope;
       } → Same → (r ≡ answer.Unmade) × (m ≡ v) → Later (alone_after state q r)
   unmade_stands q p r is same x = subst (λ (k : Reply). Later (alone_after state q k)) (sym x.0)
-      (subst Later (sym is) (quiet_own c lines lane named later state v m all z leads grew p (now_named p state.objects)
+      (subst Later (sym is) (quiet_own c lines lane named later state v m all z leads grew p
+      (now_named p state.objects)
       same refl (ap (λ (k : View). k.written) x.1) (ap (λ (k : View). k.pins) x.1)))
 
-  module _ (p : List ℕ) (r : Reply) (own : is_maker lines lane p ≡ true) (same : Same) (room : is_lack r ≡ false)
+  module _ (p : List ℕ) (r : Reply) (own : is_maker lines lane p ≡ true) (same : Same)
+      (room : is_lack r ≡ false)
     where
       stood : (o : Option ℕ) → handle p ≡ o → ObjectStands o v (now_named p state.objects)
-      stood o at = subst (λ (k : Option ℕ). ObjectStands k v (now_named p state.objects)) at (z.objects p own)
+      stood o at = subst (λ (k : Option ℕ). ObjectStands k v (now_named p state.objects)) at
+          (z.objects p own)
 
       read_comes : (o : Option ℕ) → handle p ≡ o → ObjectGoes (goes_own c) o (Read p) v r m
           → LineAdds v m (told_as o (Read p) r) → Comes (Read p) r
       read_comes None at x adds =
           (x.0 ∙ ap read_alone (sym (stood None at)), unmade_stands (Read p) p r refl same x)
       read_comes (Some h) at x adds =
-          own_read c lines lane named later state v m all z leads grew p h own at (stood (Some h) at) same r x adds room
+          own_read c lines lane named later state v m all z leads grew p h own at
+          (stood (Some h) at) same r x adds room
 
       write_comes : (at_ : ℕ) (bytes : List ℕ) (o : Option ℕ) → handle p ≡ o
           → ObjectGoes (goes_own c) o (Write p at_ bytes) v r m
-          → LineAdds v m (told_as o (Write p at_ bytes) r) → IsReplyOf (Write p at_ bytes) r → Comes (Write p at_ bytes) r
+          → LineAdds v m (told_as o (Write p at_ bytes) r) → IsReplyOf (Write p at_ bytes) r
+          → Comes (Write p at_ bytes) r
       write_comes at_ bytes None at x adds line = (
-        x.0 ∙ ap (λ (i : MapNow). write_alone i (named_on p state.scope) at_ (length bytes)) (sym (stood None at)),
+        x.0 ∙ ap (λ (i : MapNow). write_alone i (named_on p state.scope) at_ (length bytes))
+            (sym (stood None at)),
         unmade_stands (Write p at_ bytes) p r refl same x,
       )
       write_comes at_ bytes (Some h) at x adds line =
-          own_write c lines lane named later state v m all z leads grew p h own at (stood (Some h) at) same at_ bytes r x
+          own_write c lines lane named later state v m all z leads grew p h own at
+          (stood (Some h) at) same at_ bytes r x
           adds line room
 
       free_comes : (o : Option ℕ) → handle p ≡ o → ObjectGoes (goes_own c) o (Free p) v r m
@@ -241,7 +263,8 @@ module _ (c : Config) (lines : List Line) (lane : ℕ) (named : Option (List ℕ
         unmade_stands (Free p) p r refl same x,
       )
       free_comes (Some h) at x adds line =
-          own_free c lines lane named later state v m all z leads grew p h own at (stood (Some h) at) same r x adds line
+          own_free c lines lane named later state v m all z leads grew p h own at
+          (stood (Some h) at) same r x adds line
           room
 
       pin_comes : (o : Option ℕ) → handle p ≡ o → ObjectGoes (goes_own c) o (Pin p) v r m
@@ -251,7 +274,9 @@ module _ (c : Config) (lines : List Line) (lane : ℕ) (named : Option (List ℕ
         unmade_stands (Pin p) p r refl same x,
       )
       pin_comes (Some h) at x adds =
-          own_pin c lines lane named later state v m all z leads grew p h own at (stood (Some h) at) same r x.0 adds room
+          own_pin c lines lane named later state v m all z leads grew p h own at
+          (stood (Some h) at) same r
+          x.0.0 adds room
 
       peek_comes : (o : Option ℕ) → handle p ≡ o → ObjectGoes (goes_own c) o (Peek p) v r m
           → LineAdds v m (told_as o (Peek p) r) → Comes (Peek p) r
@@ -260,7 +285,8 @@ module _ (c : Config) (lines : List Line) (lane : ℕ) (named : Option (List ℕ
         unmade_stands (Peek p) p r refl same x,
       )
       peek_comes (Some h) at x adds =
-          own_peek c lines lane named later state v m all z leads grew p h own at (stood (Some h) at) same r x.0 adds
+          own_peek c lines lane named later state v m all z leads grew p h own at
+          (stood (Some h) at) same r x.0 adds
 
       unpin_comes : (o : Option ℕ) → handle p ≡ o → ObjectGoes (goes_own c) o (Unpin p) v r m
           → LineAdds v m (told_as o (Unpin p) r) → Comes (Unpin p) r
@@ -269,11 +295,13 @@ module _ (c : Config) (lines : List Line) (lane : ℕ) (named : Option (List ℕ
         unmade_stands (Unpin p) p r refl same x,
       )
       unpin_comes (Some h) at x adds =
-          own_unpin c lines lane named later state v m all z leads grew p h own at (stood (Some h) at) same r x.0 adds
+          own_unpin c lines lane named later state v m all z leads grew p h own at
+          (stood (Some h) at) same r x.0 adds
 
   -- ---- a line that is not the lane's own
   -- what it enters is of no own object
-  last_other : (o : Option ℕ) (es : List Entry) → m.written ≡ es ++ v.written → (es ≡ []) ⊎ IsOneEntryOf o es
+  last_other : (o : Option ℕ) (es : List Entry) → m.written ≡ es ++ v.written → (es ≡ [])
+      ⊎ IsOneEntryOf o es
       → ((q : List ℕ) (g : ℕ) → is_maker lines lane q ≡ true → handle q ≡ Some g → o ≡ Some g → ⊥)
       → (q : List ℕ) (k : ℕ) → is_maker lines lane q ≡ true → handle q ≡ Some k
       → last_in m.written k ≡ last_in v.written k
@@ -281,24 +309,31 @@ module _ (c : Config) (lines : List Line) (lane : ℕ) (named : Option (List ℕ
       ap (λ (l : List Entry). last_in l k) (grew_by ∙ ap (λ (l : List Entry). l ++ v.written) none)
   last_other o es grew_by (inr (g, is, e, one, on)) off q k own at =
       ap (λ (l : List Entry). last_in l k) (grew_by ∙ ap (λ (l : List Entry). l ++ v.written) one)
-      ∙ last_past e v.written k (λ same. off q k own at (is ∙ ap (λ (i : ℕ). Some i) (sym on ∙ same)))
+      ∙ last_past e v.written k
+      (λ same. off q k own at (is ∙ ap (λ (i : ℕ). Some i) (sym on ∙ same)))
 
   other_last : (q : Request) (r : Reply) (es : List Entry) → KeepsScope q
       → m.written ≡ es ++ v.written
-      → EntersAt (about (named (name_of q)) q r) q r es → is_maker_of lines lane (own_name q) ≡ false
+      → EntersAt (about (named (name_of q)) q r) q r es
+      → is_maker_of lines lane (own_name q) ≡ false
       → (n : List ℕ) (k : ℕ) → is_maker lines lane n ≡ true → handle n ≡ Some k
       → last_in m.written k ≡ last_in v.written k
   other_last (Write p at bytes) r es plain wrote enters not =
       last_other (handle p) es wrote (write_enters (handle p) p at bytes r es enters)
-      (λ n g own is there. true≢false (sym own ∙ ap (is_maker lines lane) (z.apart n p g own is there) ∙ not))
-  other_last (Free p) r es plain wrote enters not = last_other (handle p) es wrote (free_enters (handle p) p r es enters)
-      (λ n g own is there. true≢false (sym own ∙ ap (is_maker lines lane) (z.apart n p g own is there) ∙ not))
+      (λ n g own is there. true≢false
+      (sym own ∙ ap (is_maker lines lane) (z.apart n p g own is there) ∙ not))
+  other_last (Free p) r es plain wrote enters not =
+      last_other (handle p) es wrote (free_enters (handle p) p r es enters)
+      (λ n g own is there. true≢false
+      (sym own ∙ ap (is_maker lines lane) (z.apart n p g own is there) ∙ not))
   other_last (Make p bytes) r es plain wrote enters not = absurd plain
   other_last q r es plain wrote enters not = λ n k own is. ap (λ (l : List Entry). last_in l k)
-      (wrote ∙ ap (λ (l : List Entry). l ++ v.written) (enters_none (about (named (name_of q)) q r) q r es tt enters))
+      (wrote ∙ ap (λ (l : List Entry). l ++ v.written)
+      (enters_none (about (named (name_of q)) q r) q r es tt enters))
 
   -- no own object changes, nor does the scope
-  other_stands : (q : Request) (r : Reply) → KeepsScope q → LineGoes (goes_in c) (named (name_of q)) q v r m
+  other_stands : (q : Request) (r : Reply) → KeepsScope q
+      → LineGoes (goes_in c) (named (name_of q)) q v r m
       → LineAdds v m (told_as (about (named (name_of q)) q r) q r) → Same
       → is_maker_of lines lane (own_name q) ≡ false → Later state
   other_stands q r plain x adds same not =
@@ -313,12 +348,14 @@ module _ (c : Config) (lines : List Line) (lane : ℕ) (named : Option (List ℕ
 
   -- an unpin of another lane's object finds no pin
   unpin_other : (p : List ℕ) (r : Reply) → ObjectGoes (goes_in c) (handle p) (Unpin p) v r m
-      → LineAdds v m (told_as (handle p) (Unpin p) r) → Same → is_maker lines lane p ≡ false → Later state
+      → LineAdds v m (told_as (handle p) (Unpin p) r) → Same → is_maker lines lane p ≡ false
+      → Later state
   unpin_other p r x adds same not = by (handle p) refl x
     where
       still : m ≡ v → Later state
       still is = quiet c lines lane named later state v m all z leads grew state same (λ n. refl)
-          (ap (λ (k : View). k.written) is) (pins_kept c lines lane named later state v m all z leads grew
+          (ap (λ (k : View). k.written) is)
+          (pins_kept c lines lane named later state v m all z leads grew
           (ap (λ (k : View). k.pins) is))
 
       by : (o : Option ℕ) → handle p ≡ o → ObjectGoes (goes_in c) o (Unpin p) v r m → Later state
@@ -326,7 +363,8 @@ module _ (c : Config) (lines : List Line) (lane : ℕ) (named : Option (List ℕ
       by (Some g) at (inl y) = still y.left
       by (Some g) at (inr y) = absurd (let some_one = y.some in
           let none = none_shared lines lane handle v.written p g
-          (λ n own is. true≢false (sym own ∙ ap (is_maker lines lane) (z.apart n p g own is at) ∙ not))
+          (λ n own is. true≢false (sym own ∙ ap (is_maker lines lane) (z.apart n p g own is at)
+          ∙ not))
           state.scope v.pins z.pins in omega (arith, some_one, none))
 
   -- ---- a leave
@@ -361,7 +399,8 @@ module _ (c : Config) (lines : List Line) (lane : ℕ) (named : Option (List ℕ
   line_old q r x = line_less (goes_own c) (goes_in c) v m r (λ ask y. y.0) (named (name_of q)) q x
 
   pub line_steps : (q : Request) (r : Reply) → LineGoes (goes_own c) (named (name_of q)) q v r m
-      → LineAdds v m (told_as (about (named (name_of q)) q r) q r) → IsLaneLine lines lane handle q r
+      → LineAdds v m (told_as (about (named (name_of q)) q r) q r)
+      → IsLaneLine lines lane handle q r
       → ((p : List ℕ) → later p ≡ first_of (handle_made p q r) (handle p)) → LineStepsOn q r
   line_steps (Make p bytes) r x adds is more = record {
     own = λ own room. own_make p bytes r x adds is.line room (is.makes p bytes refl).1 more;
@@ -369,14 +408,17 @@ module _ (c : Config) (lines : List Line) (lane : ℕ) (named : Option (List ℕ
     other = λ not off. absurd (true≢false (sym (is.makes p bytes refl).0 ∙ not));
   }
   line_steps (Read p) r x adds is more = plain_steps (Read p) r tt refl
-      (λ own room. read_comes p r own more room (handle p) refl x adds) (line_old (Read p) r x) adds more
+      (λ own room. read_comes p r own more room (handle p) refl x adds)
+      (line_old (Read p) r x) adds more
   line_steps (Write p at bytes) r x adds is more = plain_steps (Write p at bytes) r tt refl
       (λ own room. write_comes p r own more room at bytes (handle p) refl x adds is.line)
       (line_old (Write p at bytes) r x) adds more
   line_steps (Free p) r x adds is more = plain_steps (Free p) r tt refl
-      (λ own room. free_comes p r own more room (handle p) refl x adds is.line) (line_old (Free p) r x) adds more
+      (λ own room. free_comes p r own more room (handle p) refl x adds is.line)
+      (line_old (Free p) r x) adds more
   line_steps (Peek p) r x adds is more = plain_steps (Peek p) r tt refl
-      (λ own room. peek_comes p r own more room (handle p) refl x adds) (line_old (Peek p) r x) adds more
+      (λ own room. peek_comes p r own more room (handle p) refl x adds)
+      (line_old (Peek p) r x) adds more
   line_steps (Pin p) r x adds is more = record {
     own = λ own room. pin_comes p r own more room (handle p) refl x adds;
     leave = λ e. absurd (false≢true e);

@@ -21,7 +21,8 @@ pub made_first : (c : Config) (bytes : List ℕ) (handle : Handle) (version : �
     → TurnGives c (job.Make bytes) (answer.Made handle version) v m
     → ((t : Turn) → Has t m.turns → Has t all.turns) → AreMadeFirst all.turns → version ≡ 1
 made_first c bytes handle version v m all (d, y, is) turns makes =
-    let x = y.ends_so.1 in makes x.turn (turns x.turn (subst (λ (z : View). Has x.turn z.turns) (sym is)
+    let x = y.ends_so.1 in makes x.turn
+    (turns x.turn (subst (λ (z : View). Has x.turn z.turns) (sym is)
     (has_left x.turn d.turns v.turns (subst (λ (p : Part). Has x.turn p.turns) (sym y.part)
     (has_left x.turn y.last.turns y.before.turns
     (subst (λ (p : Part). Has x.turn p.turns) (sym x.part) (inl refl)))))))
@@ -33,7 +34,8 @@ pub made_fresh : (h version : ℕ) (v all : View) → version ≡ 1 → IsAbove 
     → ((s : Seen) → Has s v.seen → Has s all.seen) → Knows h v → ⊥
 made_fresh h version v all first above own keeps written seen (inl (e, has, same)) =
     let low = born (λ k. Has k all.own) h own all.written e keeps.order (written e has) same in
-    let less = above e.version e.freed (inl (e, has, same, refl, refl)) in omega (arith, first, low, less)
+    let less = above e.version e.freed (inl (e, has, same, refl, refl)) in omega
+    (arith, first, low, less)
 made_fresh h version v all first above own keeps written seen (inr (s, has, same)) =
     let z = keeps.read s (seen s has) (subst (λ (k : ℕ). Has k all.own) (sym same) own) in
     let low = born (λ k. Has k all.own) h own all.written z.0 keeps.order z.1

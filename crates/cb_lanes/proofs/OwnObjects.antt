@@ -45,7 +45,8 @@ last_has (e ∷ es) h x is = by (last_has es h x) (handle_cases e h)
         (inl one, ap (λ (z : Entry). z.handle) (sym one) ∙ same)
     by later (inr off) = let z = later (sym (last_past e es h off) ∙ is) in (inr z.0, z.1)
 
-pub none_has : (es : List Entry) (h : ℕ) (e : Entry) → last_in es h ≡ None → Has e es → e.handle ≡ h → ⊥
+pub none_has : (es : List Entry) (h : ℕ) (e : Entry) → last_in es h ≡ None → Has e es → e.handle ≡ h
+    → ⊥
 none_has [] h e none has same = absurd has
 none_has (y ∷ es) h e none has same = by (none_has es h e) (handle_cases y h) has
   where
@@ -67,7 +68,8 @@ begins (Some z) y n = let v = n.next in omega (arith, v)
 
 module _ (mine : ℕ → Type 0) (h : ℕ) (own : mine h) where
   -- each entry of the object is its last one, or of an older version
-  pub older : (es : List Entry) (x e : Entry) → AreEntriesInOrder mine es → last_in es h ≡ Some x → Has e es
+  pub older : (es : List Entry) (x e : Entry) → AreEntriesInOrder mine es → last_in es h ≡ Some x
+      → Has e es
       → e.handle ≡ h → (e ≡ x) ⊎ (e.version < x.version)
   older [] x e all is has same = absurd has
   older (y ∷ es) x e all is has same = by (λ z. older es z e all.1) (handle_cases y h) has
@@ -77,21 +79,26 @@ module _ (mine : ℕ → Type 0) (h : ℕ) (own : mine h) where
           (all.0 (subst mine (sym at) own))
 
       behind : (o : Option Entry) → last_in es h ≡ o → y.handle ≡ h → Has e es
-          → ((z : Entry) → last_in es h ≡ Some z → Has e es → e.handle ≡ h → (e ≡ z) ⊎ (e.version < z.version))
+          → ((z : Entry) → last_in es h ≡ Some z → Has e es → e.handle ≡ h → (e ≡ z)
+          ⊎ (e.version < z.version))
           → e.version < y.version
       behind None was at rest later = absurd (none_has es h e was rest same)
       behind (Some z) was at rest later = below z (next z at was) (later z was rest same)
         where
-          below : (z : Entry) → EntryComesNext z y → (e ≡ z) ⊎ (e.version < z.version) → e.version < y.version
-          below z n (inl one) = let v = n.next in let w : e.version ≡ z.version = ap (λ (k : Entry). k.version) one in
+          below : (z : Entry) → EntryComesNext z y → (e ≡ z) ⊎ (e.version < z.version)
+              → e.version < y.version
+          below z n (inl one) = let v = n.next in let w : e.version ≡ z.version =
+              ap (λ (k : Entry). k.version) one in
               omega (arith, v, w)
           below z n (inr less) = let v = n.next in omega (arith, v, less)
 
-      by : ((z : Entry) → last_in es h ≡ Some z → Has e es → e.handle ≡ h → (e ≡ z) ⊎ (e.version < z.version))
+      by : ((z : Entry) → last_in es h ≡ Some z → Has e es → e.handle ≡ h → (e ≡ z)
+          ⊎ (e.version < z.version))
           → (y.handle ≡ h) ⊎ (y.handle ≢ h) → (y ≡ e) ⊎ Has e es → (e ≡ x) ⊎ (e.version < x.version)
       by later (inl at) (inl one) = inl (sym one ∙ same_Some y x (sym (last_hit y es h at) ∙ is))
       by later (inl at) (inr rest) = inr (subst (λ (z : Entry). e.version < z.version)
-          (same_Some y x (sym (last_hit y es h at) ∙ is)) (behind (last_in es h) refl at rest later))
+          (same_Some y x (sym (last_hit y es h at) ∙ is))
+          (behind (last_in es h) refl at rest later))
       by later (inr off) (inl one) = absurd (off (ap (λ (z : Entry). z.handle) one ∙ same))
       by later (inr off) (inr rest) = later x (sym (last_past y es h off) ∙ is) rest same
 
@@ -103,11 +110,13 @@ module _ (mine : ℕ → Type 0) (h : ℕ) (own : mine h) where
     where
       by : (o : Option Entry) → last_in es h ≡ o → e.version < y.version
       by None was = absurd (none_has es h e was rest same)
-      by (Some z) was = less (subst (λ (o : Option Entry). ComesBehind o y) (ap (last_in es) at ∙ was)
+      by (Some z) was = less (subst (λ (o : Option Entry). ComesBehind o y)
+          (ap (last_in es) at ∙ was)
           (all.0 (subst mine (sym at) own))) (older es z e all.1 was rest same)
         where
           less : EntryComesNext z y → (e ≡ z) ⊎ (e.version < z.version) → e.version < y.version
-          less n (inl one) = let v = n.next in let w : e.version ≡ z.version = ap (λ (k : Entry). k.version) one in
+          less n (inl one) = let v = n.next in let w : e.version ≡ z.version =
+              ap (λ (k : Entry). k.version) one in
               omega (arith, v, w)
           less n (inr low) = let v = n.next in omega (arith, v, low)
 
@@ -129,7 +138,8 @@ module _ (mine : ℕ → Type 0) (h : ℕ) (own : mine h) where
       one_of_version es e x all.1 a b eh xh same
 
   -- versions begin with 1
-  pub born : (es : List Entry) (e : Entry) → AreEntriesInOrder mine es → Has e es → e.handle ≡ h → 1 ≤ e.version
+  pub born : (es : List Entry) (e : Entry) → AreEntriesInOrder mine es → Has e es → e.handle ≡ h
+      → 1 ≤ e.version
   born [] e all has same = absurd has
   born (y ∷ es) e all (inl is) same = subst (λ (z : Entry). 1 ≤ z.version) is
       (begins (last_in es y.handle) y
@@ -153,7 +163,8 @@ module _ (mine : ℕ → Type 0) (h : ℕ) (own : mine h) where
   pub one_length : (es : List Entry) (e x : Entry) → AreEntriesInOrder mine es → Has e es → Has x es
       → e.handle ≡ h → x.handle ≡ h → e.freed ≡ false → x.freed ≡ false → e.len ≡ x.len
   one_length [] e x all he hx eh xh held kept = absurd he
-  one_length (y ∷ es) e x all (inl a) (inl b) eh xh held kept = ap (λ (z : Entry). z.len) (sym a ∙ b)
+  one_length (y ∷ es) e x all (inl a) (inl b) eh xh held kept =
+      ap (λ (z : Entry). z.len) (sym a ∙ b)
   one_length (y ∷ es) e x all (inl a) (inr b) eh xh held kept = ap (λ (z : Entry). z.len) (sym a)
       ∙ sym (first_long y es x all (ap (λ (z : Entry). z.handle) a ∙ eh)
       (ap (λ (z : Entry). z.freed) a ∙ held) b xh
@@ -185,18 +196,21 @@ module _ (mine : ℕ → Type 0) (h : ℕ) (own : mine h) where
   newest_is version u x newest fresh mine_own all is =
       let w = last_has u.written h x is in
       let low = each_has _ x u.written (subst (λ (l : List Entry).
-      Each (λ (e : Entry). e.handle ≡ h → e.version ≤ version) (l ++ u.written)) fresh newest.written) w.0 w.1 in
+      Each (λ (e : Entry). e.handle ≡ h → e.version ≤ version) (l ++ u.written)) fresh
+      newest.written) w.0 w.1 in
       let some_one : 0 < 0 + times (is_version h version) u.written = subst (λ (l : List Entry).
       0 < times (is_version h version) l + times (is_version h version) u.written) fresh
       (newest.lone (inr mine_own)) in
       let z = counted (is_version h version) u.written (omega (arith, some_one)) in
       up z.0 low (parts z.0 z.2) (older u.written x z.0 all is z.1 (parts z.0 z.2).0)
     where
-      counted : (t : Entry → Bool) (xs : List Entry) → 0 < times t xs → (e : Entry) × Has e xs × (t e ≡ true)
+      counted : (t : Entry → Bool) (xs : List Entry) → 0 < times t xs → (e : Entry) × Has e xs
+          × (t e ≡ true)
       counted t [] some_one = absurd (omega (arith, some_one))
       counted t (y ∷ xs) some_one = by (counted t xs) (cases_Bool (t y))
         where
-          by : (0 < times t xs → (e : Entry) × Has e xs × (t e ≡ true)) → (t y ≡ true) ⊎ (t y ≡ false)
+          by : (0 < times t xs → (e : Entry) × Has e xs × (t e ≡ true)) → (t y ≡ true)
+              ⊎ (t y ≡ false)
               → (e : Entry) × Has e (y ∷ xs) × (t e ≡ true)
           by later (inl hit) = (y, inl refl, hit)
           by later (inr off) = let z = later (let n : one_if (t y) ≡ 0 = ap one_if off in

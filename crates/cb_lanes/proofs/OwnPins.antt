@@ -70,7 +70,8 @@ module _ (nodes i : ℕ) (lines : List Line) (answers : List Answer) (w new : Wo
       (pins_of_seat w.seats own) (scopes.are own comes))
 
   -- a pinned object is here, and the map has as many bytes as its word says
-  pub pinned_length : (version : ℕ) (bytes : List ℕ) → value (calls_of answers) h ≡ Some (Held version bytes)
+  pub pinned_length : (version : ℕ) (bytes : List ℕ)
+      → value (calls_of answers) h ≡ Some (Held version bytes)
       → 1 ≤ pins_of (word_at w.desk h) → len_of (word_at w.desk h) ≡ length bytes
   pinned_length version bytes has pinned =
       let inside = within w h c.before below in
@@ -91,22 +92,27 @@ module _ (nodes i : ℕ) (lines : List Line) (answers : List Answer) (w new : Wo
   -- so a change tells the lane's own pins
   pub write_tells : (at : ℕ) (bytes : List ℕ) (r : Reply) → handle_of answers name ≡ Some h
       → TurnStep (job.Write (record { n = h }) at bytes) w r new
-      → PinsTell (value_named answers name) (named_on name (scope_of own answers)) (Write name at bytes) r
+      → PinsTell (value_named answers name) (named_on name (scope_of own answers))
+      (Write name at bytes) r
   write_tells at bytes r named step = (
     record {
-      pinned = λ count e. (write_counts w new h at bytes count c.before c.few (told e)).is ∙ pins_are;
-      done = λ version e. sym pins_are ∙ write_unpinned w new h at bytes version c.before c.few (told e);
+      pinned = λ count e. (write_counts w new h at bytes count c.before c.few (told e)).is
+          ∙ pins_are;
+      done = λ version e. sym pins_are ∙ write_unpinned w new h at bytes version c.before c.few
+          (told e);
     },
     λ count version held_bytes e has.
         let fits = write_fits w new h at bytes count c.before c.few (told e) in
         let pins = write_counts w new h at bytes count c.before c.few (told e) in
-        let len = pinned_length version held_bytes (sym (ap (value_at (calls_of answers)) named) ∙ has)
+        let len = pinned_length version held_bytes
+        (sym (ap (value_at (calls_of answers)) named) ∙ has)
         (let n = pins.is in let m = pins.some in omega (arith, n, m)) in
         omega (arith, fits, len),
   )
     where
       told : {q : Reply} → r ≡ q → TurnStep (job.Write (record { n = h }) at bytes) w q new
-      told e = subst (λ (q : Reply). TurnStep (job.Write (record { n = h }) at bytes) w q new) e step
+      told e = subst (λ (q : Reply). TurnStep (job.Write (record { n = h }) at bytes) w q new) e
+          step
 
   pub free_tells : (r : Reply) → TurnStep (job.Free (record { n = h })) w r new
       → ChangeTells (named_on name (scope_of own answers)) r
@@ -125,7 +131,8 @@ unmade_tells own r is = record {
   done = λ version e. absurd (let z : answer.Unmade ≡ answer.Version version = sym is ∙ e in cc);
 }
 
-module _ (side : Side) (nodes i : ℕ) (lines : List Line) (answers : List Answer) (w new : WorldState)
+module _ (side : Side) (nodes i : ℕ) (lines : List Line) (answers : List Answer)
+    (w new : WorldState)
     (number : List ℕ → Option ℕ) (later : List ℕ) (own : ℕ)
     (are : AreLines nodes [] lines) (so_far : map asked answers ≡ take i lines)
     (scopes : AreScopes number later answers w) (c : Turning answers w new)
@@ -134,14 +141,16 @@ module _ (side : Side) (nodes i : ℕ) (lines : List Line) (answers : List Answe
     (ready : (name : List ℕ) (h : ℕ) → number name ≡ Some h → h < w.desk.settings.handles) where
   write_by : (name : List ℕ) (at : ℕ) (bytes : List ℕ) (r : Reply) → is_maker lines own name ≡ true
       → (o : Option ℕ) → number name ≡ o → LineStep side own o (Write name at bytes) w r new
-      → PinsTell (value_named answers name) (named_on name (scope_of own answers)) (Write name at bytes) r
+      → PinsTell (value_named answers name) (named_on name (scope_of own answers))
+      (Write name at bytes) r
   write_by name at bytes r maker None e step = (
     unmade_tells (named_on name (scope_of own answers)) r step.0,
     λ count version held_bytes told has.
         absurd (let z : answer.Unmade ≡ answer.Pinned count = sym step.0 ∙ told in cc),
   )
   write_by name at bytes r maker (Some h) e step =
-      write_tells nodes i lines answers w new number later own name h are so_far scopes c some low comes maker e
+      write_tells nodes i lines answers w new number later own name h are so_far scopes c some low
+      comes maker e
       (ready name h e) at bytes r (same name ∙ e)
       (turn_alone own (job.Write (record { n = h }) at bytes) w new r tt c.lone step)
 
@@ -150,7 +159,8 @@ module _ (side : Side) (nodes i : ℕ) (lines : List Line) (answers : List Answe
       → ChangeTells (named_on name (scope_of own answers)) r
   free_by name r maker None e step = unmade_tells (named_on name (scope_of own answers)) r step.0
   free_by name r maker (Some h) e step =
-      free_tells nodes i lines answers w new number later own name h are so_far scopes c some low comes maker e
+      free_tells nodes i lines answers w new number later own name h are so_far scopes c some low
+      comes maker e
       (ready name h e) r (turn_alone own (job.Free (record { n = h })) w new r tt c.lone step)
 
   pub line_tells : (request : Request) (r : Reply) (handle : Option ℕ)
@@ -162,7 +172,8 @@ module _ (side : Side) (nodes i : ℕ) (lines : List Line) (answers : List Answe
       let is : written ≡ name = same_Some written name e in
       subst (λ (q : List ℕ). PinsTell (value_named answers q) (named_on q (scope_of own answers))
       (Write written at bytes) r) is
-      (write_by written at bytes r (ap (is_maker lines own) is ∙ maker) handle (at_name written refl) step)
+      (write_by written at bytes r (ap (is_maker lines own) is ∙ maker) handle
+      (at_name written refl) step)
   line_tells (Free freed) r handle at_name step name e maker =
       let is : freed ≡ name = same_Some freed name e in
       subst (λ (q : List ℕ). ChangeTells (named_on q (scope_of own answers)) r) is

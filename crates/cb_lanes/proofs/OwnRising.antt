@@ -29,7 +29,8 @@ module _ (mine : ℕ → Type 0) where
   -- one entry more, above all that the record has of its object
   rises_one : (v : View) (es : List Entry) (e : Entry) → es ≡ e ∷ [] → IsAbove v e.handle e.version
       → AreRising mine v.written → AreRising mine (es ++ v.written)
-  rises_one v es e one above rising = subst (λ (l : List Entry). AreRising mine (l ++ v.written)) (sym one)
+  rises_one v es e one above rising = subst (λ (l : List Entry). AreRising mine (l ++ v.written))
+      (sym one)
       (λ own x has same. above x.version x.freed (inl (x, has, same, refl, refl)), rising)
 
   rises_none : (v : View) (es : List Entry) → es ≡ [] → AreRising mine v.written
@@ -45,7 +46,8 @@ module _ (mine : ℕ → Type 0) where
   make_rises v p bytes r es x new rising = rises_none v es x rising
 
   write_rises : (v : View) (h at : ℕ) (p bytes : List ℕ) (r : Reply) (es : List Entry)
-      → EntersAt (Some h) (Write p at bytes) r es → TellsNew (Calls (job.Write (record { n = h }) at bytes)) v r
+      → EntersAt (Some h) (Write p at bytes) r es
+      → TellsNew (Calls (job.Write (record { n = h }) at bytes)) v r
       → AreRising mine v.written → AreRising mine (es ++ v.written)
   write_rises v h at p bytes (answer.Version n) es x new rising =
       rises_one v es (entry h n x.0 x.1 x.2) x.5 new rising
@@ -58,7 +60,8 @@ module _ (mine : ℕ → Type 0) where
   free_rises v h p r es x new rising = rises_none v es x rising
 
   -- a line, by its request
-  enters_rises : (c : Config) (v m : View) (r : Reply) (o : Option ℕ) (q : Request) (es : List Entry)
+  enters_rises : (c : Config) (v m : View) (r : Reply) (o : Option ℕ) (q : Request)
+      (es : List Entry)
       → LineGoes (goes_in c) o q v r m → EntersAt (about o q r) q r es → AreRising mine v.written
       → AreRising mine (es ++ v.written)
   enters_rises c v m r o (Make p bytes) es x enters rising = make_rises v p bytes r es enters
@@ -83,12 +86,14 @@ module _ (mine : ℕ → Type 0) where
       (enters_rises c v m r o q b.0 x b.3 rising)
 
   pub lines_rising : (c : Config) (names : List Named) (before after : List Answer) (v w : View)
-      → LinesGo (goes_in c) names before v after w → AreRising mine v.written → AreRising mine w.written
+      → LinesGo (goes_in c) names before v after w → AreRising mine v.written
+      → AreRising mine w.written
   lines_rising c names before [] v w is rising =
       subst (λ (z : View). AreRising mine z.written) (sym is) rising
   lines_rising c names before (a ∷ after) v w (m, one, rest) rising =
       lines_rising c names (before ++ a ∷ []) after m w rest
-      (line_rises c (handle_behind names before (name_of a.request)) a.request a.reply v m one rising)
+      (line_rises c (handle_behind names before (name_of a.request)) a.request a.reply v m one
+      rising)
 
 -- the own objects of a record
 abbrev Mine : View → ℕ → Type 0

@@ -1,5 +1,5 @@
--- Each line on an object that its pass made is answered by what the object's last entry left, and by
--- the pass's own pins.
+-- Each line on an object that its pass made is answered by what the object's last entry left, and
+-- by the pass's own pins.
 use Rattle.std.proofs.Common.{◌≡◌, ◌⊎◌, ℕ, ◌+◌, ◌<◌, ◌≤◌, Bool, true, false, cond, List, [], ◌∷◌}
 use Rattle.std.proofs.Common.{◌++◌, length, Option, None, Some, inl, inr, sym, refl, ap, ◌∙◌, subst}
 use Rattle.std.proofs.Common.{true≢false, append_assoc, arith}
@@ -36,8 +36,7 @@ use Rattle.cb_shared.specs.declared.answers.WriteAnswer.{WriteAnswer}
 use Rattle.cb_shared.specs.declared.answers.WriteAnswer.TheVariants as place
 use Rattle.cb_shared.specs.Calls.{ReadGives, SaysAs, TurnGives, WriteAnswers, the_handle}
 use Rattle.cb_shared.specs.Calls.{IsAnswerTo, again_in}
-use Rattle.cb_lanes.proofs.AskedTurns.{brings_lack, write_told}
-use Rattle.cb_shared.proofs.Laws.{read_lacks}
+use Rattle.cb_shared.proofs.Laws.{brings_lack, read_lacks, write_told}
 use Rattle.cb_lanes.specs.Alone.{change_alone, free_alone, peek_alone, pin_alone, pin_object}
 use Rattle.cb_lanes.specs.Alone.{read_alone, unpin_alone, write_alone}
 use Rattle.cb_lanes.specs.AloneUntil.{is_lack}
@@ -77,8 +76,8 @@ TellsOwn ask v r = Unit {0}
 abbrev pub goes_own : Config → Goes View
 goes_own c ask v r w = goes_in c ask v r w × TellsOwn ask v r
 
--- The object is the pass's own, and this is its last entry before a line that leads to m. The record
--- in the end has all that it has, in order.
+-- The object is the pass's own, and this is its last entry before a line that leads to m. The
+-- record in the end has all that it has, in order.
 pub record OwnAt (mine : ℕ → Type 0) (h : ℕ) (x : Entry) (v m all : View) : Type 0 where
   pub is_mine : mine h
   pub own : Has h v.own
@@ -107,11 +106,13 @@ module _ (x : Entry) where
   held_alone F e = ap (λ (b : Bool). F (Some (cond b (Freed x.version)
       (Held x.version (bytes_in x.after x.len))))) e
 
-  freed_alone : (F : MapNow → Reply) → x.freed ≡ true → F (Some (object_of x)) ≡ F (Some (Freed x.version))
+  freed_alone : (F : MapNow → Reply) → x.freed ≡ true
+      → F (Some (object_of x)) ≡ F (Some (Freed x.version))
   freed_alone F e = ap (λ (b : Bool). F (Some (cond b (Freed x.version)
       (Held x.version (bytes_in x.after x.len))))) e
 
-module _ (mine : ℕ → Type 0) (h : ℕ) (x : Entry) (v m all : View) (at_ : OwnAt mine h x v m all) where
+module _ (mine : ℕ → Type 0) (h : ℕ) (x : Entry) (v m all : View)
+    (at_ : OwnAt mine h x v m all) where
   all_is : all.written ≡ (at_.rest ++ at_.more) ++ v.written
   all_is = at_.grows ∙ ap (λ (l : List Entry). at_.rest ++ l) at_.adds
       ∙ sym (append_assoc at_.rest at_.more v.written)
@@ -122,7 +123,8 @@ module _ (mine : ℕ → Type 0) (h : ℕ) (x : Entry) (v m all : View) (at_ : O
   saw_version : (version : ℕ) → SawNewest h version v → version ≡ x.version
   saw_version version saw = newest_is mine h at_.is_mine version saw.at x saw.newest
       (saw.fresh ∙ at_.fresh) (saw.own h at_.own)
-      (subst (AreEntriesInOrder mine) (sym saw.written) (order_front mine (at_.rest ++ at_.more) v.written order_all))
+      (subst (AreEntriesInOrder mine) (sym saw.written)
+      (order_front mine (at_.rest ++ at_.more) v.written order_all))
       (ap (λ (l : List Entry). last_in l h) saw.written ∙ at_.last)
 
   last_same : (len : ℕ) (z : HasLast h len v) → z.last ≡ x
@@ -137,7 +139,8 @@ module _ (mine : ℕ → Type 0) (h : ℕ) (x : Entry) (v m all : View) (at_ : O
           (has_right x v.fresh v.written w.0) w.1 in absurd (omega (arith, less, low))
 
   seen_is : (s : Seen) → Has s m.seen → s.handle ≡ h → s.version ≡ x.version → s ≡ seen_of x
-  seen_is s has same version = read_is mine h at_.is_mine (at_.rest ++ at_.more) v.written all.seen x s
+  seen_is s has same version = read_is mine h at_.is_mine
+      (at_.rest ++ at_.more) v.written all.seen x s
       order_all (subst (λ (l : List Entry). AreRead mine l all.seen) all_is at_.read) at_.last
       (at_.seen s has) same version
 
@@ -145,7 +148,8 @@ module _ (mine : ℕ → Type 0) (h : ℕ) (x : Entry) (v m all : View) (at_ : O
   long_is : (at : ℕ) (bytes : List ℕ) (r : Reply) (of_word : IsOfWord r)
       → (z : SawWord h at bytes r of_word m) → x.freed ≡ false → len_of z.look.word ≡ x.len
   long_is at bytes r of_word z held =
-      let y = at_.long z.look (at_.found z.look z.found) (subst mine (sym z.on) at_.is_mine) z.some in
+      let y = at_.long z.look (at_.found z.look z.found)
+      (subst mine (sym z.on) at_.is_mine) z.some in
       let w = last_has v.written h x at_.last in
       sym y.4 ∙ one_length mine h at_.is_mine all.written y.0 x at_.order y.1
       (subst (Has x) (sym all_is) (has_right x (at_.rest ++ at_.more) v.written w.0))
@@ -164,14 +168,16 @@ module _ (mine : ℕ → Type 0) (h : ℕ) (x : Entry) (v m all : View) (at_ : O
       (subst mine (sym w.handle) at_.is_mine))
 
   -- ---- a read
-  bytes_read : (version : ℕ) (bytes : List ℕ) (d : Part) → ((s : Seen) → Has s d.seen → Has s m.seen)
+  bytes_read : (version : ℕ) (bytes : List ℕ) (d : Part)
+      → ((s : Seen) → Has s d.seen → Has s m.seen)
       → version ≡ x.version → HasOne (IsReadAs h version bytes) d.seen
       → answer.Bytes version bytes ≡ read_alone (Some (object_of x))
   bytes_read version bytes d more same has =
       let z = found_one (IsReadAs h version bytes) d.seen has in
       let e = seen_is z.0 (more z.0 z.1) z.2.0 (z.2.1 ∙ same) in
       let held : x.freed ≡ false = sym (ap (λ (s : Seen). s.freed) e) ∙ z.2.2 in
-      let is : bytes ≡ bytes_in x.after x.len = z.2.3 ∙ ap (λ (s : Seen). bytes_in s.words s.len) e in
+      let is : bytes ≡ bytes_in x.after x.len = z.2.3
+      ∙ ap (λ (s : Seen). bytes_in s.words s.len) e in
       (λ i. answer.Bytes (same i) (is i)) ∙ sym (held_alone x read_alone held)
 
   seen_more : (t : _) (y : LineAdds v m t) → (s : Seen) → Has s y.0.seen → Has s m.seen
@@ -210,14 +216,16 @@ module _ (mine : ℕ → Type 0) (h : ℕ) (x : Entry) (v m all : View) (at_ : O
   neither (inr e) = e
 
   odd_write : (c : Config) (at : ℕ) (bytes : List ℕ) (r : Reply) → IsOdd r
-      → ((again : Bool) → IsAnswerTo again (job.Write (the_handle h) at bytes) r → ⊥) → WriteAnswers c h at bytes r v m → ⊥
+      → ((again : Bool) → IsAnswerTo again (job.Write (the_handle h) at bytes) r → ⊥)
+      → WriteAnswers c h at bytes r v m → ⊥
   odd_write c at bytes r odd never (d, y, is) = elim y.ends_so [
     | inl z ↦ odd_says z.0 r odd z.1
     | inr z ↦ never (again_in y.last.turns) (write_told c h at bytes r _ y.last z)
   ]
 
   -- one is written behind the object's last entry
-  abbrev enters_one : (version : ℕ) (d : Part) (e : Entry) (own rest : List Entry) → m.written ≡ d.written ++ v.written
+  abbrev enters_one : (version : ℕ) (d : Part) (e : Entry) (own rest : List Entry)
+      → m.written ≡ d.written ++ v.written
       → d.written ≡ rest ++ own → own ≡ e ∷ [] → rest ≡ [] → e.handle ≡ h → e.version ≡ version
       → WritesOne h version v m
   enters_one version d e own rest grew parts one none handle number = record {
@@ -253,7 +261,8 @@ module _ (mine : ℕ → Type 0) (h : ℕ) (x : Entry) (v m all : View) (at_ : O
   write_held F at count pins r held is =
       is ∙ sym (held_alone x (λ (o : MapNow). write_alone o pins at count) held)
 
-  pub write_reply : (c : Config) (name bytes : List ℕ) (at : ℕ) (r : Reply) → WriteAnswers c h at bytes r v m
+  pub write_reply : (c : Config) (name bytes : List ℕ) (at : ℕ) (r : Reply)
+      → WriteAnswers c h at bytes r v m
       → WriteTells h v r → LineAdds v m (told_as (Some h) (Write name at bytes) r)
       → IsReplyOf (Write name at bytes) r → (1 ≤ pins_on h v → x.freed ≡ false) → is_lack r ≡ false
       → r ≡ write_alone (Some (object_of x)) (pins_on h v) at (length bytes)
@@ -264,7 +273,8 @@ module _ (mine : ℕ → Type 0) (h : ℕ) (x : Entry) (v m all : View) (at_ : O
       let same = next.same_len w.1 in
       let fits = w.3 in
       write_held (λ r. Unit {0}) at (length bytes) (pins_on h v) (answer.Version version) next.there
-      (within_alone x.version (pins_on h v) (at + length bytes) (bytes_in x.after x.len) (answer.Version version)
+      (within_alone x.version (pins_on h v) (at + length bytes) (bytes_in x.after x.len)
+      (answer.Version version)
       (omega (arith, long, same, fits))
       (changed_alone x.version version (pins_on h v) (sym w.0.number ∙ next.next) tells))
   write_reply c name bytes at (answer.Pinned count) y tells adds line pinned room =
@@ -276,7 +286,8 @@ module _ (mine : ℕ → Type 0) (h : ℕ) (x : Entry) (v m all : View) (at_ : O
       let fits = z.says in
       let is = long_is at bytes (answer.Pinned count) tt z held in
       write_held (λ r. Unit {0}) at (length bytes) (pins_on h v) (answer.Pinned count) held
-      (within_alone x.version (pins_on h v) (at + length bytes) (bytes_in x.after x.len) (answer.Pinned count)
+      (within_alone x.version (pins_on h v) (at + length bytes) (bytes_in x.after x.len)
+      (answer.Pinned count)
       (omega (arith, long, fits, is))
       (pinned_alone x.version count (pins_on h v) tells.0 tells.1))
   write_reply c name bytes at (answer.Range len) y tells adds line pinned room =
@@ -297,8 +308,10 @@ module _ (mine : ℕ → Type 0) (h : ℕ) (x : Entry) (v m all : View) (at_ : O
       absurd (odd_write c at bytes answer.Unmade tt (λ again. neither) y)
   write_reply c name bytes at answer.Moving y tells adds line pinned room =
       absurd (odd_write c at bytes answer.Moving tt (λ again. neither) y)
-  write_reply c name bytes at (answer.NoRoom f l n) y tells adds line pinned room = absurd (true≢false room)
-  write_reply c name bytes at (answer.Unavailable s l) y tells adds line pinned room = absurd (true≢false room)
+  write_reply c name bytes at (answer.NoRoom f l n) y tells adds line pinned room =
+      absurd (true≢false room)
+  write_reply c name bytes at (answer.Unavailable s l) y tells adds line pinned room =
+      absurd (true≢false room)
   write_reply c name bytes at answer.Worn y tells adds line pinned room = absurd (true≢false room)
   write_reply c name bytes at r y tells adds line pinned room = absurd line
 
@@ -307,7 +320,8 @@ module _ (mine : ℕ → Type 0) (h : ℕ) (x : Entry) (v m all : View) (at_ : O
       → r ≡ free_alone (Some (object_of x)) pins
   free_held pins r held is = is ∙ sym (held_alone x (λ (o : MapNow). free_alone o pins) held)
 
-  pub free_reply : (c : Config) (name : List ℕ) (r : Reply) → TurnGives c (job.Free (the_handle h)) r v m
+  pub free_reply : (c : Config) (name : List ℕ) (r : Reply)
+      → TurnGives c (job.Free (the_handle h)) r v m
       → FreeTells h v r → LineAdds v m (told_as (Some h) (Free name) r)
       → IsReplyOf (Free name) r → (1 ≤ pins_on h v → x.freed ≡ false) → is_lack r ≡ false
       → r ≡ free_alone (Some (object_of x)) (pins_on h v)
@@ -321,9 +335,12 @@ module _ (mine : ℕ → Type 0) (h : ℕ) (x : Entry) (v m all : View) (at_ : O
       free_held (pins_on h v) (answer.Pinned count) (pinned (omega (arith, same, some_one)))
       (pinned_alone x.version count (pins_on h v) tells.0 tells.1)
   free_reply c name answer.Freed y tells adds line pinned room =
-      sym (freed_alone x (λ (o : MapNow). free_alone o (pins_on h v)) (freed_here (freed_free c h v m y)))
-  free_reply c name answer.Unmade (d, y, is) tells adds line pinned room = absurd (neither y.ends_so.0)
-  free_reply c name answer.Moving (d, y, is) tells adds line pinned room = absurd (neither y.ends_so.0)
+      sym (freed_alone x (λ (o : MapNow). free_alone o (pins_on h v))
+      (freed_here (freed_free c h v m y)))
+  free_reply c name answer.Unmade (d, y, is) tells adds line pinned room =
+      absurd (neither y.ends_so.0)
+  free_reply c name answer.Moving (d, y, is) tells adds line pinned room =
+      absurd (neither y.ends_so.0)
   free_reply c name answer.Worn y tells adds line pinned room = absurd (true≢false room)
   free_reply c name r y tells adds line pinned room = absurd line
 
@@ -346,7 +363,8 @@ module _ (mine : ℕ → Type 0) (h : ℕ) (x : Entry) (v m all : View) (at_ : O
         },
       )
 
-  held_by : (version : ℕ) (y : SawPinned h version v m) → ShowsLast h version v.written y.pin → x.freed ≡ false
+  held_by : (version : ℕ) (y : SawPinned h version v m) → ShowsLast h version v.written y.pin
+      → x.freed ≡ false
   held_by version y shows = sym (ap (λ (e : Entry). e.freed)
       (same_Some shows.last x (sym shows.is_last ∙ at_.last))) ∙ shows.held
 
@@ -357,7 +375,8 @@ module _ (mine : ℕ → Type 0) (h : ℕ) (x : Entry) (v m all : View) (at_ : O
       let held : x.freed ≡ false = held_by version z.0 z.1 in
       room_pin (object_of x) (length v.pins) (answer.Version version)
       (λ full. let few = z.0.room in absurd (omega (arith, full, few)))
-      (ap answer.Version (saw_version version z.0.saw) ∙ sym (ap (λ (b : Bool). pin_object (cond b (Freed x.version)
+      (ap answer.Version (saw_version version z.0.saw)
+      ∙ sym (ap (λ (b : Bool). pin_object (cond b (Freed x.version)
       (Held x.version (bytes_in x.after x.len)))) held))
   pin_reply c answer.Freed y room = room_pin (object_of x) (length v.pins) answer.Freed
       (λ full. let few = y.0 in absurd (omega (arith, full, few)))
@@ -376,7 +395,8 @@ peek_none (Freed version) = refl
 
 pub peek_reply : (h : ℕ) (x : Entry) (v m : View) (newest : Option ℕ) (r : Reply)
     → last_in v.written h ≡ Some x → (HasNoPin h v.pins → newest ≡ None)
-    → ((q : Stand) → IsNewestPin h q v.pins → (newest ≡ Some q.version) × ShowsLast h q.version v.written q)
+    → ((q : Stand) → IsNewestPin h q v.pins → (newest ≡ Some q.version)
+    × ShowsLast h q.version v.written q)
     → PeekGoes h v r m → r ≡ peek_alone (Some (object_of x)) newest
 peek_reply h x v m newest r last none some_one (inl y) = y.told ∙ sym (peek_none (object_of x))
     ∙ ap (peek_alone (Some (object_of x))) (sym (none y.no_pin))
@@ -384,12 +404,14 @@ peek_reply h x v m newest r last none some_one (inr y) =
     let z = some_one y.pin y.newest in
     let same : z.1.last ≡ x = same_Some z.1.last x (sym z.1.is_last ∙ last) in
     let held : x.freed ≡ false = sym (ap (λ (e : Entry). e.freed) same) ∙ z.1.held in
-    y.peeks.told ∙ ap (answer.Bytes y.pin.version) (z.1.bytes ∙ ap (λ (e : Entry). bytes_in e.after e.len) same)
+    y.peeks.told ∙ ap (answer.Bytes y.pin.version)
+    (z.1.bytes ∙ ap (λ (e : Entry). bytes_in e.after e.len) same)
     ∙ sym (held_alone x (λ (o : MapNow). peek_alone o (Some y.pin.version)) held)
     ∙ ap (peek_alone (Some (object_of x))) (sym z.0)
 
 pub unpin_reply : (h : ℕ) (x : Entry) (v m : View) (newest : Option ℕ) (r : Reply)
-    → (HasNoPin h v.pins → newest ≡ None) → (1 ≤ pins_on h v → (version : ℕ) × (newest ≡ Some version))
+    → (HasNoPin h v.pins → newest ≡ None)
+    → (1 ≤ pins_on h v → (version : ℕ) × (newest ≡ Some version))
     → UnpinGoes h v r m → r ≡ unpin_alone (Some (object_of x)) newest
 unpin_reply h x v m newest r none some_one (inl y) =
     y.told ∙ ap (unpin_alone (Some (object_of x))) (sym (none y.no_pin))

@@ -53,7 +53,8 @@ pub record ShowsLast (h version : ℕ) (es : List Entry) (p : Stand) : Type 0 wh
 
 module _ (lines : List Line) (lane : ℕ) where
   -- the pin of the record is this one of the scope, on an object that the lane made
-  pub record PinStands (handle : List ℕ → Option ℕ) (es : List Entry) (n : NamedPin) (p : Stand) : Type 0
+  pub record PinStands (handle : List ℕ → Option ℕ) (es : List Entry) (n : NamedPin)
+      (p : Stand) : Type 0
     where
       pub own : is_maker lines lane n.name ≡ true
       pub handle_is : handle n.name ≡ Some p.handle
@@ -86,7 +87,8 @@ module _ (lines : List Line) (lane : ℕ) where
   scope_long handle es (n ∷ scope) (p ∷ ps) z =
       let e = scope_long handle es scope ps z.1 in omega (arith, e)
 
-  pub pins_map : (handle later : List ℕ → Option ℕ) (es new : List Entry) (scope : Scope) (ps : List Stand)
+  pub pins_map : (handle later : List ℕ → Option ℕ) (es new : List Entry) (scope : Scope)
+      (ps : List Stand)
       → ((n : NamedPin) (p : Stand) → Has p ps → PinStands handle es n p → PinStands later new n p)
       → LanePinsStand handle es scope ps → LanePinsStand later new scope ps
   pins_map handle later es new [] [] f z = tt
@@ -98,7 +100,8 @@ module _ (lines : List Line) (lane : ℕ) where
   )
 
   -- a pin on an object whose last entry stays
-  pub pin_still : (handle later : List ℕ → Option ℕ) (es new : List Entry) (n : NamedPin) (p : Stand)
+  pub pin_still : (handle later : List ℕ → Option ℕ) (es new : List Entry) (n : NamedPin)
+      (p : Stand)
       → later n.name ≡ handle n.name → last_in new p.handle ≡ last_in es p.handle
       → PinStands handle es n p → PinStands later new n p
   pin_still handle later es new n p same still z = record {
@@ -114,15 +117,18 @@ module _ (lines : List Line) (lane : ℕ) where
     };
   }
 
-  module _ (handle : List ℕ → Option ℕ) (es : List Entry) (p : List ℕ) (h : ℕ) (at : handle p ≡ Some h)
+  module _ (handle : List ℕ → Option ℕ) (es : List Entry) (p : List ℕ) (h : ℕ)
+      (at : handle p ≡ Some h)
       (apart : (q : List ℕ) → handle q ≡ Some h → p ≡ q) where
     -- a pin is on the name where it is on its object
     same_test : (n : NamedPin) (q : Stand) → PinStands handle es n q
-        → ((bytes_eq n.name p ≡ true) × (q.handle ≡ h)) ⊎ ((bytes_eq n.name p ≡ false) × (q.handle ≢ h))
+        → ((bytes_eq n.name p ≡ true) × (q.handle ≡ h))
+        ⊎ ((bytes_eq n.name p ≡ false) × (q.handle ≢ h))
     same_test n q z = by (cases_Bool (bytes_eq n.name p))
       where
         by : (bytes_eq n.name p ≡ true) ⊎ (bytes_eq n.name p ≡ false)
-            → ((bytes_eq n.name p ≡ true) × (q.handle ≡ h)) ⊎ ((bytes_eq n.name p ≡ false) × (q.handle ≢ h))
+            → ((bytes_eq n.name p ≡ true) × (q.handle ≡ h))
+            ⊎ ((bytes_eq n.name p ≡ false) × (q.handle ≢ h))
         by (inl is) = inl (
           is,
           same_Some q.handle h
@@ -143,7 +149,8 @@ module _ (lines : List Line) (lane : ℕ) where
         sum_by-cons (λ pin. if bytes_eq pin.name p then 1 else 0) n scope
         ∙ by (same_test n q z.0) (named_pins scope ps z.1)
       where
-        by : ((bytes_eq n.name p ≡ true) × (q.handle ≡ h)) ⊎ ((bytes_eq n.name p ≡ false) × (q.handle ≢ h))
+        by : ((bytes_eq n.name p ≡ true) × (q.handle ≡ h))
+            ⊎ ((bytes_eq n.name p ≡ false) × (q.handle ≢ h))
             → named_on p scope ≡ times (pins_it h) ps
             → (if bytes_eq n.name p then 1 else 0) + named_on p scope ≡ times (pins_it h) (q ∷ ps)
         by (inl e) rest = (λ i. (if e.0 i then 1 else 0) + rest i)
@@ -151,17 +158,21 @@ module _ (lines : List Line) (lane : ℕ) where
         by (inr e) rest = (λ i. (if e.0 i then 1 else 0) + rest i)
             ∙ ap (λ (b : Bool). cond b 1 0 + times (pins_it h) ps) (sym (ne_eqb q.handle h e.1))
 
-    pub newest_none : (scope : Scope) (ps : List Stand) → LanePinsStand handle es scope ps → HasNoPin h ps
+    pub newest_none : (scope : Scope) (ps : List Stand) → LanePinsStand handle es scope ps
+        → HasNoPin h ps
         → newest_on p scope ≡ None
     newest_none [] [] z none = refl
     newest_none [] (q ∷ ps) z none = absurd z
     newest_none (n ∷ scope) [] z none = absurd z
-    newest_none (n ∷ scope) (q ∷ ps) z none = by (same_test n q z.0) (newest_none scope ps z.1 none.1)
+    newest_none (n ∷ scope) (q ∷ ps) z none =
+        by (same_test n q z.0) (newest_none scope ps z.1 none.1)
       where
-        by : ((bytes_eq n.name p ≡ true) × (q.handle ≡ h)) ⊎ ((bytes_eq n.name p ≡ false) × (q.handle ≢ h))
+        by : ((bytes_eq n.name p ≡ true) × (q.handle ≡ h))
+            ⊎ ((bytes_eq n.name p ≡ false) × (q.handle ≢ h))
             → newest_on p scope ≡ None → newest_on p (n ∷ scope) ≡ None
         by (inl e) rest = absurd (none.0 e.1)
-        by (inr e) rest = ap (λ (b : Bool). if b then Some n.version else newest_on p scope) e.0 ∙ rest
+        by (inr e) rest = ap (λ (b : Bool). if b then Some n.version else newest_on p scope) e.0
+            ∙ rest
 
     -- the newest pin on the object is the newest one on the name
     pub newest_some : (scope : Scope) (ps : List Stand) (q : Stand)
@@ -174,7 +185,8 @@ module _ (lines : List Line) (lane : ℕ) where
       where
         first : k ≡ q → (bytes_eq n.name p ≡ true) × (k.handle ≡ h)
             → (newest_on p (n ∷ scope) ≡ Some q.version) × ShowsLast h q.version es q
-        first same e = subst (λ (y : Stand). (newest_on p (n ∷ scope) ≡ Some y.version) × ShowsLast h y.version es y)
+        first same e = subst (λ (y : Stand). (newest_on p (n ∷ scope) ≡ Some y.version)
+            × ShowsLast h y.version es y)
             same (
               ap (λ (b : Bool). if b then Some n.version else newest_on p scope) e.0
                   ∙ ap (λ (m : ℕ). Some m) (sym z.0.shows.number),
@@ -188,9 +200,11 @@ module _ (lines : List Line) (lane : ℕ) where
               },
             )
 
-        by : ((bytes_eq n.name p ≡ true) × (k.handle ≡ h)) ⊎ ((bytes_eq n.name p ≡ false) × (k.handle ≢ h))
+        by : ((bytes_eq n.name p ≡ true) × (k.handle ≡ h))
+            ⊎ ((bytes_eq n.name p ≡ false) × (k.handle ≢ h))
             → ((k.handle ≡ h) × (k ≡ q)) ⊎ ((k.handle ≢ h) × IsNewestPin h q ps)
-            → (IsNewestPin h q ps → (newest_on p scope ≡ Some q.version) × ShowsLast h q.version es q)
+            → (IsNewestPin h q ps → (newest_on p scope ≡ Some q.version)
+            × ShowsLast h q.version es q)
             → (newest_on p (n ∷ scope) ≡ Some q.version) × ShowsLast h q.version es q
         by (inl e) (inl y) rest = first y.1 e
         by (inl e) (inr y) rest = absurd (y.0 e.1)
@@ -199,7 +213,8 @@ module _ (lines : List Line) (lane : ℕ) where
             (ap (λ (b : Bool). if b then Some n.version else newest_on p scope) e.0 ∙ w.0, w.1)
 
     -- where the newest one is given back, the others stand, and there was one
-    pub given_back : (scope : Scope) (ps : List Stand) → LanePinsStand handle es scope ps → 0 < times (pins_it h) ps
+    pub given_back : (scope : Scope) (ps : List Stand) → LanePinsStand handle es scope ps
+        → 0 < times (pins_it h) ps
         → ((version : ℕ) × (newest_on p scope ≡ Some version))
         × LanePinsStand handle es (without_newest p scope) (removed (pins_it h) ps)
     given_back [] [] z some_one = absurd (omega (arith, some_one))
@@ -209,11 +224,13 @@ module _ (lines : List Line) (lane : ℕ) where
         by (same_test n q z.0) (λ y. given_back scope ps z.1 y)
       where
         Goal : Bool → Bool → Type 0
-        Goal a b = ((version : ℕ) × ((if a then Some n.version else newest_on p scope) ≡ Some version))
+        Goal a b = ((version : ℕ)
+            × ((if a then Some n.version else newest_on p scope) ≡ Some version))
             × LanePinsStand handle es (if a then scope else n ∷ without_newest p scope)
             (cond b ps (q ∷ removed (pins_it h) ps))
 
-        by : ((bytes_eq n.name p ≡ true) × (q.handle ≡ h)) ⊎ ((bytes_eq n.name p ≡ false) × (q.handle ≢ h))
+        by : ((bytes_eq n.name p ≡ true) × (q.handle ≡ h))
+            ⊎ ((bytes_eq n.name p ≡ false) × (q.handle ≢ h))
             → (0 < times (pins_it h) ps → ((version : ℕ) × (newest_on p scope ≡ Some version))
             × LanePinsStand handle es (without_newest p scope) (removed (pins_it h) ps))
             → Goal (bytes_eq n.name p) (eqb q.handle h)
@@ -236,10 +253,13 @@ module _ (lines : List Line) (lane : ℕ) where
   none_shared handle es s g off (n ∷ scope) (q ∷ ps) z =
       let rest = none_shared handle es s g off scope ps z.1 in
       let none : one_if (eqb q.handle g) ≡ 0 = ap one_if
-      (ne_eqb q.handle g (λ same. off n.name z.0.own (z.0.handle_is ∙ ap (λ (k : ℕ). Some k) same))) in
+      (ne_eqb q.handle g (λ same. off n.name z.0.own (z.0.handle_is ∙ ap (λ (k : ℕ). Some k) same)))
+      in
       omega (arith, rest, none)
 
 -- without a pin on the object none has its handle
-pub none_on : (h : ℕ) (ps : List Stand) (p : Stand) → times (pins_it h) ps ≡ 0 → Has p ps → p.handle ≢ h
-none_on h ps p none has same = absurd (let some_one = times_has (pins_it h) p ps has (eq-eqb p.handle h same) in
+pub none_on : (h : ℕ) (ps : List Stand) (p : Stand) → times (pins_it h) ps ≡ 0 → Has p ps
+    → p.handle ≢ h
+none_on h ps p none has same =
+    absurd (let some_one = times_has (pins_it h) p ps has (eq-eqb p.handle h same) in
     omega (arith, none, some_one))

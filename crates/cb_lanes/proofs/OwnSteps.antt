@@ -61,7 +61,8 @@ module _ (c : Config) where
       (has_right k (made_by_turn j (Some r)) v.own has)
 
   end_own : (h : ℕ) (r : Reply) (v m : View) → PinEnds c h r v m → OwnMore v m
-  end_own h (answer.Version version) v m x k has = subst (λ (z : View). Has k z.own) (sym x.left) has
+  end_own h (answer.Version version) v m x k has =
+      subst (λ (z : View). Has k z.own) (sym x.left) has
   end_own h answer.Freed v m (word, version, empty, newest, is) k has =
       subst (λ (z : View). Has k z.own) (sym is) has
   end_own h answer.ScopeFull v m x k has = absurd x
@@ -77,14 +78,16 @@ module _ (c : Config) where
 
   ask_own : (ask : Ask) (r : Reply) (v m : View) → goes_in c ask v r m → OwnMore v m
   ask_own (Calls j) r v m x = call_own j r v m x
-  ask_own (Pins h) r v m x = pin_own h r v m x
+  ask_own (Pins h) r v m x = pin_own h r v m x.0
   ask_own (Peeks h) r v m (inl x) = own_same v m x.left
-  ask_own (Peeks h) r v m (inr x) = λ k has. subst (λ (z : View). Has k z.own) (sym x.peeks.left) has
+  ask_own (Peeks h) r v m (inr x) = λ k has. subst (λ (z : View). Has k z.own)
+      (sym x.peeks.left) has
   ask_own (Unpins h) r v m (inl x) = own_same v m x.left
   ask_own (Unpins h) r v m (inr x) = λ k has. subst (λ (z : View). Has k z.own) (sym x.left) has
   ask_own Leaves r v m x = λ k has. subst (λ (z : View). Has k z.own) (sym x.1) has
 
-  pub line_own : (o : Option ℕ) (q : Request) (r : Reply) (v m : View) → LineGoes (goes_in c) o q v r m
+  pub line_own : (o : Option ℕ) (q : Request) (r : Reply) (v m : View)
+      → LineGoes (goes_in c) o q v r m
       → OwnMore v m
   line_own o q r v m x = by_ask (goes_in c) v m r (OwnMore v m)
       (λ ask y. ask_own ask r v m y) (λ unmade is. own_same v m is) o q x
@@ -120,16 +123,20 @@ is_handle p h is = eqb-true p.handle h is
 
 module _ (lines : List Line) (lane : ℕ) where
   -- pins of a record whose pinned objects have the same last entries
-  pub pins_still : (handle later : List ℕ → Option ℕ) (es new : List Entry) (scope : Scope) (ps : List Stand)
+  pub pins_still : (handle later : List ℕ → Option ℕ) (es new : List Entry) (scope : Scope)
+      (ps : List Stand)
       → ((q : List ℕ) → later q ≡ handle q)
-      → ((q : List ℕ) (k : ℕ) → is_maker lines lane q ≡ true → handle q ≡ Some k → last_in new k ≡ last_in es k)
+      → ((q : List ℕ) (k : ℕ) → is_maker lines lane q ≡ true → handle q ≡ Some k
+      → last_in new k ≡ last_in es k)
       → LanePinsStand lines lane handle es scope ps → LanePinsStand lines lane later new scope ps
-  pins_still handle later es new scope ps same still = pins_map lines lane handle later es new scope ps
+  pins_still handle later es new scope ps same still =
+      pins_map lines lane handle later es new scope ps
       (λ n p has z. pin_still lines lane handle later es new n p (same n.name)
       (still n.name p.handle z.own z.handle_is) z)
 
   -- no own object changes
-  pub stands_still : (handle later : List ℕ → Option ℕ) (state new : LaneState) (v m : View) → Grew v m
+  pub stands_still : (handle later : List ℕ → Option ℕ) (state new : LaneState) (v m : View)
+      → Grew v m
       → ((q : List ℕ) → later q ≡ handle q)
       → ((q : List ℕ) → now_named q new.objects ≡ now_named q state.objects)
       → ((q : List ℕ) (k : ℕ) → is_maker lines lane q ≡ true → handle q ≡ Some k
@@ -140,7 +147,8 @@ module _ (lines : List Line) (lane : ℕ) where
     fresh = grew.fresh ∙ z.fresh;
     knows = λ q h is. grew.knows h (z.knows q h (sym (same q) ∙ is));
     apart = λ p q h own a b. z.apart p q h own (sym (same p) ∙ a) (sym (same q) ∙ b);
-    objects = λ p own. subst (λ (o : Option ℕ). ObjectStands o m (now_named p new.objects)) (sym (same p))
+    objects = λ p own. subst (λ (o : Option ℕ). ObjectStands o m (now_named p new.objects))
+        (sym (same p))
         (subst (ObjectStands (handle p) m) (sym (nows p))
         (object_still v m (now_named p state.objects) grew (handle p) (λ k is. still p k own is)
         (z.objects p own)));
@@ -148,13 +156,18 @@ module _ (lines : List Line) (lane : ℕ) where
   }
 
   -- one own object, on which there are no pins, has a new last entry
-  pub stands_changed : (handle later : List ℕ → Option ℕ) (state new : LaneState) (v m : View) (p : List ℕ) (h : ℕ)
+  pub stands_changed : (handle later : List ℕ → Option ℕ) (state new : LaneState) (v m : View)
+      (p : List ℕ) (h : ℕ)
       (e : Entry) (now : MapNow) → Grew v m → ((q : List ℕ) → later q ≡ handle q)
-      → new ≡ record { objects = record { name = p; now = now } ∷ state.objects; scope = state.scope }
+      → new ≡ record {
+        objects = record { name = p; now = now } ∷ state.objects;
+        scope = state.scope;
+      }
       → is_maker lines lane p ≡ true → handle p ≡ Some h → m.written ≡ e ∷ v.written → e.handle ≡ h
       → m.pins ≡ v.pins → pins_on h v ≡ 0 → IsObject h m now
       → LaneStands lines lane handle state v → LaneStands lines lane later new m
-  stands_changed handle later state new v m p h e now grew same is own at wrote on pins bare object z = subst
+  stands_changed handle later state new v m p h e now grew same is own at wrote on pins bare object
+      z = subst
       (λ (s : LaneState). LaneStands lines lane later s m) (sym is) record {
         fresh = grew.fresh ∙ z.fresh;
         knows = λ q k named. grew.knows k (z.knows q k (sym (same q) ∙ named));
@@ -175,7 +188,8 @@ module _ (lines : List Line) (lane : ℕ) where
           → ObjectStands (later q) m (if bytes_eq p q then now else now_named q state.objects)
       by q mine (inl x) = subst (λ (b : Bool). ObjectStands (later q) m
           (if b then now else now_named q state.objects)) (sym x.0)
-          (subst (λ (o : Option ℕ). ObjectStands o m now) (sym (same q ∙ ap handle (sym x.1) ∙ at)) object)
+          (subst (λ (o : Option ℕ). ObjectStands o m now)
+          (sym (same q ∙ ap handle (sym x.1) ∙ at)) object)
       by q mine (inr x) = subst (λ (b : Bool). ObjectStands (later q) m
           (if b then now else now_named q state.objects)) (sym x.0)
           (subst (λ (o : Option ℕ). ObjectStands o m (now_named q state.objects)) (sym (same q))
@@ -184,13 +198,19 @@ module _ (lines : List Line) (lane : ℕ) where
           (z.objects q mine)))
 
   -- an object is made
-  pub stands_made : (handle later : List ℕ → Option ℕ) (state new : LaneState) (v m : View) (p : List ℕ) (h : ℕ)
-      (e : Entry) (now : MapNow) → Grew v m → ((q : List ℕ) → p ≢ q → later q ≡ handle q) → later p ≡ Some h
-      → new ≡ record { objects = record { name = p; now = now } ∷ state.objects; scope = state.scope }
+  pub stands_made : (handle later : List ℕ → Option ℕ) (state new : LaneState) (v m : View)
+      (p : List ℕ) (h : ℕ)
+      (e : Entry) (now : MapNow) → Grew v m → ((q : List ℕ) → p ≢ q → later q ≡ handle q)
+      → later p ≡ Some h
+      → new ≡ record {
+        objects = record { name = p; now = now } ∷ state.objects;
+        scope = state.scope;
+      }
       → handle p ≡ None → (Knows h v → ⊥) → m.written ≡ e ∷ v.written → e.handle ≡ h
       → m.pins ≡ v.pins → IsObject h m now
       → LaneStands lines lane handle state v → LaneStands lines lane later new m
-  stands_made handle later state new v m p h e now grew same made is none fresh wrote on pins object z = subst
+  stands_made handle later state new v m p h e now grew same made is none fresh wrote on pins object
+      z = subst
       (λ (s : LaneState). LaneStands lines lane later s m) (sym is) record {
         fresh = grew.fresh ∙ z.fresh;
         knows = λ q k named. known q k named (name_cases p q);
@@ -200,7 +220,8 @@ module _ (lines : List Line) (lane : ℕ) where
             (pins_map lines lane handle later v.written m.written state.scope v.pins
             (λ n k has y. pin_still lines lane handle later v.written m.written n k
             (same n.name (λ eq. none-some k.handle (sym none ∙ ap handle eq ∙ y.handle_is)))
-            (past k.handle (λ eq. fresh (subst (λ (i : ℕ). Knows i v) eq (z.knows n.name k.handle y.handle_is)))) y)
+            (past k.handle (λ eq. fresh
+            (subst (λ (i : ℕ). Knows i v) eq (z.knows n.name k.handle y.handle_is)))) y)
             z.pins);
       }
     where
@@ -222,7 +243,8 @@ module _ (lines : List Line) (lane : ℕ) where
       other q k off named eq = fresh (subst (λ (i : ℕ). Knows i v) eq
           (z.knows q k (sym (same q off) ∙ named)))
 
-      alone : (a b : List ℕ) (k : ℕ) → is_maker lines lane a ≡ true → later a ≡ Some k → later b ≡ Some k
+      alone : (a b : List ℕ) (k : ℕ) → is_maker lines lane a ≡ true → later a ≡ Some k
+          → later b ≡ Some k
           → ((bytes_eq p a ≡ true) × (p ≡ a)) ⊎ ((bytes_eq p a ≡ false) × (p ≢ a))
           → ((bytes_eq p b ≡ true) × (p ≡ b)) ⊎ ((bytes_eq p b ≡ false) × (p ≢ b)) → a ≡ b
       alone a b k mine x y (inl u) (inl w) = sym u.1 ∙ w.1
@@ -247,8 +269,10 @@ module _ (lines : List Line) (lane : ℕ) where
           (z.objects q mine)))
 
   -- an object with a pin on it was not freed
-  pub pinned_held : (handle : List ℕ → Option ℕ) (es : List Entry) (h : ℕ) (x : Entry) → last_in es h ≡ Some x
-      → (scope : Scope) (ps : List Stand) → LanePinsStand lines lane handle es scope ps → 1 ≤ times (pins_it h) ps
+  pub pinned_held : (handle : List ℕ → Option ℕ) (es : List Entry) (h : ℕ) (x : Entry)
+      → last_in es h ≡ Some x
+      → (scope : Scope) (ps : List Stand) → LanePinsStand lines lane handle es scope ps
+      → 1 ≤ times (pins_it h) ps
       → x.freed ≡ false
   pinned_held handle es h x last [] [] z some_one = absurd (omega (arith, some_one))
   pinned_held handle es h x last [] (p ∷ ps) z some_one = absurd z
@@ -256,9 +280,12 @@ module _ (lines : List Line) (lane : ℕ) where
   pinned_held handle es h x last (n ∷ scope) (p ∷ ps) z some_one =
       by (cases_Bool (pins_it h p)) (pinned_held handle es h x last scope ps z.1)
     where
-      by : (pins_it h p ≡ true) ⊎ (pins_it h p ≡ false) → (1 ≤ times (pins_it h) ps → x.freed ≡ false)
+      by : (pins_it h p ≡ true) ⊎ (pins_it h p ≡ false)
+          → (1 ≤ times (pins_it h) ps → x.freed ≡ false)
           → x.freed ≡ false
       by (inl is) rest = let y = z.0.shows in
-          let same : y.last ≡ x = same_Some y.last x (sym y.is_last ∙ ap (last_in es) (is_handle p h is) ∙ last) in
+          let same : y.last ≡ x = same_Some y.last x
+          (sym y.is_last ∙ ap (last_in es) (is_handle p h is) ∙ last) in
           sym (ap (λ (e : Entry). e.freed) same) ∙ y.held
-      by (inr is) rest = rest (let off : one_if (pins_it h p) ≡ 0 = ap one_if is in omega (arith, some_one, off))
+      by (inr is) rest = rest (let off : one_if (pins_it h p) ≡ 0 =
+          ap one_if is in omega (arith, some_one, off))

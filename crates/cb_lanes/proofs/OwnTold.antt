@@ -14,7 +14,7 @@ use Rattle.cb_shared.specs.declared.answers.WriteAnswer.{WriteAnswer}
 use Rattle.cb_shared.specs.declared.answers.WriteAnswer.TheVariants as place
 use Rattle.cb_shared.specs.Calls.{IsInVain, IsLack, SaysAs, WriteCallEnds, WriteFinds, again_in}
 use Rattle.cb_shared.specs.Calls.{the_handle}
-use Rattle.cb_lanes.proofs.AskedTurns.{OwnOrLack, brings_lack, write_own}
+use Rattle.cb_shared.proofs.Laws.{OwnOrLack, brings_lack, write_own}
 use Rattle.cb_shared.specs.Turning.{TurnAdds}
 use Rattle.cb_lanes.specs.LineGoes.{Ask, Calls}
 use Rattle.cb_lanes.specs.Passing.{goes_in}
@@ -54,7 +54,8 @@ in_vain on j ask r v before x tells = still ask r v x.looks x.turns
 -- ---- a write in place
 here_tells : (h at : ℕ) (bytes : List ℕ) (a : WriteAnswer) (r : Reply) (v : View) (d : Part)
     → SaysAs a r → WriteFinds h at bytes a v d → Has h v.own → WriteTells h v r
-here_tells h at bytes (place.Ok version) r v d says x own = subst (WriteTells h v) (sym says) x.loose
+here_tells h at bytes (place.Ok version) r v d says x own =
+    subst (WriteTells h v) (sym says) x.loose
 here_tells h at bytes place.Freed r v d says x own = subst (WriteTells h v) (sym says) tt
 here_tells h at bytes (place.Range len) r v d says (word, x, is) own =
     subst (WriteTells h v) (sym says) (x.1 (inr own))
@@ -70,7 +71,8 @@ module _ (c : Config) where
   turn_tells : (j : Job) (r : Reply) (u : View) (d : Part) → TurnAdds c j (Ok r) u d
       → TellsOwn (Calls j) u r
   turn_tells (job.Write handle at bytes) (answer.Version version) u d x = λ own. x.pins
-  turn_tells (job.Write handle at bytes) (answer.Pinned count) u d x = λ own. (x.pins.2 (inr own), x.pins.0)
+  turn_tells (job.Write handle at bytes) (answer.Pinned count) u d x =
+      λ own. (x.pins.2 (inr own), x.pins.0)
   turn_tells (job.Write handle at bytes) (answer.Range len) u d x = λ own. x.pins (inr own)
   turn_tells (job.Write handle at bytes) r u d x = λ own. tt
   turn_tells (job.Free handle) (answer.Version version) u d x = λ own. x.pins
@@ -86,7 +88,8 @@ module _ (c : Config) where
   lack_tells again h at bytes (answer.Range len) u lack = absurd lack
   lack_tells again h at bytes r u lack = λ own. tt
 
-  ends_tell : (h at : ℕ) (bytes : List ℕ) (r : Reply) (u : View) (d : Part) → WriteCallEnds c h at bytes r u d
+  ends_tell : (h at : ℕ) (bytes : List ℕ) (r : Reply) (u : View) (d : Part)
+      → WriteCallEnds c h at bytes r u d
       → TellsOwn (Calls (job.Write (the_handle h) at bytes)) u r
   ends_tell h at bytes r u d (inl x) = here_tells h at bytes x.0 r u d x.1 x.2
   ends_tell h at bytes r u d (inr x) = by (write_own c h at bytes r u d x)
@@ -96,7 +99,8 @@ module _ (c : Config) where
       by (inl y) = turn_tells (job.Write (the_handle h) at bytes) r u d y.1
       by (inr y) = lack_tells (again_in d.turns) h at bytes r u (brings_lack c h r u d y)
 
-  pub ask_tells : (ask : Ask) (v : View) (r : Reply) (w : View) → goes_in c ask v r w → TellsOwn ask v r
+  pub ask_tells : (ask : Ask) (v : View) (r : Reply) (w : View) → goes_in c ask v r w
+      → TellsOwn ask v r
   ask_tells (Calls (job.Write handle at bytes)) v r w (d, x, is) =
       in_vain _ _ (Calls (job.Write handle at bytes)) r v x.before x.in_vain
       (ends_tell handle.n at bytes r (grown x.before v) x.last x.ends_so)

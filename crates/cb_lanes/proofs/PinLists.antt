@@ -35,7 +35,8 @@ within_push xs p x i there = by (cases_lt i (length xs))
     by (inr past) =
         let lt = slice_get_within (xs ++ p ∷ []) i x there in
         let e : i ≡ length xs = omega (arith, past, lt, length_push xs p) in
-        let both : Some x ≡ Some p = sym there ∙ ap (slice_get (xs ++ p ∷ [])) e ∙ slice_last xs p in
+        let both : Some x ≡ Some p = sym there ∙ ap (slice_get (xs ++ p ∷ [])) e
+        ∙ slice_last xs p in
         inr (e, cc)
 
 -- a last pin on the object is its newest
@@ -99,7 +100,8 @@ remove_before front pin at lt =
 
 -- ---- names
 
-pub name_cases : (a b : List ℕ) → ((bytes_eq a b ≡ true) × (a ≡ b)) ⊎ ((bytes_eq a b ≡ false) × (a ≢ b))
+pub name_cases : (a b : List ℕ) → ((bytes_eq a b ≡ true) × (a ≡ b))
+    ⊎ ((bytes_eq a b ≡ false) × (a ≢ b))
 name_cases a b = by (cases_Bool (bytes_eq a b))
   where
     by : (bytes_eq a b ≡ true) ⊎ (bytes_eq a b ≡ false)
@@ -248,7 +250,8 @@ module _ (number : List ℕ → Option ℕ) (apart : AreHandlesApart number) (na
       whole : named_on name older ≡ pins_among h front → one named ≡ pin_one pin
           → named_on name (named ∷ older) ≡ pins_among h pins
       whole r same =
-          let now = sum_by-cons (λ (p : NamedPin). if bytes_eq p.name name then 1 else 0) named older in
+          let now = sum_by-cons (λ (p : NamedPin). if bytes_eq p.name name then 1 else 0) named
+          older in
           let then_ = sum_by_push (λ (p : Pin). if nat_eq p.handle h then 1 else 0) front pin in
           now ∙ omega (arith, same, r, then_) ∙ sym (ap (pins_among h) e)
 

@@ -55,13 +55,17 @@ use Rattle.cb_lanes.proofs.Lone.{turn_alone, turn_seats}
 use Rattle.cb_lanes.proofs.Turning.{AroundLine, Turning, around, within, LineGives, call_goes}
 
 -- a world that changed in pins alone goes on by what it answers
-step_goes : (answers : List Answer) (a : Answer) (w new : WorldState) (h : ℕ) → (c : AroundLine answers w new)
+step_goes : (answers : List Answer) (a : Answer) (w new : WorldState) (h : ℕ)
+    → (c : AroundLine answers w new)
     → new.far ≡ w.far
     → IsCallOn w.desk.settings.handles c.before.shown c.then.shown w.far new.far h a.request a.reply
-    → handle_for answers a.request a.reply ≡ Some h → HasLineReply a → LineGives answers a w new c.then.shown
+    → handle_for answers a.request a.reply ≡ Some h → HasLineReply a
+    → LineGives answers a w new c.then.shown
 step_goes answers a w new h c far call about reply = record {
-  follows = call_follows w.desk.settings.handles (calls_of answers) (called answers a) c.before.shown
-      c.then.shown w.far new.far h a.request a.reply c.beside call (record { about = about; event = refl });
+  follows = call_follows w.desk.settings.handles (calls_of answers)
+      (called answers a) c.before.shown
+      c.then.shown w.far new.far h a.request a.reply c.beside call
+      (record { about = about; event = refl });
   reply = reply;
   first = ap (λ (f : FarState). f.first) far;
   turns = omega (arith, ap (λ (f : FarState). f.counts.turns) far);
@@ -74,10 +78,12 @@ kept_goes : (answers : List Answer) (a : Answer) (w new : WorldState) (h : ℕ) 
     → event_of a.request a.reply ≡ e → change_of e ≡ [] → made_by e ≡ 0
     → ((m : MapNow) → IsValue m (now c.before.shown w.far h)
     → MapReplies w.far.first w.desk.settings.handles w.far.made (Some h) m e)
-    → handle_for answers a.request a.reply ≡ Some h → HasLineReply a → LineGives answers a w new c.then.shown
+    → handle_for answers a.request a.reply ≡ Some h → HasLineReply a
+    → LineGives answers a w new c.then.shown
 kept_goes answers a w new h e c far same event silent none replies about reply =
     step_goes answers a w new h c far (record {
-      own = subst (IsMapCall w.far.first w.desk.settings.handles w.far.made (Some h) a.request a.reply
+      own = subst (IsMapCall w.far.first w.desk.settings.handles w.far.made
+          (Some h) a.request a.reply
           (now c.before.shown w.far h)) (sym (same h))
           (map_same w.far.first w.desk.settings.handles w.far.made (Some h) a.request a.reply
           (now c.before.shown w.far h) e event silent replies);
@@ -114,14 +120,18 @@ shows_by v first handles made h bytes (Some (Freed u)) is = absurd is
 shows_by v first handles made h bytes (Some (Held u b)) is = is
 
 -- a line on an object that was made, which is refused and tells nothing of it
-refused_goes : (answers : List Answer) (a : Answer) (w new : WorldState) (h : ℕ) → (c : AroundLine answers w new)
+refused_goes : (answers : List Answer) (a : Answer) (w new : WorldState) (h : ℕ)
+    → (c : AroundLine answers w new)
     → h < w.far.made → new ≡ w → event_of a.request a.reply ≡ Refused Other
-    → handle_for answers a.request a.reply ≡ Some h → HasLineReply a → LineGives answers a w new c.then.shown
+    → handle_for answers a.request a.reply ≡ Some h → HasLineReply a
+    → LineGives answers a w new c.then.shown
 refused_goes answers a w new h c made same event about reply =
     kept_goes answers a w new h (Refused Other) c (ap (λ (v : WorldState). v.far) same)
-    (λ k. (stands_same 0 w new c.before same).holds c.before.shown c.then.shown k c.before.known c.then.known)
+    (λ k. (stands_same 0 w new c.before same).holds c.before.shown c.then.shown k c.before.known
+    c.then.known)
     event refl refl
-    (λ m. refused_other (now c.before.shown w.far h) w.far.first w.desk.settings.handles w.far.made h m
+    (λ m. refused_other (now c.before.shown w.far h) w.far.first w.desk.settings.handles w.far.made
+    h m
     (was_made c.before.shown w.far h c.before.known.sound made)) about reply
 
 -- ---- a pin
@@ -188,18 +198,22 @@ refusal_as state.Far v pins = refl
 refusal_as state.Here v pins = refl
 refusal_as state.Moving v pins = refl
 
-pin_here_goes : (answers : List Answer) (l : Line) (name : List ℕ) (h : ℕ) (r : Reply) (w new : WorldState)
+pin_here_goes : (answers : List Answer) (l : Line) (name : List ℕ) (h : ℕ) (r : Reply)
+    (w new : WorldState)
     → (c : AroundLine answers w new) → l.lane.n < 64 → h < w.desk.settings.handles → h < w.far.made
     → ((seat : ℕ) → 16 ≤ seat → pins_of_seat w.seats seat ≡ [])
     → handle_of answers name ≡ Some h → PinStep l.lane.n h w r new → (r ≡ answer.NotHere → ⊥)
     → LineGives answers (answer_to l (Pin name) r) w new c.then.shown
 pin_here_goes answers l name h r w new c lt below made few named (scope_full full is same) unless =
     subst (λ (q : Reply). LineGives answers (answer_to l (Pin name) q) w new c.then.shown) (sym is)
-    (refused_goes answers (answer_to l (Pin name) answer.ScopeFull) w new h c made same refl named tt)
-pin_here_goes answers l name h r w new c lt below made few named (refused room never_may is same) unless =
+    (refused_goes answers (answer_to l (Pin name) answer.ScopeFull) w new h c made same refl named
+    tt)
+pin_here_goes answers l name h r w new c lt below made few named
+    (refused room never_may is same) unless =
     let at = within w h c.before below in
     let by : r ≡ reply_as (state_of (word_at w.desk h)) (stamp_at w.desk h) answer.Crowded =
-    is ∙ refusal_as (state_of (word_at w.desk h)) (stamp_at w.desk h) (pins_of (word_at w.desk h)) in
+    is ∙ refusal_as (state_of (word_at w.desk h)) (stamp_at w.desk h)
+    (pins_of (word_at w.desk h)) in
     let off : state_of (word_at w.desk h) ≡ state.Here → ⊥ =
     (λ here. never_may (record { here = here; room = not_crowded w h c.before at few })) in
     step_goes answers (answer_to l (Pin name) r) w new h c (ap (λ (v : WorldState). v.far) same)
@@ -210,7 +224,8 @@ pin_here_goes answers l name h r w new c lt below made few named (refused room n
     by tt (λ here e. absurd (off here)))
     named
     (subst (IsReplyOf (Pin name)) (sym by) (refused_line name (state_of (word_at w.desk h))
-    (stamp_at w.desk h) (λ away. unless (by ∙ ap (λ q. reply_as q (stamp_at w.desk h) answer.Crowded) away)) off))
+    (stamp_at w.desk h) (λ away. unless
+    (by ∙ ap (λ q. reply_as q (stamp_at w.desk h) answer.Crowded) away)) off))
   where
     stays : (new.desk ≡ w.desk) × (new.far ≡ w.far)
     stays = (ap (λ (v : WorldState). v.desk) same, ap (λ (v : WorldState). v.far) same)
@@ -223,12 +238,14 @@ pin_here_goes answers l name h r w new c lt below made few named (taken room may
     refl refl refl
     (λ m value. pins_by (stamp_at w.desk h) w.far.first w.desk.settings.handles w.far.made h
     (bytes_in (contents_at w.desk h) (len_of (word_at w.desk h))) m
-    (subst (IsValue m) (near_held w.desk w.far c.before.shown h c.before.known (within w h c.before below)
+    (subst (IsValue m) (near_held w.desk w.far c.before.shown h c.before.known
+    (within w h c.before below)
     (here_near (word_at w.desk h) may.here)) value)) named tt)
 
 -- ---- a pin of an object wherever it is
 
-pub in_or_refused : (y : Words) (h : ℕ) (r : Reply) → SwapEnds y h r → (IsInReply r → ⊥) → IsSwapRefusal r
+pub in_or_refused : (y : Words) (h : ℕ) (r : Reply) → SwapEnds y h r → (IsInReply r → ⊥)
+    → IsSwapRefusal r
 in_or_refused y h r (swap_refused z) off = z
 in_or_refused y h r (stays e here) off = absurd (off (subst IsInReply (sym e) tt))
 in_or_refused y h r (swapped f e here) off = absurd (off (subst IsInReply (sym e) tt))
@@ -286,7 +303,8 @@ swapped_here w n h seat q before after few below step is =
       seats = turn_seats j w n q step;
     }
 
-stays_goes : (answers : List Answer) (l : Line) (name : List ℕ) (h : ℕ) (r : Reply) (w new : WorldState)
+stays_goes : (answers : List Answer) (l : Line) (name : List ℕ) (h : ℕ) (r : Reply)
+    (w new : WorldState)
     → (c : Turning answers w new) → h < w.desk.settings.handles → handle_of answers name ≡ Some h
     → TurnStep (job.Swap (record { n = h })) w r new → (IsInReply r → ⊥)
     → LineGives answers (answer_to l (Pin name) r) w new c.then.shown
@@ -297,7 +315,8 @@ stays_goes answers l name h r w new c below named step off =
     (refusal_line name r (in_or_refused new.desk h r z.ends off))
 
 swapped_goes : (answers : List Answer) (l : Line) (name : List ℕ) (h : ℕ) (q r : Reply)
-    (w n new : WorldState) → (c : Turning answers w new) → l.lane.n < 64 → h < w.desk.settings.handles
+    (w n new : WorldState) → (c : Turning answers w new) → l.lane.n < 64
+    → h < w.desk.settings.handles
     → h < w.far.made → ((seat : ℕ) → 16 ≤ seat → pins_of_seat w.seats seat ≡ [])
     → handle_of answers name ≡ Some h → TurnStep (job.Swap (record { n = h })) w q n → IsInReply q
     → PinStep l.lane.n h n r new → LineGives answers (answer_to l (Pin name) r) w new c.then.shown
@@ -307,13 +326,15 @@ swapped_goes answers l name h q r w n new c lt below made few named swap is pin 
     let d : AroundLine answers n new = record {
       before = after;
       then = c.then;
-      beside = beside_kept (calls_of answers) c.before.shown after.shown w.far n.far c.beside z.same.made
+      beside = beside_kept (calls_of answers) c.before.shown after.shown w.far n.far c.beside
+          z.same.made
           z.same.now;
     } in
     let below_n : h < n.desk.settings.handles = subst (λ s. h < s.handles) (sym z.settings) below in
     let made_n : h < n.far.made = subst (λ k. h < k) (sym z.same.made) made in
     let goes = pin_here_goes answers l name h r n new d lt below_n made_n
-    (λ seat high. ap (λ (xs : List SeatState). pins_of_seat xs seat) z.seats ∙ few seat high) named pin
+    (λ seat high. ap (λ (xs : List SeatState). pins_of_seat xs seat) z.seats ∙ few seat high) named
+    pin
     (pin_is_here l.lane.n h n new r pin z.here) in
     let far = (pin_stands n new l.lane.n h r after lt below_n pin).far in
     let a = answer_to l (Pin name) r in record {
@@ -331,13 +352,15 @@ swapped_goes answers l name h q r w n new c lt below made few named swap is pin 
       turns = omega (arith, ap (λ (f : FarState). f.counts.turns) far, z.turns);
     }
 
-pub pin_goes : (answers : List Answer) (l : Line) (name : List ℕ) (h : ℕ) (r : Reply) (w new : WorldState)
+pub pin_goes : (answers : List Answer) (l : Line) (name : List ℕ) (h : ℕ) (r : Reply)
+    (w new : WorldState)
     → (c : Turning answers w new) → l.lane.n < 64 → h < w.desk.settings.handles → h < w.far.made
     → ((seat : ℕ) → 16 ≤ seat → pins_of_seat w.seats seat ≡ [])
     → handle_of answers name ≡ Some h → PinLine l.lane.n h w r new
     → LineGives answers (answer_to l (Pin name) r) w new c.then.shown
 pin_goes answers l name h r w new c lt below made few named (at_once pin unless) =
-    pin_here_goes answers l name h r w new (around answers w new c) lt below made few named pin unless
+    pin_here_goes answers l name h r w new (around answers w new c) lt below made few named
+    pin unless
 pin_goes answers l name h r w new c lt below made few named (stays_far away swap off) =
     stays_goes answers l name h r w new c below named
     (turn_alone l.lane.n (job.Swap (record { n = h })) w new r tt c.lone swap) off
@@ -363,7 +386,8 @@ pub pin_version : (w : WorldState) (seat at h : ℕ) → IsSoundWorld w → seat
     → (n : IsNewestOf (pins_of_seat w.seats seat) h at) → n.pin.version ≡ stamp_at w.desk h
 pin_version w seat at h sound lt n =
     let pins = pins_of_seat w.seats seat in
-    let all = All-get_or (λ (y : SeatPin). y.version ≡ get_or w.desk.versions y.handle 0) pins at n.pin
+    let all = All-get_or (λ (y : SeatPin). y.version ≡ get_or w.desk.versions y.handle 0) pins at
+    n.pin
     (slice_get_within pins at n.pin n.there)
     (All-get_or (λ (x : SeatState). (k : ℕ) (d : SeatPin) → k < length x.pins
     → (get_or x.pins k d).version ≡ get_or w.desk.versions (get_or x.pins k d).handle 0)
@@ -372,13 +396,15 @@ pin_version w seat at h sound lt n =
     (get_or_from_slice_get pins at n.pin n.pin n.there) all
     ∙ ap (stamp_at w.desk) n.on
 
-pub peek_goes : (answers : List Answer) (l : Line) (name : List ℕ) (h : ℕ) (r : Reply) (w new : WorldState)
+pub peek_goes : (answers : List Answer) (l : Line) (name : List ℕ) (h : ℕ) (r : Reply)
+    (w new : WorldState)
     → (c : AroundLine answers w new) → l.lane.n < 64 → h < w.far.made
     → handle_of answers name ≡ Some h
     → PeekStep l.lane.n h w r new → LineGives answers (answer_to l (Peek name) r) w new c.then.shown
 peek_goes answers l name h r w new c lt made named (not_pinned none is same) =
     subst (λ (q : Reply). LineGives answers (answer_to l (Peek name) q) w new c.then.shown) (sym is)
-    (refused_goes answers (answer_to l (Peek name) answer.NotPinned) w new h c made same refl named tt)
+    (refused_goes answers (answer_to l (Peek name) answer.NotPinned) w new h c made same refl named
+    tt)
 peek_goes answers l name h r w new c lt made named (shown at newest is same) =
     let bytes = bytes_in (contents_at w.desk h) (len_of (word_at w.desk h)) in
     let own : r ≡ answer.Bytes (stamp_at w.desk h) bytes =
@@ -389,22 +415,26 @@ peek_goes answers l name h r w new c lt made named (shown at newest is same) =
     (sym own)
     (kept_goes answers (answer_to l (Peek name) (answer.Bytes (stamp_at w.desk h) bytes)) w new h
     (Shows (stamp_at w.desk h) bytes) c (ap (λ (v : WorldState). v.far) same)
-    (λ k. (stands_same 0 w new c.before same).holds c.before.shown c.then.shown k c.before.known c.then.known)
+    (λ k. (stands_same 0 w new c.before same).holds c.before.shown c.then.shown k c.before.known
+    c.then.known)
     refl refl refl
-    (λ m value. shows_by (stamp_at w.desk h) w.far.first w.desk.settings.handles w.far.made h bytes m
+    (λ m value. shows_by (stamp_at w.desk h) w.far.first w.desk.settings.handles w.far.made h bytes
+    m
     (subst (IsValue m) (near_held w.desk w.far c.before.shown h c.before.known below
     (here_near (word_at w.desk h) here)) value)) named tt)
 
 -- ---- an unpin
 
-pub unpin_goes : (answers : List Answer) (l : Line) (name : List ℕ) (h : ℕ) (r : Reply) (w new : WorldState)
+pub unpin_goes : (answers : List Answer) (l : Line) (name : List ℕ) (h : ℕ) (r : Reply)
+    (w new : WorldState)
     → (c : AroundLine answers w new) → l.lane.n < 64 → h < w.desk.settings.handles → h < w.far.made
     → handle_of answers name ≡ Some h → UnpinStep l.lane.n h w r new
     → LineGives answers (answer_to l (Unpin name) r) w new c.then.shown
 unpin_goes answers l name h r w new c lt below made named (unpin_refused none is same) =
     subst (λ (q : Reply). LineGives answers (answer_to l (Unpin name) q) w new c.then.shown)
     (sym is)
-    (refused_goes answers (answer_to l (Unpin name) answer.NotPinned) w new h c made same refl named tt)
+    (refused_goes answers (answer_to l (Unpin name) answer.NotPinned) w new h c made same refl named
+    tt)
 unpin_goes answers l name h r w new c lt below made named (given is t) =
     subst (λ (q : Reply). LineGives answers (answer_to l (Unpin name) q) w new c.then.shown)
     (sym is)
@@ -412,7 +442,8 @@ unpin_goes answers l name h r w new c lt below made named (given is t) =
     (λ k. (unpin_stands w new l.lane.n h r c.before lt below (given is t)).holds
     c.before.shown c.then.shown k c.before.known c.then.known)
     refl refl refl
-    (λ m. refused_other (now c.before.shown w.far h) w.far.first w.desk.settings.handles w.far.made h m
+    (λ m. refused_other (now c.before.shown w.far h) w.far.first w.desk.settings.handles w.far.made
+    h m
     (was_made c.before.shown w.far h c.before.known.sound made)) named tt)
 
 -- ---- a leave

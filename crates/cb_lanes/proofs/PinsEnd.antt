@@ -50,4 +50,5 @@ none_left (p ∷ l) e = absurd (omega (arith, e))
 pub all_left : (ps : List Pin) (v w : View) → PinsAlone v w → AreHeld ps w → length ps ≡ 0
     → w ≡ unpinned_all v
 all_left ps v w alone held e = alone
-    ∙ ap (λ (l : List Stand). record v { pins = l }) (none_left w.pins (sym (held_count ps w held) ∙ e))
+    ∙ ap (λ (l : List Stand). record v { pins = l })
+    (none_left w.pins (sym (held_count ps w held) ∙ e))

@@ -27,7 +27,12 @@ held_count ps v held = sym (length-map ps mark_of) ∙ ap (λ (l : List Mark). l
 pub held_more : (ps qs : List Pin) (h : ℕ) (p : Pin) (v w : View) → IsPinnedHere h p v w
     → qs ≡ p ∷ ps → AreHeld ps v → AreHeld qs w
 held_more ps qs h p v w x is held = ap marks_of is
-    ∙ (λ i. record { handle = x.handle i; version = p.version; len = x.len i; place = x.place i } ∷ held i)
+    ∙ (λ i. record {
+      handle = x.handle i;
+      version = p.version;
+      len = x.len i;
+      place = x.place i;
+    } ∷ held i)
     ∙ sym (ap (λ (z : View). map mark_in z.pins) x.left)
 
 -- ---- a list of marks beside one of pins

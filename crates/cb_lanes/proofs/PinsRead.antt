@@ -43,7 +43,8 @@ abbrev pub WasRead : View → ℕ → ℕ → ℕ → Type 0
 WasRead v h version len = (s : Seen) × Has s v.seen × (s.handle ≡ h) × (s.version ≡ version)
     × (s.freed ≡ false) × (s.len ≡ len)
 
-pub was_read : (v : View) (h version len : ℕ) → WasRead v h version len → HasVersion v h version false
+pub was_read : (v : View) (h version len : ℕ) → WasRead v h version len
+    → HasVersion v h version false
 was_read v h version len (s, has, handle, number, held, long) = inr (s, has, handle, number, held)
 
 -- what the one record has read the other has
@@ -115,7 +116,7 @@ module _ (c : Config) where
 
   ask_pins : (ask : Ask) (r : Reply) (v w : View) → goes_in c ask v r w → PinsRead v → PinsRead w
   ask_pins (Calls j) r v w x read = call_pins j r v w x read
-  ask_pins (Pins h) r v w x read = pin_pins h r v w x read
+  ask_pins (Pins h) r v w x read = pin_pins h r v w x.0 read
   ask_pins (Peeks h) r v w (inl x) read = pins_same v w x.left read
   ask_pins (Peeks h) r v w (inr x) read = subst PinsRead (sym x.peeks.left) read
   ask_pins (Unpins h) r v w (inl x) read = pins_same v w x.left read

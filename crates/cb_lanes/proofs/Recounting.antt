@@ -59,7 +59,8 @@ here_recounts seat w new r x = by x.beside
     }
 
 -- the core's turn, and the world beside the one to which it leads
-pub record StandsBesideTurn (j : Job) (seat : ℕ) (w : WorldState) (r : Reply) (new : WorldState) : Type 0
+pub record StandsBesideTurn (j : Job) (seat : ℕ) (w : WorldState) (r : Reply)
+    (new : WorldState) : Type 0
   where
     pub mid : WorldState
     pub step : Step w (Turn seat j) r mid

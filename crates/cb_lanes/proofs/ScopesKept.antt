@@ -43,7 +43,8 @@ pub lines_own : (lane : ℕ) (later : List ℕ) → lines_by lane (lane ∷ late
 lines_own lane later = sum_by-cons (λ (x : ℕ). one_if (nat_eq lane x)) lane later
     ∙ ap (λ (b : Bool). one_if b + lines_by lane later) (eq-eqb lane lane refl)
 
-pub lines_other : (k lane : ℕ) (later : List ℕ) → k ≢ lane → lines_by k (lane ∷ later) ≡ lines_by k later
+pub lines_other : (k lane : ℕ) (later : List ℕ) → k ≢ lane
+    → lines_by k (lane ∷ later) ≡ lines_by k later
 lines_other k lane later off =
     let one = sum_by-cons (λ (x : ℕ). one_if (nat_eq k x)) lane later in
     let none : one_if (nat_eq k lane) ≡ 0 = ap one_if (ne_eqb k lane off) in
@@ -78,7 +79,8 @@ rests (suc left) seat between rested sound lt same = record {
 -- ---- the scopes of all lanes
 
 -- Each lane that has a line to come has the pins of its scope, and no other seat has a pin.
-pub record AreScopes (number : List ℕ → Option ℕ) (later : List ℕ) (answers : List Answer) (w : WorldState)
+pub record AreScopes (number : List ℕ → Option ℕ) (later : List ℕ) (answers : List Answer)
+    (w : WorldState)
     : Type 0 where
   pub apart : AreHandlesApart number
   pub low : (k : ℕ) → 16 ≤ k → lines_by k later ≡ 0
@@ -102,21 +104,24 @@ scopes_none number later w apart lanes idle = record {
         by : (k < 64) ⊎ (64 ≤ k) → pins_of_seat (replicate 64 idle_seat) k ≡ []
         by (inl lt) = ap (λ (x : SeatState). x.pins) (get_or-replicate 64 k idle_seat idle_seat lt)
         by (inr past) = ap (λ (x : SeatState). x.pins)
-            (get_or_past (replicate 64 idle_seat) k idle_seat (omega (arith, past, length-replicate 64 idle_seat)))
+            (get_or_past (replicate 64 idle_seat) k idle_seat
+            (omega (arith, past, length-replicate 64 idle_seat)))
 
-pub scopes_push : (number other : List ℕ → Option ℕ) (later : List ℕ) (answers : List Answer) (a : Answer)
+pub scopes_push : (number other : List ℕ → Option ℕ) (later : List ℕ) (answers : List Answer)
+    (a : Answer)
     (handle : Option ℕ) (w between new : WorldState)
     → AreScopes number (a.lane.n ∷ later) answers w
     → Scoped number handle (scope_of a.lane.n answers) a.request a.reply a.lane.n w between
     → ((q : List ℕ) (h : ℕ) → number q ≡ Some h → other q ≡ Some h) → AreHandlesApart other
     → Rested (lines_by a.lane.n later) a.lane.n between new
     → AreScopes other later (answers ++ a ∷ []) new
-scopes_push number other later answers a handle w between new scopes line kept apart rested = record {
-  apart = apart;
-  low = λ k high. low k high (ℕ_discrete k a.lane.n);
-  are = λ k some. are k some (ℕ_discrete k a.lane.n);
-  gone = λ k zero_. gone k zero_ (ℕ_discrete k a.lane.n);
-}
+scopes_push number other later answers a handle w between new scopes line kept apart rested =
+    record {
+      apart = apart;
+      low = λ k high. low k high (ℕ_discrete k a.lane.n);
+      are = λ k some. are k some (ℕ_discrete k a.lane.n);
+      gone = λ k zero_. gone k zero_ (ℕ_discrete k a.lane.n);
+    }
   where
     lane : ℕ
     lane = a.lane.n
@@ -124,8 +129,10 @@ scopes_push number other later answers a handle w between new scopes line kept a
     more : (k : ℕ) → scope_of k (answers ++ a ∷ []) ≡ scope_more k (scope_of k answers) a
     more k = fold_push (scope_more k) [] answers a
 
-    own_more : scope_of lane (answers ++ a ∷ []) ≡ scope_after (scope_of lane answers) a.request a.reply
-    own_more = more lane ∙ ap (λ (b : Bool). if b then scope_after (scope_of lane answers) a.request a.reply
+    own_more : scope_of lane (answers ++ a ∷ []) ≡ scope_after
+        (scope_of lane answers) a.request a.reply
+    own_more = more lane ∙ ap
+        (λ (b : Bool). if b then scope_after (scope_of lane answers) a.request a.reply
         else scope_of lane answers) (eq-eqb lane lane refl)
 
     other_more : (k : ℕ) → k ≢ lane → scope_of k (answers ++ a ∷ []) ≡ scope_of k answers
@@ -139,7 +146,8 @@ scopes_push number other later answers a handle w between new scopes line kept a
     low : (k : ℕ) → 16 ≤ k → Dec (k ≡ lane) → lines_by k later ≡ 0
     low k high (yes e) = absurd (let n = scopes.low k high in
         let one : lines_by k (lane ∷ later) ≡ 1 + lines_by k later =
-        subst (λ (j : ℕ). lines_by j (lane ∷ later) ≡ 1 + lines_by j later) (sym e) (lines_own lane later) in
+        subst (λ (j : ℕ). lines_by j (lane ∷ later) ≡ 1 + lines_by j later) (sym e)
+        (lines_own lane later) in
         omega (arith, n, one))
     low k high (no off) = sym (lines_other k lane later off) ∙ scopes.low k high
 
@@ -165,7 +173,8 @@ scopes_push number other later answers a handle w between new scopes line kept a
 
 -- each answer is as its lane's scope says
 pub keep_push : (before after : List Answer) (a : Answer) → KeepScopes before after
-    → ScopeSays (handle_named (before ++ after) (name_of a.request)) (scope_of a.lane.n (before ++ after))
+    → ScopeSays (handle_named (before ++ after) (name_of a.request))
+    (scope_of a.lane.n (before ++ after))
     a.request a.reply
     → KeepScopes before (after ++ a ∷ [])
 keep_push before [] a keep says = (
@@ -194,13 +203,15 @@ LeadsOn side later before w [] new = new ≡ w
 LeadsOn side later before w (a ∷ after) new = (between : WorldState) × (rested : WorldState)
     × LineStep side a.lane.n (handle_named before (name_of a.request)) a.request w a.reply between
     × Rests (lines_by a.lane.n (answered_lanes after ++ later)) a.lane.n between rested
-    × LineLeaves a.lane.n (handle_named before (name_of a.request)) a.request w a.reply between rested
+    × LineLeaves a.lane.n (handle_named before (name_of a.request)) a.request w a.reply between
+    rested
     × LeadsOn side later (before ++ a ∷ []) rested after new
 
 pub leads_push : (side : Side) (later : List ℕ) (before after : List Answer)
     (w mid between new : WorldState) (a : Answer)
     → LeadsOn side (a.lane.n ∷ later) before w after mid
-    → LineStep side a.lane.n (handle_named (before ++ after) (name_of a.request)) a.request mid a.reply between
+    → LineStep side a.lane.n (handle_named (before ++ after) (name_of a.request)) a.request mid
+    a.reply between
     → Rests (lines_by a.lane.n later) a.lane.n between new
     → LineLeaves a.lane.n (handle_named (before ++ after) (name_of a.request)) a.request mid a.reply
     between new
@@ -209,13 +220,15 @@ leads_push side later before [] w mid between new a leads step rest leaves = (
   between,
   new,
   subst (λ (v : WorldState).
-      LineStep side a.lane.n (handle_named before (name_of a.request)) a.request v a.reply between) leads
+      LineStep side a.lane.n (handle_named before (name_of a.request)) a.request v a.reply between)
+      leads
       (subst (λ (xs : List Answer).
       LineStep side a.lane.n (handle_named xs (name_of a.request)) a.request mid a.reply between)
       (append-nil before) step),
   rest,
   subst (λ (v : WorldState).
-      LineLeaves a.lane.n (handle_named before (name_of a.request)) a.request v a.reply between new) leads
+      LineLeaves a.lane.n (handle_named before (name_of a.request)) a.request v a.reply between new)
+      leads
       (subst (λ (xs : List Answer).
       LineLeaves a.lane.n (handle_named xs (name_of a.request)) a.request mid a.reply between new)
       (append-nil before) leaves),
@@ -225,7 +238,8 @@ leads_push side later before (b ∷ after) w mid between new a leads step rest l
   leads.0,
   leads.1,
   leads.2,
-  subst (λ (lanes : List ℕ). Rests (lines_by b.lane.n lanes) b.lane.n leads.0 leads.1) moved leads.3,
+  subst (λ (lanes : List ℕ). Rests (lines_by b.lane.n lanes) b.lane.n leads.0 leads.1) moved
+      leads.3,
   leads.4,
   leads_push side later (before ++ b ∷ []) after leads.1 mid between new a leads.5
       (subst (λ (xs : List Answer).
@@ -281,18 +295,21 @@ grown names (Make name bytes) (Made handle version) q h fresh e = by (name_cases
   where
     by : ((bytes_eq name q ≡ true) × (name ≡ q)) ⊎ ((bytes_eq name q ≡ false) × (name ≢ q))
         → (if bytes_eq name q then Some handle.n else kept_number names q) ≡ Some h
-    by (inl same) = absurd (let both : None ≡ Some h = sym fresh ∙ ap (kept_number names) same.1 ∙ e in cc)
+    by (inl same) = absurd (let both : None ≡ Some h = sym fresh ∙ ap (kept_number names) same.1
+        ∙ e in cc)
     by (inr off) = ap (λ (b : Bool). if b then Some handle.n else kept_number names q) off.0 ∙ e
 grown names (Make name bytes) reply q h fresh e = e
 grown names request reply q h fresh e = e
 
 -- no two names have one handle: a make gets one that no name had
-pub apart_after : (names : KeptNames) (answers : List Answer) (first handles made : ℕ) (now : MapNow)
+pub apart_after : (names : KeptNames) (answers : List Answer) (first handles made : ℕ)
+    (now : MapNow)
     (request : Request) (reply : Reply) → AreHandlesApart (kept_number names)
     → ((q : List ℕ) (k : ℕ) → kept_number names q ≡ Some k → k < made)
     → MapReplies first handles made (handle_for answers request reply) now (event_of request reply)
     → AreHandlesApart (number_after names request reply)
-apart_after names answers first handles made now (Make text bytes) (Made handle version) apart within m =
+apart_after names answers first handles made now (Make text bytes)
+    (Made handle version) apart within m =
     λ a b h x y. by a b h x y (name_cases text a) (name_cases text b)
   where
     at : handle.n ≡ made
@@ -306,7 +323,8 @@ apart_after names answers first handles made now (Make text bytes) (Made handle 
         sym (ap (λ (b : Bool). if b then Some handle.n else kept_number names q) is) ∙ e in
         let same : handle.n ≡ h = cc in sym same ∙ at
 
-    old : (q : List ℕ) (h : ℕ) → bytes_eq text q ≡ false → of q ≡ Some h → kept_number names q ≡ Some h
+    old : (q : List ℕ) (h : ℕ) → bytes_eq text q ≡ false → of q ≡ Some h
+        → kept_number names q ≡ Some h
     old q h is e = sym (ap (λ (b : Bool). if b then Some handle.n else kept_number names q) is) ∙ e
 
     by : (a b : List ℕ) (h : ℕ) → of a ≡ Some h → of b ≡ Some h
@@ -325,7 +343,8 @@ not_made : (name : List ℕ) (request : Request) (reply : Reply) → (MakesName 
     → handle_made name request reply ≡ None
 not_made name (Make made bytes) (Made handle version) never = by (name_cases made name)
   where
-    by : ((bytes_eq made name ≡ true) × (made ≡ name)) ⊎ ((bytes_eq made name ≡ false) × (made ≢ name))
+    by : ((bytes_eq made name ≡ true) × (made ≡ name))
+        ⊎ ((bytes_eq made name ≡ false) × (made ≢ name))
         → (if bytes_eq made name then Some handle.n else None) ≡ None
     by (inl same) = absurd (never same.1)
     by (inr off) = ap (λ (b : Bool). if b then Some handle.n else None) off.0
@@ -341,14 +360,16 @@ never_made (a ∷ later) name new =
     (not_made name a.request a.reply (λ makes. new a.lane.n (inl (refl, makes))) i))
 
 -- the request of a line is known behind the lines before it
-pub line_known : (nodes : ℕ) (before lines : List Line) (i : ℕ) (l : Line) → AreLines nodes before lines
+pub line_known : (nodes : ℕ) (before lines : List Line) (i : ℕ) (l : Line)
+    → AreLines nodes before lines
     → i < length lines → l ≡ get_or lines i l
     → IsNameKnown (before ++ take i lines) l.lane.n l.request
 line_known nodes before (x ∷ lines) zero l all below at =
     subst (λ (ls : List Line). IsNameKnown ls l.lane.n l.request) (sym (append-nil before))
     (subst (λ (y : Line). IsNameKnown before y.lane.n y.request) (sym at) all.0.known)
 line_known nodes before (x ∷ lines) (suc i) l all below at =
-    subst (λ (ls : List Line). IsNameKnown ls l.lane.n l.request) (append_assoc before (x ∷ []) (take i lines))
+    subst (λ (ls : List Line). IsNameKnown ls l.lane.n l.request)
+    (append_assoc before (x ∷ []) (take i lines))
     (line_known nodes (before ++ x ∷ []) lines i l all.1 (omega (arith, below)) at)
 line_known nodes before [] i l all below at = absurd (omega (arith, below))
 
@@ -365,8 +386,11 @@ fresh_by answers lines lane request number same asked_are known = tt
 pub lines_lanes : (nodes : ℕ) (before lines : List Line) → AreLines nodes before lines
     → AreLanes (lanes_of lines)
 lines_lanes nodes before [] all = tt
-lines_lanes nodes before (x ∷ lines) all =
-    (let low = all.0.lane.low in omega (arith, low), lines_lanes nodes (before ++ x ∷ []) lines all.1)
+lines_lanes nodes before (x ∷ lines) all = (
+  let low = all.0.lane.low in omega (arith, low),
+  lines_lanes nodes
+      (before ++ x ∷ []) lines all.1,
+)
 
 -- ---- the counts of lines that are left
 
@@ -399,7 +423,8 @@ pub split_line : (lines : List Line) (i : ℕ) (l : Line) → i < length lines �
 split_line lines i l lt at = ap lanes_of (drop_more lines i l lt)
     ∙ ap (λ (x : Line). x.lane.n ∷ lanes_of (drop (i + 1) lines)) (sym at)
 
-pub lane_below : (lines : List Line) (i : ℕ) (l : Line) → AreLanes (lanes_of lines) → i < length lines
+pub lane_below : (lines : List Line) (i : ℕ) (l : Line) → AreLanes (lanes_of lines)
+    → i < length lines
     → l ≡ get_or lines i l → l.lane.n < 16
 lane_below [] i l are lt at = absurd (omega (arith, lt))
 lane_below (x ∷ lines) zero l are lt at = subst (λ (y : Line). y.lane.n < 16) (sym at) are.0

@@ -36,7 +36,8 @@ use Rattle.cb_lanes.proofs.Shown.{ok_then}
 
 peek_settings : (seat h : ℕ) (w new : WorldState) (r : Reply) → PeekStep seat h w r new
     → new.desk.settings ≡ w.desk.settings
-peek_settings seat h w new r (not_pinned none is same) = ap (λ (v : WorldState). v.desk.settings) same
+peek_settings seat h w new r (not_pinned none is same) =
+    ap (λ (v : WorldState). v.desk.settings) same
 peek_settings seat h w new r (shown at newest is same) =
     ap (λ (v : WorldState). v.desk.settings) same
 
@@ -115,7 +116,8 @@ made_below seat bytes w new h version before after (free none (worn end is same)
 made_below seat bytes w new h version before after (ordered keeps off none turn seats) =
     absurd (off tt)
 made_below seat bytes w new h version before after (free none (done few works seats)) =
-    by (make_turn w new bytes [] (answer.Made h version) before after few (done few works seats)).call
+    by (make_turn w new bytes [] (answer.Made h version) before after few
+    (done few works seats)).call
   where
     same_handle : (a b : Handle) (v u : ℕ) → answer.Made a v ≡ answer.Made b u → a ≡ b
     same_handle a b v u e = cc
@@ -134,7 +136,8 @@ pub seat_made : (side : Side) (seat : ℕ) (j : Job) (w new : WorldState)
     (result : Result Reply NoMemory) → IsSoundWorld w → IsSoundWorld new
     → IfOk result (λ r. TurnAt j side seat w r new)
     → IfOk result (λ r. IsNamedIfMade (Within new) j r)
-seat_made side seat j w new result before after goes = ok_then result (λ r x bytes h version is made.
+seat_made side seat j w new result before after goes =
+    ok_then result (λ r x bytes h version is made.
     let step : Step w (Turn seat (job.Make bytes)) (answer.Made h version) new =
     subst (λ (q : Reply). TurnAt (job.Make bytes) side seat w q new) made
     (subst (λ (i : Job). TurnAt i side seat w r new) is x) in

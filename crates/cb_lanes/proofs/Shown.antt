@@ -29,7 +29,8 @@ pub ok_then : {T E : Type 0} (r : Result T E) {P Q : T → Type 0} → ((x : T) 
 ok_then (Ok x) f p = f x p
 ok_then (Err e) f p = tt
 
-pub either_way : {T E : Type 0} (r : Result T E) {P : T → Type 0} {Q S : Type 0} → ((x : T) → P x → S)
+pub either_way : {T E : Type 0} (r : Result T E) {P : T → Type 0} {Q S : Type 0}
+    → ((x : T) → P x → S)
     → (Q → S) → IfOk r P → OnErr r Q → S
 either_way (Ok x) f g p q = f x p
 either_way (Err e) f g p q = g q
@@ -76,7 +77,8 @@ peek_is w seat h at y far r p performs =
     (step.reply
     ∙ ap (λ (q : State). reply_as q (stamp_at w.desk h) (answer.Bytes (stamp_at w.desk h) bytes))
     (pinned_here w seat at h p.sound p.seat_is p.newest)
-    ∙ ap (λ (v : ℕ). answer.Bytes v bytes) (sym (pin_version w seat at h p.sound p.seat_is p.newest)))
+    ∙ ap (λ (v : ℕ). answer.Bytes v bytes)
+    (sym (pin_version w seat at h p.sound p.seat_is p.newest)))
     (peeked_same w y far (left_same w seat h at y far r p step) p.same)
   where
     bytes : List ℕ
@@ -91,7 +93,8 @@ pub peek_sound : (w : WorldState) (seat h at : ℕ) (y : Words) (far : FarState)
     → IsSoundWorld (peeked w y far)
 peek_sound w seat h at y far r p performs =
     let step = (read_step w.desk y w.far far p.sound.shown h r p.sound.known performs).0 in
-    subst IsSoundWorld (sym (peeked_same w y far (left_same w seat h at y far r p step) p.same)) p.sound
+    subst IsSoundWorld (sym (peeked_same w y far (left_same w seat h at y far r p step) p.same))
+    p.sound
 
 pub peek_stopped : (w : WorldState) (seat h at : ℕ) (y : Words) (far : FarState)
     → PeekedAt w seat h at y far

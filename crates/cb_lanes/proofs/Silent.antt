@@ -1,4 +1,5 @@
--- Lines about no object: names without a handle, and turns that leave the map as it is, or lose of it.
+-- Lines about no object: names without a handle, and turns that leave the map as it is, or lose of
+-- it.
 use Rattle.std.proofs.Common.{◌≡◌, ℕ, ◌<◌, List, [], ◌∷◌, ◌++◌, Option, None, refl, sym, ap, ◌∙◌}
 use Rattle.std.proofs.Common.{subst, arith, fold, if◌then◌else◌}
 use Rattle.cb_member.specs.declared.names.NodeId.{NodeId}
@@ -49,9 +50,11 @@ beside_silent calls c t new map about none = record {
 }
 
 -- the map answers so, and is beside the world
-pub silent_follows : (handles : ℕ) (calls : List Called) (c : Called) (t : Shown) (far new : FarState)
+pub silent_follows : (handles : ℕ) (calls : List Called) (c : Called) (t : Shown)
+    (far new : FarState)
     → IsMapBeside calls t new → c.handle ≡ None → made_by c.event ≡ 0
-    → MapReplies far.first handles (makes calls) None None c.event → FollowsMap handles calls c t far new
+    → MapReplies far.first handles (makes calls) None None c.event
+    → FollowsMap handles calls c t far new
 silent_follows handles calls c t far new map about none reply = record {
   reply = rw about reply;
   beside = beside_silent calls c t new map about none;
@@ -92,22 +95,27 @@ unmade_line answers l request name r w new c none about event line is =
 
 -- a turn that leaves the map beside the world, and tells nothing of it
 quiet_goes : (answers : List Answer) (a : Answer) (w new : WorldState) (j : Job) (r : Reply)
-    → (c : Turning answers w new) → TurnStep j w r new → IsMapBeside (calls_of answers) c.then.shown new.far
+    → (c : Turning answers w new) → TurnStep j w r new
+    → IsMapBeside (calls_of answers) c.then.shown new.far
     → handle_for answers a.request a.reply ≡ None → event_of a.request a.reply ≡ Refused Nothing
     → HasLineReply a → LineGives answers a w new c.then.shown
 quiet_goes answers a w new j r c step map about event reply =
     goes_by answers a w new j r c step
-    (silent_follows w.desk.settings.handles (calls_of answers) (called answers a) c.then.shown w.far new.far
+    (silent_follows w.desk.settings.handles (calls_of answers)
+    (called answers a) c.then.shown w.far new.far
     map about (ap made_by event)
-    (subst (MapReplies w.far.first w.desk.settings.handles (makes (calls_of answers)) None None) (sym event)
+    (subst (MapReplies w.far.first w.desk.settings.handles (makes (calls_of answers)) None None)
+    (sym event)
     tt)) reply
 
 -- a reply that is none of the map's tells nothing of an object
-told_nothing : (P : Reply → Type 0) → ((handle : Handle) (version : ℕ) → P (answer.Made handle version) → ⊥)
+told_nothing : (P : Reply → Type 0)
+    → ((handle : Handle) (version : ℕ) → P (answer.Made handle version) → ⊥)
     → ((version : ℕ) → P (answer.Version version) → ⊥)
     → ((version : ℕ) (bytes : List ℕ) → P (answer.Bytes version bytes) → ⊥)
     → ((handles : ℕ) → P (answer.Full handles) → ⊥) → (P answer.Unmade → ⊥) → (P answer.Freed → ⊥)
-    → ((len : ℕ) → P (answer.Range len) → ⊥) → (r : Reply) → P r → refusal Nothing r ≡ Refused Nothing
+    → ((len : ℕ) → P (answer.Range len) → ⊥) → (r : Reply) → P r
+    → refusal Nothing r ≡ Refused Nothing
 told_nothing P m v b f u g l (answer.Made handle version) x = absurd (m handle version x)
 told_nothing P m v b f u g l (answer.Version version) x = absurd (v version x)
 told_nothing P m v b f u g l (answer.Bytes version bytes) x = absurd (b version bytes x)
@@ -118,7 +126,8 @@ told_nothing P m v b f u g l (answer.Range len) x = absurd (l len x)
 told_nothing P m v b f u g l r x = refl
 
 -- no line about no object is answered by a reply of the map
-pub nothing_told : (request : Request) (r : Reply) → subject_of request ≡ Nothing → IsReplyOf request r
+pub nothing_told : (request : Request) (r : Reply) → subject_of request ≡ Nothing
+    → IsReplyOf request r
     → event_of request r ≡ Refused Nothing
 nothing_told (Make name bytes) r about line = absurd cc
 nothing_told (Read name) r about line = absurd cc
@@ -128,23 +137,28 @@ nothing_told (Pin name) r about line = absurd cc
 nothing_told (Peek name) r about line = absurd cc
 nothing_told (Unpin name) r about line = absurd cc
 nothing_told (Filter name) r about line = absurd cc
-nothing_told request r about line = told_nothing (IsReplyOf request) (λ h v z. z) (λ v z. z) (λ v b z. z)
+nothing_told request r about line = told_nothing (IsReplyOf request) (λ h v z. z) (λ v z. z)
+    (λ v b z. z)
     (λ n z. z) (λ z. z) (λ z. z) (λ n z. z) r line
 
 -- a turn at which the map stays, by a line that tells nothing of an object
 same_goes : (answers : List Answer) (a : Answer) (w new : WorldState) (j : Job) (r : Reply)
     → (c : Turning answers w new) → TurnStep j w r new
-    → IsSameMap c.before.shown c.then.shown w.far new.far → handle_for answers a.request a.reply ≡ None
-    → event_of a.request a.reply ≡ Refused Nothing → HasLineReply a → LineGives answers a w new c.then.shown
+    → IsSameMap c.before.shown c.then.shown w.far new.far
+    → handle_for answers a.request a.reply ≡ None
+    → event_of a.request a.reply ≡ Refused Nothing → HasLineReply a
+    → LineGives answers a w new c.then.shown
 same_goes answers a w new j r c step same about event reply =
     quiet_goes answers a w new j r c step
-    (kept_beside (calls_of answers) c.before.shown c.then.shown w.far new.far c.beside same) about event
+    (kept_beside (calls_of answers) c.before.shown c.then.shown w.far new.far c.beside same) about
+    event
     reply
 
 -- a turn of a job that leaves the map as it is answers a line about no object as the map does
 pub still_goes : (j : Job) (request : Request) → IsQuietJob j request → subject_of request ≡ Nothing
     → ((answers : List Answer) (r : Reply) → handle_for answers request r ≡ None)
-    → (answers : List Answer) (l : Line) (r : Reply) (w new : WorldState) → (c : Turning answers w new)
+    → (answers : List Answer) (l : Line) (r : Reply) (w new : WorldState)
+    → (c : Turning answers w new)
     → TurnStep j w r new → LineGives answers (answer_to l request r) w new c.then.shown
 still_goes j request turns nothing about answers l r w new c step =
     let z = turns w new r c.before c.then c.few step in
@@ -153,7 +167,8 @@ still_goes j request turns nothing about answers l r w new c step =
 
 pub crash_goes : (answers : List Answer) (l : Line) (node : NodeId) (r : Reply) (w new : WorldState)
     → (c : Turning answers w new) → node.n < w.desk.settings.nodes
-    → TurnStep (job.Crash node) w r new → LineGives answers (answer_to l (Crash node) r) w new c.then.shown
+    → TurnStep (job.Crash node) w r new → LineGives answers
+    (answer_to l (Crash node) r) w new c.then.shown
 crash_goes answers l node r w new c below step =
     let z = crash_turn w new node r c.before c.then c.few below step in
     quiet_goes answers (answer_to l (Crash node) r) w new (job.Crash node) r c step

@@ -1,7 +1,8 @@
 -- What a line leaves that found no memory: looks and turns alone.
-use Rattle.std.proofs.Common.{◌≡◌, ℕ, List, [], ◌∷◌, ◌++◌, Option, None, Result, Ok, Err, sym, refl}
+use Rattle.std.proofs.Common.{◌≡◌, ℕ, List, [], ◌∷◌, ◌++◌, Option, Result, Ok, Err, sym, refl}
 use Rattle.std.proofs.Common.{ap, ◌∙◌, subst, inl, inr}
 use Rattle.std.specs.Result.{OnErr}
+use Rattle.std.proofs.lemmas.Result.{on_err_weaker}
 use Rattle.cb_member.specs.declared.no_memory.NoMemory.{NoMemory}
 use Rattle.cb_types.specs.declared.config.Config.{Config}
 use Rattle.cb_types.specs.declared.handle.Handle.{Handle}
@@ -12,38 +13,35 @@ use Rattle.cb_types.specs.declared.reply.Reply.TheVariants as answer
 use Rattle.cb_types.specs.declared.request.Request.{Request}
 use Rattle.cb_ptr.specs.declared.word.State.TheVariants as state
 use Rattle.cb_ptr.specs.Word.{state_of}
-use Rattle.cb_world.specs.declared.event.Event.{Event}
 use Rattle.cb_rule.specs.declared.turn.Turn.{Turn}
 use Rattle.cb_rule.specs.declared.view.Look.{Look}
 use Rattle.cb_rule.specs.declared.view.View.{View}
-use Rattle.cb_rule.specs.Lists.{Each}
 use Rattle.cb_rule.specs.Steps.{look_at, with_look}
-use Rattle.cb_record.specs.Deeds.{deed, happened, happening}
+use Rattle.cb_record.specs.Deeds.{deed, happened}
 use Rattle.cb_record.specs.Parts.{Grows, Part, grown, nothing_more}
-use Rattle.cb_shared.specs.Calls.{AtNone, AtThis, Brings, IsInVain, StopsBy, StopsInVain}
+use Rattle.cb_shared.specs.Calls.{AtNone, AtThis, Brings, IsInVain, IsReadJob, IsWriteJob, OfThis}
+use Rattle.cb_shared.specs.Calls.{StopsBy}
 use Rattle.cb_shared.specs.Joining.{unpinned_all}
 use Rattle.cb_shared.specs.Pinning.{LooksOnce}
-use Rattle.cb_shared.specs.Turning.{JobReads, TurnAdds, TurnBy, made_by_turn, turn_part, with_own}
-use Rattle.cb_shared.proofs.Laws.{grown_nothing, grown_sum, look_part}
+use Rattle.cb_shared.specs.Turning.{TurnBy}
+use Rattle.cb_shared.proofs.Laws.{GoesIdly, grown_nothing, grown_sum, look_part, stops_idle}
+use Rattle.cb_shared.proofs.Laws.{turn_idle}
 use Rattle.cb_lanes.specs.LineGoes.{Ask, Calls, Leaves, Peeks, Pins, Unpins}
 use Rattle.cb_lanes.specs.LaneStops.{AddsIdly, NextStops}
 use Rattle.cb_lanes.specs.Stopping.{AskStops, BringsNot, CallStops, LineStops, PinStops, Stops}
-use Rattle.cb_lanes.specs.Stopping.{TurnLacks, asked_or_not, stops_in}
+use Rattle.cb_lanes.specs.Stopping.{asked_or_not, stops_in}
 use Rattle.cb_lanes.specs.declared.body.Named.{Named}
 use Rattle.cb_lanes.specs.declared.passing.Passing.{Passing}
 use Rattle.cb_script.specs.declared.script.Line.{Line}
 use Rattle.cb_types.specs.declared.answer.Answer.{Answer}
 use Rattle.cb_lanes.proofs.ByAsk.{by_ask, line_less}
 use Rattle.cb_lanes.proofs.ByPass.{goes_by, line_by}
+use Rattle.cb_lanes.proofs.Lists.{each_both}
 
 -- ---- what holds of an error
 pub err_always : {T E : Type 0} (r : Result T E) (P : Type 0) → P → OnErr r P
 err_always (Ok x) P p = tt
 err_always (Err e) P p = p
-
-pub err_then : {T E : Type 0} (r : Result T E) (P Q : Type 0) → (P → Q) → OnErr r P → OnErr r Q
-err_then (Ok x) P Q f p = tt
-err_then (Err e) P Q f p = f p
 
 -- ---- a call
 pub call_stops : (c : Config) (j k : Job) (v w : View) (result : Result Reply NoMemory) → j ≡ k
@@ -66,11 +64,11 @@ other_stops c j v w (Err e) m r k f x = (e, x)
 -- ---- a pin
 pub brings_not : {T : Type 0} (c : Config) (h : ℕ) (v m w : View) (result : Result T NoMemory)
     → LooksOnce h v m (λ n. state_of n ≡ state.Far)
-    → OnErr result (StopsBy AtNone (Brings h) m w) → OnErr result (BringsNot c h v w)
-brings_not c h v m w result (n, far, left) x = err_then result _ _ (λ lacks. record {
+    → OnErr result (StopsBy c AtNone (Brings h) m w) → OnErr result (BringsNot c h v w)
+brings_not c h v m w result (n, far, left) x = on_err_weaker result (λ lacks. record {
   word = n;
   away = far;
-  lacks = subst (λ (z : View). StopsBy AtNone (Brings h) z w) left lacks;
+  lacks = subst (λ (z : View). StopsBy c AtNone (Brings h) z w) left lacks;
 }) x
 
 -- ---- a line of a lane with more beside its record is one of the record
@@ -92,11 +90,6 @@ line_stopped c h q a b x = line_by (asked_or_not (stops_in c)) the_record h q a 
     answer.Unmade (λ ask y. ask_stopped c ask a b y) h q x)
 
 -- ---- looks and turns alone
-each_both : {A : Type 0} (P : A → Type 0) (xs ys : List A) → Each P xs → Each P ys
-    → Each P (xs ++ ys)
-each_both P [] ys a b = b
-each_both P (x ∷ xs) ys a b = (a.0, each_both P xs ys a.1 b)
-
 abbrev idle_part : List Look → List Turn → Part
 idle_part looks turns = record nothing_more { looks = looks; turns = turns }
 
@@ -124,53 +117,21 @@ idle_vain on vain d v w x grew = record {
   grows = grew ∙ ap (λ (e : Part). grown e v) x.part;
 }
 
-idle_stops : (on : ℕ → Type 0) (vain want : Turn → Type 0) (v w : View)
-    → StopsInVain on vain want v w → AddsIdly v w
-idle_stops on vain want v w x = idle_both v x.between w
-    (idle_vain on vain x.tries.0 v x.between x.tries.1 x.tries.2)
-    (idle_vain on want x.last x.between w x.lacks x.left)
+idle_goes : (v w : View) → GoesIdly v w → AddsIdly v w
+idle_goes v w (d, x, grew) = idle_vain _ _ d v w x grew
 
--- ---- a turn that found no memory
-none_happened : (j : Job) → happening j None ≡ []
-none_happened (job.Make bytes) = refl
-none_happened (job.Crash node) = refl
-none_happened (job.Join node) = refl
-none_happened j = refl
-
-none_made : (j : Job) → made_by_turn j None ≡ []
-none_made (job.Make bytes) = refl
-none_made j = refl
-
--- a read that is part of one leaves looks
-within_looks : (j : Job) (es : List Event) (e : NoMemory) (v : View) (d : Part)
-    → JobReads j es (Err e) v d → (looks : List Look) × (d ≡ record nothing_more { looks = looks })
-within_looks (job.Read h) es e v d (inl x) = ([], x.0)
-within_looks (job.Read h) es e v d (inr x) = (x.looks, x.part)
-within_looks j es e v d x = ([], x)
-
-lacks_idly : (c : Config) (j : Job) (e : NoMemory) (v : View) (d : Part) → (x : TurnAdds c j (Err e) v d)
-    → (looks : List Look) × (d ≡ idle_part looks (x.turn ∷ []))
-lacks_idly c j e v d x = let z = within_looks j x.turn.acts e v x.within x.reads in (
-  z.0,
-  x.part ∙ (λ i. turn_part x.turn (x.wrote i) (z.1 i) (x.finds i)),
-)
-
-idle_turn : (c : Config) (j : Job) (v w : View) → TurnLacks c j v w → AddsIdly v w
-idle_turn c j v w (e, (d, x, is)) = let z = lacks_idly c j e v d x in record {
-  looks = z.0;
-  turns = x.turn ∷ [];
-  idle = ((λ i. happening (x.job_is i) (x.reply_is i)) ∙ none_happened j, tt);
-  grows = is ∙ ap (λ (l : List ℕ). with_own l (grown d v)) (none_made j)
-      ∙ ap (λ (p : Part). grown p v) z.1;
-}
+idle_stops : (c : Config) (on : ℕ → Type 0) (may : Job → Type 0) (v w : View)
+    → StopsBy c on may v w → AddsIdly v w
+idle_stops c on may v w x = idle_goes v w (stops_idle c on may v w x)
 
 -- ---- what is asked of a pass
 idle_call : (c : Config) (j : Job) (v w : View) → CallStops c j v w → AddsIdly v w
-idle_call c (job.Make bytes) v w x = idle_stops AtNone _ _ v w x
-idle_call c (job.Read h) v w x = idle_stops (AtThis h.n) _ _ v w x
-idle_call c (job.Write h at bytes) v w x = idle_stops (AtThis h.n) _ _ v w x
-idle_call c (job.Free h) v w x = idle_stops AtNone _ _ v w x
-idle_call c j v w x = idle_turn c j v w x
+idle_call c (job.Make bytes) v w x = idle_stops c AtNone (OfThis (job.Make bytes)) v w x
+idle_call c (job.Read h) v w x = idle_stops c (AtThis h.n) (IsReadJob h.n) v w x
+idle_call c (job.Write h at bytes) v w x =
+    idle_stops c (AtThis h.n) (IsWriteJob h.n at bytes) v w x
+idle_call c (job.Free h) v w x = idle_stops c AtNone (OfThis (job.Free h)) v w x
+idle_call c j v w x = idle_goes v w (turn_idle c j v w x)
 
 idle_look : (h word : ℕ) (v : View) → AddsIdly v (with_look h word v)
 idle_look h word v = record {
@@ -180,15 +141,15 @@ idle_look h word v = record {
   grows = look_part h word v;
 }
 
-idle_pin : (c : Config) (h : ℕ) (v w : View) → PinStops c h v w → AddsIdly v w
+pub idle_pin : (c : Config) (h : ℕ) (v w : View) → PinStops c h v w → AddsIdly v w
 idle_pin c h v w x = idle_both v x.between w
     (idle_vain (AtThis h) _ x.in_vain.0 v x.between x.in_vain.1 x.in_vain.2)
     (idle_both x.between (with_look h x.lacks.word x.between) w (idle_look h x.lacks.word x.between)
-    (idle_stops AtNone _ _ (with_look h x.lacks.word x.between) w x.lacks.lacks))
+    (idle_stops c AtNone (Brings h) (with_look h x.lacks.word x.between) w x.lacks.lacks))
 
 idle_ask : (c : Config) (ask : Ask) (v w : View) → stops_in c ask v w → AddsIdly v w
 idle_ask c (Calls j) v w x = idle_call c j v w x
-idle_ask c (Pins h) v w x = idle_pin c h v w x
+idle_ask c (Pins h) v w x = idle_pin c h v w x.0
 idle_ask c (Peeks h) v w x = idle_same v w x
 idle_ask c (Unpins h) v w x = absurd x
 idle_ask c Leaves v w x = absurd x

@@ -1,5 +1,5 @@
--- What a call tells of versions that the record of its pass did not have: what a turn wrote is above
--- them, and what is shown at least that.
+-- What a call tells of versions that the record of its pass did not have: what a turn wrote is
+-- above them, and what is shown at least that.
 use Rattle.std.proofs.Common.{ℕ, ◌<◌, ◌≤◌, Bool, List, ◌++◌, Ok, inl, inr, sym, ap, subst, arith}
 use Rattle.cb_types.specs.declared.config.Config.{Config}
 use Rattle.cb_types.specs.declared.job.Job.{Job}
@@ -17,7 +17,7 @@ use Rattle.cb_shared.specs.Calls.{IsLack, IsWrittenOnce, SaysAs, WriteCallEnds, 
 use Rattle.cb_shared.specs.Calls.{again_in, the_handle}
 use Rattle.cb_shared.specs.declared.answers.WriteAnswer.{WriteAnswer}
 use Rattle.cb_shared.specs.declared.answers.WriteAnswer.TheVariants as place
-use Rattle.cb_lanes.proofs.AskedTurns.{OwnOrLack, brings_lack, write_own}
+use Rattle.cb_shared.proofs.Laws.{OwnOrLack, brings_lack, write_own}
 use Rattle.cb_shared.specs.Turning.{TurnAdds}
 use Rattle.cb_lanes.specs.LineGoes.{Ask, Calls, Peeks}
 use Rattle.cb_lanes.specs.Passing.{PeekGoes, goes_in}
@@ -53,7 +53,8 @@ new_above h version u x n freed (inr y) = subst (λ (k : ℕ). k < version) y.3
     (each_has _ y.0 u.seen x.seen y.1 y.2)
 
 -- ---- a record that has less
-tells_less : (ask : Ask) (r : Reply) (v u : View) → HasAllOf v u → TellsNew ask u r → TellsNew ask v r
+tells_less : (ask : Ask) (r : Reply) (v u : View) → HasAllOf v u → TellsNew ask u r
+    → TellsNew ask v r
 tells_less (Calls (job.Make bytes)) (answer.Made handle version) v u all new =
     λ n freed has. new n freed (all handle.n n freed has)
 tells_less (Calls (job.Write handle at bytes)) (answer.Version version) v u all new =
@@ -126,7 +127,8 @@ peek_new h r v w x = tt
 
 -- ---- by what is asked
 module _ (c : Config) where
-  pub ask_new : (ask : Ask) (v : View) (r : Reply) (w : View) → goes_in c ask v r w → TellsNew ask v r
+  pub ask_new : (ask : Ask) (v : View) (r : Reply) (w : View) → goes_in c ask v r w
+      → TellsNew ask v r
   ask_new (Calls (job.Make bytes)) v r w x =
       tells_less (Calls (job.Make bytes)) r v (grown x.1.before v) (has_grown x.1.before v)
       (turn_new c (grown x.1.before v) x.1.last (job.Make bytes) r x.1.ends_so.1)
@@ -134,7 +136,8 @@ module _ (c : Config) where
       tells_less (Calls (job.Free handle)) r v (grown x.1.before v) (has_grown x.1.before v)
       (turn_new c (grown x.1.before v) x.1.last (job.Free handle) r x.1.ends_so.1)
   ask_new (Calls (job.Write handle at bytes)) v r w x =
-      tells_less (Calls (job.Write handle at bytes)) r v (grown x.1.before v) (has_grown x.1.before v)
+      tells_less (Calls (job.Write handle at bytes)) r v (grown x.1.before v)
+      (has_grown x.1.before v)
       (ends_new c handle.n at bytes r (grown x.1.before v) x.1.last x.1.ends_so)
   ask_new (Peeks h) v r w x = peek_new h r v w x
   ask_new ask v r w x = tt

@@ -19,13 +19,13 @@ use Rattle.cb_shared.specs.declared.answers.PinAnswer.{PinAnswer}
 use Rattle.cb_shared.specs.declared.answers.PinAnswer.TheVariants as found
 use Rattle.cb_shared.specs.declared.pass.Pin.{Pin}
 use Rattle.cb_shared.specs.Calls.{AsksFor, AtNone, AtThis, Brings, IsLack, IsUnanswered, StopsBy}
-use Rattle.cb_shared.specs.Calls.{StopsInVain, TriesBy, again_in}
+use Rattle.cb_shared.specs.Calls.{TriesBy, again_in}
 use Rattle.cb_shared.specs.Pinning.{IsPinnedHere, LooksOnce, PinGives}
 use Rattle.cb_shared.specs.Reading.{looked, looked_twice}
 use Rattle.cb_shared.specs.Turning.{TurnBy}
 use Rattle.cb_shared.proofs.Laws.{far_at_last, far_tries, grown_sum, look_part, one_of_three}
-use Rattle.cb_shared.proofs.Laws.{so_far, tries_then, tries_wider, twice_part, vain_look}
-use Rattle.cb_lanes.proofs.AskedTurns.{brings_lack}
+use Rattle.cb_shared.proofs.Laws.{brings_lack, so_far, stops_idle, tries_then, tries_wider}
+use Rattle.cb_shared.proofs.Laws.{twice_part, vain_look}
 use Rattle.cb_lanes.specs.Passing.{CallGives, IsPinnedOnce, PinEnds, PinGoes, PinTries, PinsAtLast}
 use Rattle.cb_lanes.specs.Passing.{PinsInVain}
 
@@ -128,11 +128,11 @@ brought c h (Some r) v m w (n, far, left) x =
 -- and they leave the pins as they are, whatever their outcome
 pub bring_leaves : (c : Config) (h : ℕ) (v w : View) (result : Result (Option Reply) NoMemory)
     → IfOk result (λ o. TriesBy c AtNone (Brings h) o v w)
-    → OnErr result (StopsBy AtNone (Brings h) v w) → w.pins ≡ v.pins
+    → OnErr result (StopsBy c AtNone (Brings h) v w) → w.pins ≡ v.pins
 bring_leaves c h v w (Ok None) x y = ap (λ (z : View). z.pins) x.2
 bring_leaves c h v w (Ok (Some r)) x y = ap (λ (z : View). z.pins) x.2
 bring_leaves c h v w (Err e) x y =
-    ap (λ (z : View). z.pins) y.left ∙ ap (λ (z : View). z.pins) y.tries.2
+    ap (λ (z : View). z.pins) (stops_idle c AtNone (Brings h) v w y).2
 
 -- ---- the loop round the tries
 pub pin_again : (c : Config) (h : ℕ) (o : Option Reply) (v m w : View) → o ≡ None
@@ -172,12 +172,12 @@ pins_left c (job.Write h at bytes) r v w x = ap (λ (z : View). z.pins) x.2
 pins_left c (job.Free h) r v w x = ap (λ (z : View). z.pins) x.2
 pins_left c j r v w x = ap (λ (z : View). z.pins) x.2
 
-pub call_leaves : (c : Config) (j : Job) (on : ℕ → Type 0) (idle want : Turn → Type 0) (v w : View)
+pub call_leaves : (c : Config) (j : Job) (on : ℕ → Type 0) (may : Job → Type 0) (v w : View)
     (result : Result Reply NoMemory) → IfOk result (λ r. CallGives c j v r w)
-    → OnErr result (StopsInVain on idle want v w) → w.pins ≡ v.pins
-call_leaves c j on idle want v w (Ok r) x y = pins_left c j r v w x
-call_leaves c j on idle want v w (Err e) x y =
-    ap (λ (z : View). z.pins) y.left ∙ ap (λ (z : View). z.pins) y.tries.2
+    → OnErr result (StopsBy c on may v w) → w.pins ≡ v.pins
+call_leaves c j on may v w (Ok r) x y = pins_left c j r v w x
+call_leaves c j on may v w (Err e) x y =
+    ap (λ (z : View). z.pins) (stops_idle c on may v w y).2
 
 pub turn_leaves : (c : Config) (j : Job) (v w : View) (result : Result Reply NoMemory)
     → TurnBy c j result v w → w.pins ≡ v.pins

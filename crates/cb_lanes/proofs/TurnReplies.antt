@@ -30,7 +30,8 @@ use Rattle.cb_filter.specs.FilterRule.{FilterAs}
 use Rattle.cb_rebuild.specs.RebuildStep.{RebuildStep, Restores, surveyed}
 use Rattle.cb_swapin.proofs.Laws.{by_answer}
 use Rattle.cb_core.specs.Membership.{CrashTurn, JoinTurn, crashed, is_down, is_up, joined}
-use Rattle.cb_core.specs.Parts.{Holding, WhereItIs, WithRoom, brought, declined, most_evictions, near}
+use Rattle.cb_core.specs.Parts.{Holding, WhereItIs, WithRoom, brought, declined, most_evictions}
+use Rattle.cb_core.specs.Parts.{near}
 use Rattle.cb_core.specs.Parts.{stays_far}
 use Rattle.cb_core.specs.Turned.{Brings, Declines, Does, IsDeclined, Makes, Swaps, Turned, WinsRoom}
 use Rattle.cb_core.specs.Turned.{WritesObject, done, once_counted, worn}
@@ -57,16 +58,21 @@ make_rule n bytes name far new r es off x = absurd x
 pub write_as : (s : State) (h at w : ℕ) (name bytes : List ℕ) (es : List Event) (r : Reply)
     → (r ≡ answer.NotHere → ⊥) → AnsweredAs s (WriteHere h at bytes es r) w h es r
     → IsReplyOf (Write name at bytes) r
-write_as state.Here h at w name bytes es r off (inl (past, is)) = so (Write name at bytes) r (answer.Range (len_of w)) tt is
-write_as state.Here h at w name bytes es r off (inr (fits, inl (some, is))) = so (Write name at bytes) r (answer.Pinned _) tt is
+write_as state.Here h at w name bytes es r off (inl (past, is)) =
+    so (Write name at bytes) r (answer.Range (len_of w)) tt is
+write_as state.Here h at w name bytes es r off (inr (fits, inl (some, is))) =
+    so (Write name at bytes) r (answer.Pinned _) tt is
 write_as state.Here h at w name bytes es r off (inr (fits, inr (none, (v, words, taken, next)))) =
     next_reply (Write name at bytes) v r tt (λ n. tt) next
-write_as state.Empty h at w name bytes es r off (zero, told, is) = so (Write name at bytes) r answer.Unmade tt is
-write_as state.Empty h at w name bytes es r off (suc v, told, is) = so (Write name at bytes) r answer.Freed tt is
+write_as state.Empty h at w name bytes es r off (zero, told, is) =
+    so (Write name at bytes) r answer.Unmade tt is
+write_as state.Empty h at w name bytes es r off (suc v, told, is) =
+    so (Write name at bytes) r answer.Freed tt is
 write_as state.Far h at w name bytes es r off is = absurd (off is)
 write_as state.Moving h at w name bytes es r off is = so (Write name at bytes) r answer.Moving tt is
 
-pub free_as : (s : State) (h w : ℕ) (name : List ℕ) (es : List Event) (r : Reply) → FreeAs s w h es r
+pub free_as : (s : State) (h w : ℕ) (name : List ℕ) (es : List Event) (r : Reply)
+    → FreeAs s w h es r
     → IsReplyOf (Free name) r
 free_as state.Far h w name es r (v, told, next) = next_reply (Free name) v r tt (λ n. tt) next
 free_as state.Here h w name es r (inl (some, is)) = so (Free name) r (answer.Pinned _) tt is
@@ -78,7 +84,8 @@ free_as state.Moving h w name es r is = so (Free name) r answer.Moving tt is
 
 pub filter_as : (s : State) (frames h w : ℕ) (name : List ℕ) (far new : FarState) (r : Reply)
     (es : List Event) → FilterAs s frames h w far new r es → IsReplyOf (Filter name) r
-filter_as state.Here frames h w name far new r es (inl (some, is, same)) = so (Filter name) r (answer.Pinned _) tt is
+filter_as state.Here frames h w name far new r es (inl (some, is, same)) =
+    so (Filter name) r (answer.Pinned _) tt is
 filter_as state.Here frames h w name far new r es (inr (claimed, (seat, of, inl x))) =
     so (Filter name) r answer.Same tt x.reply
 filter_as state.Here frames h w name far new r es (inr (claimed, (seat, of, inr (inl x)))) =
@@ -89,8 +96,10 @@ filter_as state.Empty frames h w name far new r es ((zero, told, is), same) =
     so (Filter name) r answer.Unmade tt is
 filter_as state.Empty frames h w name far new r es ((suc v, told, is), same) =
     so (Filter name) r answer.NotHere tt is
-filter_as state.Far frames h w name far new r es (is, same) = so (Filter name) r answer.NotHere tt is
-filter_as state.Moving frames h w name far new r es (is, same) = so (Filter name) r answer.Moving tt is
+filter_as state.Far frames h w name far new r es (is, same) =
+    so (Filter name) r answer.NotHere tt is
+filter_as state.Moving frames h w name far new r es (is, same) =
+    so (Filter name) r answer.Moving tt is
 
 -- ---- evictions
 pub evict_rule : (c : Config) (far new : FarState) (r : Reply) (es : List Event)
@@ -144,7 +153,8 @@ abort_rule far new r es a = by a.answered
     by (inr x) = so line.Abort r _ tt x.reply
 
 -- ---- jobs at the far state alone
-pub rebuild_step : (far new : FarState) (r : Reply) → RebuildStep far new r → IsReplyOf line.Rebuild r
+pub rebuild_step : (far new : FarState) (r : Reply) → RebuildStep far new r
+    → IsReplyOf line.Rebuild r
 rebuild_step far new r (inl x) = so line.Rebuild r _ tt x.reply
 rebuild_step far new r (inr x) = by x.restores
   where
@@ -221,7 +231,8 @@ module _ {D : Type 0} (run : D → List Event → D → Type 0) (shows : D → S
       again.rule.1.answer
 
   -- ---- a turn, by what its job does
-  pub turned_so : (reads : ℕ → Holding D → Reply → Holding D → Type 0) (j : Job) (q : Request) (r : Reply)
+  pub turned_so : (reads : ℕ → Holding D → Reply → Holding D → Type 0) (j : Job) (q : Request)
+      (r : Reply)
       (a b : Holding D) → (Does run shows reads c j (once_counted a j) r b → IsReplyOf q r)
       → IsReplyOf q answer.Worn → Turned run shows reads c j a r b → IsReplyOf q r
   turned_so reads j q r a b may last (worn end is same ran) = so q r answer.Worn last is

@@ -28,13 +28,15 @@ pub record Turning (answers : List Answer) (w new : WorldState) : Type 0 where
   pub lone : NoneHolds w.seats
   pub beside : IsMapBeside (calls_of answers) before.shown w.far
 
-abbrev pub around : (answers : List Answer) (w new : WorldState) → Turning answers w new → AroundLine answers w new
+abbrev pub around : (answers : List Answer) (w new : WorldState) → Turning answers w new
+    → AroundLine answers w new
 around answers w new c = record { before = c.before; then = c.then; beside = c.beside }
 
 -- after it: the answer is the map's and one of the line's
 pub record LineGives (answers : List Answer) (a : Answer) (w new : WorldState) (t : Shown) : Type
     0 where
-  pub follows : FollowsMap w.desk.settings.handles (calls_of answers) (called answers a) t w.far new.far
+  pub follows : FollowsMap w.desk.settings.handles (calls_of answers)
+      (called answers a) t w.far new.far
   pub reply : HasLineReply a
   pub first : new.far.first ≡ w.far.first
   pub turns : new.far.counts.turns ≤ w.far.counts.turns + 1
@@ -46,7 +48,8 @@ within w h sound below = let n = sound.known.sized.words in omega (arith, below,
 -- by what the turn left of the map
 pub goes_by : (answers : List Answer) (a : Answer) (w new : WorldState) (j : Job) (r : Reply)
     → (c : Turning answers w new) → TurnStep j w r new
-    → FollowsMap w.desk.settings.handles (calls_of answers) (called answers a) c.then.shown w.far new.far
+    → FollowsMap w.desk.settings.handles (calls_of answers)
+    (called answers a) c.then.shown w.far new.far
     → HasLineReply a → LineGives answers a w new c.then.shown
 goes_by answers a w new j r c step follows reply = record {
   follows = follows;
@@ -56,10 +59,12 @@ goes_by answers a w new j r c step follows reply = record {
 }
 
 -- a call on an object
-pub call_goes : (answers : List Answer) (a : Answer) (w new : WorldState) (j : Job) (r : Reply) (h : ℕ)
+pub call_goes : (answers : List Answer) (a : Answer) (w new : WorldState) (j : Job) (r : Reply)
+    (h : ℕ)
     → (c : Turning answers w new) → TurnStep j w r new
     → IsCallOn w.desk.settings.handles c.before.shown c.then.shown w.far new.far h a.request a.reply
-    → handle_for answers a.request a.reply ≡ Some h → HasLineReply a → LineGives answers a w new c.then.shown
+    → handle_for answers a.request a.reply ≡ Some h → HasLineReply a
+    → LineGives answers a w new c.then.shown
 call_goes answers a w new j r h c step call about reply =
     goes_by answers a w new j r c step
     (call_follows w.desk.settings.handles (calls_of answers) (called answers a) c.before.shown
@@ -69,8 +74,10 @@ call_goes answers a w new j r h c step call about reply =
 -- an answer about no object
 pub refused_goes : (answers : List Answer) (a : Answer) (w new : WorldState) (j : Job) (r : Reply)
     → (c : Turning answers w new) → TurnStep j w r new
-    → IsRefusedMake w.desk.settings.handles c.before.shown c.then.shown w.far new.far a.request a.reply
-    → handle_for answers a.request a.reply ≡ None → HasLineReply a → LineGives answers a w new c.then.shown
+    → IsRefusedMake w.desk.settings.handles c.before.shown c.then.shown w.far new.far a.request
+    a.reply
+    → handle_for answers a.request a.reply ≡ None → HasLineReply a
+    → LineGives answers a w new c.then.shown
 refused_goes answers a w new j r c step call about reply =
     goes_by answers a w new j r c step
     (refused_follows w.desk.settings.handles (calls_of answers) (called answers a) c.before.shown

@@ -25,7 +25,8 @@ module _ (lines : List Line) (lane : ℕ) where
 
   not_moved : (state : LaneState) (a : Answer) → (a.lane.n ≡ lane → ⊥)
       → alone_more lines lane state a ≡ state
-  not_moved state a off = ap (λ (b : Bool). if b then alone_after state a.request a.reply else state)
+  not_moved state a off = ap
+      (λ (b : Bool). if b then alone_after state a.request a.reply else state)
       (λ i. not_own a off i || not_left a off i)
 
   -- behind such answers

@@ -50,12 +50,15 @@ version_more handles calls c h n reply low =
         let at : Some h ≡ c.handle = ap Some (eqb-true h k same) ∙ sym e in
         subst (λ (b : Bool). after (changes b) ≤ version_had (value calls h) + 1) (sym same)
         (one_higher handles (makes calls) (Some h) (value calls h) c.event
-        (subst (λ (o : Option ℕ). MapReplies 1 handles (makes calls) o (value_at calls o) c.event) (sym at)
+        (subst (λ (o : Option ℕ). MapReplies 1 handles (makes calls) o (value_at calls o) c.event)
+        (sym at)
         reply.reply))
     on k e (inr off) = still (nat_eq h k) off
 
     by : (o : Option ℕ) → c.handle ≡ o → after (change_to h c) ≤ version_had (value calls h) + 1
-    by None e = subst (λ (o : Option ℕ). after (changes (is_about h o)) ≤ version_had (value calls h) + 1)
+    by None e = subst (λ (o : Option ℕ). after (changes (is_about h o)) ≤ version_had
+        (value calls h) + 1)
         (sym e) (omega arith)
-    by (Some k) e = subst (λ (o : Option ℕ). after (changes (is_about h o)) ≤ version_had (value calls h) + 1)
+    by (Some k) e = subst (λ (o : Option ℕ). after (changes (is_about h o)) ≤ version_had
+        (value calls h) + 1)
         (sym e) (on k e (cases_Bool (nat_eq h k)))

@@ -30,7 +30,8 @@ abbrev by : ℕ → Request → Line
 by lane request = record { lane = record { n = lane }; line = 2; request = request }
 
 abbrev lane_answer : ℕ → Request → Reply → Answer
-lane_answer lane request reply = record { lane = record { n = lane }; line = 2; request = request; reply = reply }
+lane_answer lane request reply =
+    record { lane = record { n = lane }; line = 2; request = request; reply = reply }
 
 abbrev made : ℕ → Reply
 made h = Made (record { n = h }) 1
@@ -39,7 +40,8 @@ made h = Made (record { n = h }) 1
 
 -- lane 0 makes a, lane 1 makes b, and lane 2 makes c and pins a
 abbrev lines : List Line
-lines = by 0 (Make a (1 ∷ [])) ∷ by 1 (Make b (2 ∷ [])) ∷ by 2 (Make c (3 ∷ [])) ∷ by 2 (Pin a) ∷ by 1 (Pin b)
+lines = by 0 (Make a (1 ∷ [])) ∷ by 1 (Make b (2 ∷ [])) ∷ by 2 (Make c (3 ∷ [])) ∷ by 2
+    (Pin a) ∷ by 1 (Pin b)
     ∷ by 2 (Pin c) ∷ []
 
 a_make_is_own : is_own lines 1 (lane_answer 1 (Make b (2 ∷ [])) (made 1)) ≡ true
@@ -89,7 +91,8 @@ on name version = record { name = name; version = version }
 -- b has two bytes at version 3 and is pinned twice, c was freed
 abbrev lane : LaneState
 lane = record {
-  objects = object b (has.Held 3 (7 ∷ 8 ∷ [])) ∷ object c (has.Freed 2) ∷ object b (has.Held 2 (6 ∷ 8 ∷ [])) ∷ [];
+  objects = object b (has.Held 3 (7 ∷ 8 ∷ [])) ∷ object c (has.Freed 2) ∷ object b
+      (has.Held 2 (6 ∷ 8 ∷ [])) ∷ [];
   scope = on b 3 ∷ on b 3 ∷ [];
 }
 
@@ -222,8 +225,10 @@ a_leave_gives_all_back = refl
 
 -- lane 1 makes b, lane 2 writes a, lane 1 pins b, is refused a write, reads a, leaves, writes b
 abbrev answers : List Answer
-answers = lane_answer 1 (Make b (2 ∷ [])) (made 1) ∷ lane_answer 2 (Write a 0 (5 ∷ [])) (Version 2) ∷ lane_answer 1 (Pin b) (Version 1)
-    ∷ lane_answer 1 (Write b 0 (4 ∷ [])) (Pinned 1) ∷ lane_answer 1 (Read a) (Bytes 2 (5 ∷ [])) ∷ lane_answer 1 Leave (Left 1)
+answers = lane_answer 1 (Make b (2 ∷ [])) (made 1) ∷ lane_answer 2 (Write a 0 (5 ∷ []))
+    (Version 2) ∷ lane_answer 1 (Pin b) (Version 1)
+    ∷ lane_answer 1 (Write b 0 (4 ∷ [])) (Pinned 1) ∷ lane_answer 1 (Read a)
+    (Bytes 2 (5 ∷ [])) ∷ lane_answer 1 Leave (Left 1)
     ∷ lane_answer 1 (Write b 0 (4 ∷ [])) (Version 2) ∷ []
 
 kept : KeepAlone lines 1 fresh_lane answers
@@ -248,13 +253,16 @@ kept = (
 )
 
 -- a write behind a leave that is still answered pinned
-a_scope_that_keeps_what_was_given_back : KeepAlone lines 1 fresh_lane (lane_answer 1 (Make b (2 ∷ [])) (made 1)
-    ∷ lane_answer 1 (Pin b) (Version 1) ∷ lane_answer 1 Leave (Left 1) ∷ lane_answer 1 (Write b 0 (4 ∷ [])) (Pinned 1) ∷ []) → ⊥
+a_scope_that_keeps_what_was_given_back : KeepAlone lines 1 fresh_lane
+    (lane_answer 1 (Make b (2 ∷ [])) (made 1)
+    ∷ lane_answer 1 (Pin b) (Version 1) ∷ lane_answer 1 Leave (Left 1) ∷ lane_answer 1
+    (Write b 0 (4 ∷ [])) (Pinned 1) ∷ []) → ⊥
 a_scope_that_keeps_what_was_given_back are = absurd (let e = are.1.1.1.0 refl in cc)
 
 -- a read that shows what another lane wrote
 another_lane_has_a_part : KeepAlone lines 1 fresh_lane (lane_answer 1 (Make b (2 ∷ [])) (made 1)
-    ∷ lane_answer 2 (Write b 0 (4 ∷ [])) (Version 2) ∷ lane_answer 1 (Read b) (Bytes 2 (4 ∷ [])) ∷ []) → ⊥
+    ∷ lane_answer 2 (Write b 0 (4 ∷ [])) (Version 2) ∷ lane_answer 1 (Read b) (Bytes 2 (4 ∷ [])) ∷
+    []) → ⊥
 another_lane_has_a_part are = absurd (let e = are.1.1.0 refl in cc)
 
 -- ---- calm replies

@@ -21,7 +21,8 @@ abbrev by : ℕ → Request → Line
 by lane request = record { lane = record { n = lane }; line = 2; request = request }
 
 abbrev lane_answer : ℕ → Request → Reply → Answer
-lane_answer lane request reply = record { lane = record { n = lane }; line = 2; request = request; reply = reply }
+lane_answer lane request reply =
+    record { lane = record { n = lane }; line = 2; request = request; reply = reply }
 
 abbrev made : ℕ → Reply
 made h = Made (record { n = h }) 1
@@ -72,11 +73,12 @@ an_answered_line_does_not = refl
 
 -- ---- the answers to a lane's own lines
 
--- lane 1 makes b, reads a in vain, reads b, is refused a write of it for want of room, and reads what
--- no one wrote
+-- lane 1 makes b, reads a in vain, reads b, is refused a write of it for want of room, and reads
+-- what no one wrote
 kept : KeepAloneUntil lines 1 fresh_lane (lane_answer 1 (Make b (2 ∷ [])) (made 1)
     ∷ lane_answer 1 (Read a) (NoRoom 8 1 2) ∷ lane_answer 1 (Read b) (Bytes 1 (2 ∷ []))
-    ∷ lane_answer 1 (Write b 0 (4 ∷ [])) (NoRoom 8 1 2) ∷ lane_answer 1 (Read b) (Bytes 9 (7 ∷ [])) ∷ [])
+    ∷ lane_answer 1 (Write b 0 (4 ∷ [])) (NoRoom 8 1 2) ∷ lane_answer 1 (Read b)
+    (Bytes 9 (7 ∷ [])) ∷ [])
 kept _ = (
   λ e. (record { n = 1 }, refl),
   λ _. (
@@ -87,10 +89,12 @@ kept _ = (
 
 -- before a lack a read shows what the lane wrote
 wrong_before_the_lack : KeepAloneUntil lines 1 fresh_lane (lane_answer 1 (Make b (2 ∷ [])) (made 1)
-    ∷ lane_answer 1 (Read b) (Bytes 9 (7 ∷ [])) ∷ lane_answer 1 (Write b 0 (4 ∷ [])) (NoRoom 8 1 2) ∷ []) → ⊥
+    ∷ lane_answer 1 (Read b) (Bytes 9 (7 ∷ [])) ∷ lane_answer 1 (Write b 0 (4 ∷ []))
+    (NoRoom 8 1 2) ∷ []) → ⊥
 wrong_before_the_lack are = absurd (let e = ((are refl).1 refl).0 refl in cc)
 
 -- what lacks on a shared name ends nothing
-wrong_behind_a_shared_lack : KeepAloneUntil lines 1 fresh_lane (lane_answer 1 (Make b (2 ∷ [])) (made 1)
+wrong_behind_a_shared_lack : KeepAloneUntil lines 1 fresh_lane
+    (lane_answer 1 (Make b (2 ∷ [])) (made 1)
     ∷ lane_answer 1 (Read a) (NoRoom 8 1 2) ∷ lane_answer 1 (Read b) (Bytes 9 (7 ∷ [])) ∷ []) → ⊥
 wrong_behind_a_shared_lack are = absurd (let e = (((are refl).1 refl).1 refl).0 refl in cc)

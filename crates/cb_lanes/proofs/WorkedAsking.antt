@@ -1,4 +1,5 @@
--- Worked calls and pins of a pass: what meets each definition, and what breaks one of its parts alone.
+-- Worked calls and pins of a pass: what meets each definition, and what breaks one of its parts
+-- alone.
 use Rattle.std.proofs.Common.{◌≡◌, ℕ, ◌+◌, List, [], ◌∷◌, ◌++◌, length, length-append, None, Some}
 use Rattle.std.proofs.Common.{Ok, inl, inr, refl, ap, ◌∙◌, lit<, arith, ⊎_elim}
 use Rattle.std.proofs.lemmas.Bool.{eqb-false}
@@ -21,12 +22,12 @@ use Rattle.cb_shared.specs.Calls.{AtThis, Brings, FoundFar, IsAnswerTo, IsInVain
 use Rattle.cb_shared.specs.Calls.{again_in}
 use Rattle.cb_shared.specs.Reading.{looked, looked_freed}
 use Rattle.cb_shared.specs.Turning.{TurnAdds, with_own}
-use Rattle.cb_shared.proofs.Laws.{read_lacks, so_far, vain_look}
-use Rattle.cb_lanes.proofs.AskedTurns.{brings_lack, each_brings}
+use Rattle.cb_shared.proofs.Laws.{brings_lack, each_brings, read_lacks, so_far, vain_look}
 use Rattle.cb_lanes.specs.LineGoes.{Calls, Pins}
 use Rattle.cb_lanes.specs.Passing.{CallGives, IsPinnedOnce, PinEnds, PinGoes, PinTries, PinsAtLast}
 use Rattle.cb_lanes.specs.Passing.{goes_in}
 use Rattle.cb_lanes.proofs.WorkedPassing.{two}
+use Rattle.cb_lanes.proofs.WorkedPinTurns.{gets_a_fetch, gets_a_swap}
 
 -- the pointer word of an object of 8 bytes at place 5, Here and Moving; and of one that is Far
 abbrev calm : ℕ
@@ -73,7 +74,8 @@ no_tries : (on : ℕ → Type 0) (j : Turn → Type 0) → IsInVain on j nothing
 no_tries on j = record { looks = []; turns = []; at = tt; of = tt; idle = tt; part = refl }
 
 -- a read that found the object freed, with no turn
-reads : CallGives two (job.Read one) part answer.Freed (grown (sum nothing_more (looked_freed 1 3 0)) part)
+reads : CallGives two (job.Read one) part answer.Freed
+    (grown (sum nothing_more (looked_freed 1 3 0)) part)
 reads = (
   sum nothing_more (looked_freed 1 3 0),
   record {
@@ -303,7 +305,8 @@ gives_up x =
     let e : 0 ≡ x.between.ever + 1 = ap (λ (v : View). v.ever) x.ends_so.left in omega (arith, e)
 
 -- an entry was written on the way
-writes_on_the_way : PinsAtLast two 1 (answer.Version 3) part (record late { written = made ∷ made ∷ [] })
+writes_on_the_way : PinsAtLast two 1 (answer.Version 3) part
+    (record late { written = made ∷ made ∷ [] })
     → ⊥
 writes_on_the_way x = eqb-false 2 1 refl (ap (λ (v : View). length v.written) x.ends_so.left
     ∙ ap (λ (v : View). length v.written) x.in_vain.2
@@ -326,7 +329,8 @@ first_at : (ls : List Look) → Each (λ (l : Look). l.handle ≡ 1) ls → firs
 first_at [] each = refl
 first_at (l ∷ ls) each = each.0
 
-looks_elsewhere : PinsAtLast two 1 (answer.Version 3) part (taken calm 3 (with_look 0 moving part)) → ⊥
+looks_elsewhere : PinsAtLast two 1 (answer.Version 3) part (taken calm 3 (with_look 0 moving part))
+    → ⊥
 looks_elsewhere x = eqb-false 0 1 refl (ap (λ (v : View). third v.looks) x.ends_so.left
     ∙ ap (λ (v : View). first v.looks) x.in_vain.2
     ∙ ap (λ (d : Part). first (d.looks ++ [])) x.in_vain.1.part
@@ -366,9 +370,40 @@ pins_in_vain (d, x, is) = eqb-false 1 0 refl (ap (λ (v : View). v.ever) is
     ∙ ap (λ (e : Part). 0 + e.ever) x.part)
 
 -- ---- what is asked of a pass
+abbrev turns_in : Part → List Turn
+turns_in d = d.turns
+
+one_more : (d : Part) (t : Turn) → d.turns ≡ t ∷ [] → (grown d far).turns ≡ t ∷ []
+one_more d t is = ap (λ (ts : List Turn). ts ++ []) is
+
 asks_a_call : goes_in two (Calls (job.Read one)) part answer.Freed
     (grown (sum nothing_more (looked_freed 1 3 0)) part)
 asks_a_call = reads
 
 asks_a_pin : goes_in two (Pins 1) part (answer.Version 3) late
-asks_a_pin = pin_goes
+asks_a_pin = (pin_goes, ([], refl, tt))
+
+-- a pin by a turn that fetches the object, and one that swaps it in at once
+asks_to_fetch : (d : Part) → TurnAdds two (job.Fetch one) (Ok answer.Worn) far d
+    → goes_in two (Pins 1) part answer.Worn (grown d far)
+asks_to_fetch d adds = (
+  (lit< tt, tries_and_lacks d adds),
+  gets_a_fetch adds.turn part (grown d far) (one_more d adds.turn (ap turns_in adds.part))
+      adds.job_is,
+)
+
+swaps_at_once : (d : Part) → TurnAdds two (job.Swap one) (Ok answer.Worn) far d
+    → PinGoes two 1 part answer.Worn (grown d far)
+swaps_at_once d adds = (
+  lit< tt,
+  record {
+    between = far;
+    in_vain = (looked 1 away, vain_look 1 away (IsUnanswered (Brings 1)), refl);
+    ends_so = ends_unswapped d adds;
+  },
+)
+
+asks_to_swap : (d : Part) → TurnAdds two (job.Swap one) (Ok answer.Worn) far d
+    → goes_in two (Pins 1) part answer.Worn (grown d far) → ⊥
+asks_to_swap d adds x = gets_a_swap adds.turn part (grown d far)
+    (one_more d adds.turn (ap turns_in adds.part)) adds.job_is x.1

@@ -1,5 +1,5 @@
--- Worked lanes in threads of their own: what meets each definition, and what breaks one of its parts
--- alone.
+-- Worked lanes in threads of their own: what meets each definition, and what breaks one of its
+-- parts alone.
 use Rattle.std.proofs.Common.{◌≡◌, ◌≢◌, ℕ, ◌+◌, false, List, [], ◌∷◌, length, Option, None, Some}
 use Rattle.std.proofs.Common.{inl, inr, refl, sym, ap, ◌∙◌, subst, lit<, arith}
 use Rattle.std.proofs.lemmas.Bool.{eqb-false}
@@ -40,7 +40,8 @@ abbrev by : ℕ → Request → Line
 by lane request = record { lane = record { n = lane }; line = 2; request = request }
 
 abbrev own_answer : Request → Reply → Answer
-own_answer request reply = record { lane = record { n = 1 }; line = 2; request = request; reply = reply }
+own_answer request reply =
+    record { lane = record { n = 1 }; line = 2; request = request; reply = reply }
 
 some_none : {h : ℕ} → ◌≢◌ {A = Option ℕ} (Some h) None
 some_none e = cc
@@ -228,7 +229,8 @@ module _ (kept : KeptNames) where
   keep_the_first : kept_number kept a ≡ Some 4 → KeepHandles kept (named a 4 ∷ []) (made 5 ∷ []) → ⊥
   keep_the_first four keeps = eqb-false 4 5 refl (some_some (sym four ∙ keeps a))
 
-  knows_kept : ((name : List ℕ) (h : ℕ) → kept_number kept name ≡ Some h → h ≡ 1) → KnowsKept kept part
+  knows_kept : ((name : List ℕ) (h : ℕ) → kept_number kept name ≡ Some h → h ≡ 1)
+      → KnowsKept kept part
   knows_kept one name h is = subst (λ (n : ℕ). Knows n part) (sym (one name h is)) knows_one
 
   knows_not_kept : kept_number kept b ≡ Some 0 → KnowsKept kept part → ⊥
@@ -246,7 +248,8 @@ no_front (rest, e) = eqb-false 1 2 refl (ap head e)
     head (x ∷ xs) = x
 
 -- ---- the lines of a lane, and the end of its pins
-lane_goes : LaneGoes two [] pinning (own_answer (Read a) answer.Unmade ∷ []) (record pinning { pins = [] })
+lane_goes : LaneGoes two [] pinning (own_answer (Read a) answer.Unmade ∷ [])
+    (record pinning { pins = [] })
 lane_goes = (pinning, (pinning, (refl, refl), refl), refl)
 
 lane_keeps_pins : LaneGoes two [] pinning (own_answer (Read a) answer.Unmade ∷ []) pinning → ⊥
@@ -287,12 +290,14 @@ module _ (kept : KeptNames) where
   answers_unsaid : Answers kept (made 5 ∷ []) (record pinning { pins = [] }) → ⊥
   answers_unsaid x = eqb-false 1 2 refl (ap length x.answer)
 
-  forgets_a_name : (later : KeptNames) (h : ℕ) → kept_number kept a ≡ Some h → kept_number later a ≡ None
+  forgets_a_name : (later : KeptNames) (h : ℕ) → kept_number kept a ≡ Some h
+      → kept_number later a ≡ None
       → Answers later left_two (record pinning { pins = [] }) → ⊥
   forgets_a_name later h there gone x = some_none (sym there ∙ sym (x.keeps a) ∙ gone)
 
   -- a name that has a handle is not unmade
   peeks_unmade : (later : KeptNames) (w : View) → kept_number kept a ≡ Some 1
-      → AnswersOne two (by 1 (Peek a)) kept later [] (own_answer (Peek a) answer.Unmade ∷ []) pinning w → ⊥
+      → AnswersOne two (by 1 (Peek a)) kept later []
+      (own_answer (Peek a) answer.Unmade ∷ []) pinning w → ⊥
   peeks_unmade later w one x = unpeeked x.reply w (ap first_reply x.answer)
       (subst (λ (o : Option ℕ). LineGoes (goes_in two) o (Peek a) pinning x.reply w) one x.goes)

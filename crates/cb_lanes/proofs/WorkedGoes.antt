@@ -86,7 +86,8 @@ a_make_asks e = omega (arith, ap kind e)
 an_eviction_is_no_leave : LineGoes noted None Evict [] answer.Done (Leaves ∷ []) → ⊥
 an_eviction_is_no_leave e = omega (arith, ap kind e)
 
-of_another_object : LineGoes noted (Some 4) (Read a) [] answer.Done (Calls (job.Read (on 5)) ∷ []) → ⊥
+of_another_object : LineGoes noted (Some 4) (Read a) [] answer.Done (Calls (job.Read (on 5)) ∷ [])
+    → ⊥
 of_another_object e = omega (arith, ap last_handle e)
 
 a_pin_is_no_peek : LineGoes noted (Some 4) (Pin a) [] answer.Done (Peeks 4 ∷ []) → ⊥
@@ -148,7 +149,8 @@ abbrev left_answers : Reply → List Answer
 left_answers r = answer_to leaving Leave r ∷ []
 
 module _ (names : KeptNames) where
-  is_answered : AnsweredBy noted leaving [] names [] (Leaves ∷ []) names (left_answers (answer.Left 0))
+  is_answered : AnsweredBy noted leaving [] names [] (Leaves ∷ []) names
+      (left_answers (answer.Left 0))
   is_answered = record { reply = answer.Left 0; line_goes = refl; holds = λ q. refl; answer = refl }
 
   -- a line that asked for nothing, one whose answer was not added, and one that forgot a name

@@ -1,5 +1,5 @@
--- Worked examples: what a lane beside others promises of its own lines, and of which lines and names
--- it does.
+-- Worked examples: what a lane beside others promises of its own lines, and of which lines and
+-- names it does.
 use Rattle.std.proofs.Common.{◌≡◌, ◌⊎◌, ℕ, ◌<◌, ◌≤◌, Bool, true, false, ◌||◌, List, [], ◌∷◌, ◌++◌}
 use Rattle.std.proofs.Common.{get_or, None, Some, inl, inr, refl, sym, ap, ◌∙◌, subst, arith, lit≤}
 use Rattle.std.proofs.Common.{nat_eq, if◌then◌else◌}
@@ -134,7 +134,8 @@ of_each P lane (l ∷ ls) all = from (nat_eq l.lane.n lane) (of_each P lane ls a
     from true rest = (all.0, rest)
     from false rest = rest
 
-own_number : (lane : ℕ) (ls : List Line) → AllByRecursion (λ (l : Line). l.lane.n ≡ lane) (of_lane lane ls)
+own_number : (lane : ℕ) (ls : List Line)
+    → AllByRecursion (λ (l : Line). l.lane.n ≡ lane) (of_lane lane ls)
 own_number lane [] = tt
 own_number lane (l ∷ ls) = from (cases_Bool (nat_eq l.lane.n lane)) (own_number lane ls)
   where
@@ -142,7 +143,8 @@ own_number lane (l ∷ ls) = from (cases_Bool (nat_eq l.lane.n lane)) (own_numbe
         → AllByRecursion (λ (k : Line). k.lane.n ≡ lane) (of_lane lane ls)
         → AllByRecursion (λ (k : Line). k.lane.n ≡ lane) (of_lane lane (l ∷ ls))
     from (inl e) rest = subst (λ (t : Bool). AllByRecursion (λ (k : Line). k.lane.n ≡ lane)
-        (if t then l ∷ of_lane lane ls else of_lane lane ls)) (sym e) (eqb-true l.lane.n lane e, rest)
+        (if t then l ∷ of_lane lane ls else of_lane lane ls)) (sym e)
+        (eqb-true l.lane.n lane e, rest)
     from (inr e) rest = subst (λ (t : Bool). AllByRecursion (λ (k : Line). k.lane.n ≡ lane)
         (if t then l ∷ of_lane lane ls else of_lane lane ls)) (sym e) rest
 
@@ -169,7 +171,8 @@ right all are has is shared = λ room. (
   λ mine. (record { n = 1 }, refl),
   λ room. (
     λ mine. subst (λ (t : Bool). Bytes 1 (2 ∷ []) ≡ read_alone (now_named b
-        (if t || false then alone_after fresh_lane made.request made.reply else fresh_lane).objects))
+        (if t || false then alone_after fresh_lane made.request
+        made.reply else fresh_lane).objects))
         (sym (maker_is all is)) refl,
     tt,
   ),

@@ -31,7 +31,8 @@ use Rattle.cb_lanes.specs.Names.{KeptNames, kept_number}
 use Rattle.cb_lanes.proofs.Lone.{empty_lone, lone_other}
 
 abbrev answer : Request → Reply → Answer
-answer request reply = record { lane = record { n = 1 }; line = 2; request = request; reply = reply }
+answer request reply = record
+    { lane = record { n = 1 }; line = 2; request = request; reply = reply }
 
 abbrev crash : ℕ → Reply → Answer
 crash n reply = answer (Crash (record { n = n })) reply
@@ -41,7 +42,8 @@ epoch n = EpochAt (record { n = n })
 
 -- ---- losses
 
-pub two_crashes : losses_of (crash 3 (epoch 1) ∷ answer (Join (record { n = 3 })) (epoch 2) ∷ crash 3 (epoch 3)
+pub two_crashes : losses_of
+    (crash 3 (epoch 1) ∷ answer (Join (record { n = 3 })) (epoch 2) ∷ crash 3 (epoch 3)
     ∷ crash 3 (Down (record { n = 3 })) ∷ [])
     ≡ record { node = record { n = 3 }; epoch = record { n = 1 } }
     ∷ record { node = record { n = 3 }; epoch = record { n = 3 } } ∷ []
@@ -119,7 +121,8 @@ no_part_is_merged is = is
 -- ---- steps of lines
 
 -- each step is a turn with its own job
-step_is_a_turn : (w new : WorldState) (r : Reply) → Step w (Turn 1 job.Ship) r new → LineStep Nodes 1 None Ship w r new
+step_is_a_turn : (w new : WorldState) (r : Reply) → Step w (Turn 1 job.Ship) r new
+    → LineStep Nodes 1 None Ship w r new
 step_is_a_turn w new r step = step
 
 a_write_is_a_write : job_on 4 (Write (97 ∷ []) 2 (9 ∷ []))
@@ -173,23 +176,32 @@ joined = record (empty_world small) {
   far = counted (empty_world small).far (job.Join (record { n = node }));
 }
 
-a_join : LineStep Nodes 1 None (Join (record { n = node })) (empty_world small) (Up (record { n = node })) joined
+a_join : LineStep Nodes 1 None (Join (record { n = node })) (empty_world small)
+    (Up (record { n = node })) joined
 a_join = free (lone_other (empty_world small).seats 1 empty_lone)
-    (done (omega arith) (refl, is_up refl refl refl, λ s k. (s, k, (λ h. refl), (λ seats open_writes. open_writes), λ o kept. kept)) refl)
+    (done (omega arith) (
+      refl,
+      is_up refl refl refl,
+      λ s k.
+          (s, k, (λ h. refl), (λ seats open_writes. open_writes), λ o kept. kept),
+    ) refl)
 
 -- one that is not counted
-uncounted : LineStep Nodes 1 None (Join (record { n = node })) (empty_world small) (Up (record { n = node }))
+uncounted : LineStep Nodes 1 None (Join (record { n = node })) (empty_world small)
+    (Up (record { n = node }))
     (empty_world small) → ⊥
 uncounted (held holder off holds reply same) = absurd (let e = reply in cc)
 uncounted (free none (worn end reply same)) = absurd (let e = reply in cc)
 uncounted (ordered keeps off none turn seats) = off tt
 uncounted (free none (done few works seats)) = by works.1 where
-  by : JoinTurn (record { n = node }) (counted (empty_world small).far (job.Join (record { n = node })))
+  by : JoinTurn (record { n = node })
+      (counted (empty_world small).far (job.Join (record { n = node })))
       (Up (record { n = node })) (empty_world small).far → ⊥
   by (is_up up reply same) = omega (arith, ap (λ (f : FarState). f.counts.turns) same)
   by (joined_again down reply same) = absurd (let e = reply in cc)
 
-leads : LinesLead Nodes [] (empty_world small) (answer (Join (record { n = node })) (Up (record { n = node })) ∷ [])
+leads : LinesLead Nodes [] (empty_world small)
+    (answer (Join (record { n = node })) (Up (record { n = node })) ∷ [])
     joined
 leads = (joined, joined, a_join, refl, refl)
 
@@ -200,7 +212,8 @@ no_line is = omega (arith, ap (λ (v : WorldState). v.far.counts.turns) is)
 -- a line behind which the world is not sound does not lead soundly
 not_through_an_unsound_world : (before : List Answer) (a : Answer) (w new : WorldState)
     → (IsSoundWorld new → ⊥) → LinesLeadSoundly Nodes before w (a ∷ []) new → ⊥
-not_through_an_unsound_world before a w new unsound x = unsound (subst IsSoundWorld (sym x.5) x.4.sound)
+not_through_an_unsound_world before a w new unsound x =
+    unsound (subst IsSoundWorld (sym x.5) x.4.sound)
 
 -- the lines have one answer and lead to one world
 no_lines_lead_nowhere : AreOnlyAnswers Nodes (empty_world small) [] (empty_world small)
@@ -236,14 +249,17 @@ module _ (w : WorldState) (names : KeptNames) (none : kept_number names (97 ∷ 
       → (line : LineAnswered Nodes reading (1 ∷ []) w names [] new other all)
       → (line.reply ≡ Unmade) × (new ≡ w) × (line.between ≡ w)
   is_unmade new other all line =
-      let step = subst (λ (o : Option ℕ). ObjectStep Nodes 1 o (Read (97 ∷ [])) w line.reply line.between) none
+      let step = subst (λ (o : Option ℕ). ObjectStep Nodes 1 o
+      (Read (97 ∷ [])) w line.reply line.between) none
       line.step in (step.0, line.rests ∙ step.1, step.1)
 
-  is_answered : IsSoundWorld w → LineAnswered Nodes reading (1 ∷ []) w names [] w names (read_as Unmade)
+  is_answered : IsSoundWorld w → LineAnswered Nodes reading (1 ∷ []) w names [] w names
+      (read_as Unmade)
   is_answered sound = record {
     reply = Unmade;
     between = w;
-    step = subst (λ (o : Option ℕ). ObjectStep Nodes 1 o (Read (97 ∷ [])) w Unmade w) (sym none) (refl, refl);
+    step = subst (λ (o : Option ℕ). ObjectStep Nodes 1 o (Read (97 ∷ [])) w Unmade w) (sym none)
+        (refl, refl);
     sound = sound;
     rests = refl;
     holds = λ q. refl;

@@ -1,5 +1,5 @@
--- Worked names and their handles, what each line asks for, and what the world holds of answers: each
--- row, and what breaks one part alone.
+-- Worked names and their handles, what each line asks for, and what the world holds of answers:
+-- each row, and what breaks one part alone.
 use Rattle.std.proofs.Common.{◌≡◌, ℕ, ◌<◌, List, [], ◌∷◌, length, Option, Some, None}
 use Rattle.std.proofs.Common.{inl, inr, refl, sym, ap, ◌∙◌, arith}
 use Rattle.std.specs.Option.{option_map}
@@ -263,7 +263,8 @@ module _ (w : WorldState) where
       → IsLostAt w 0 2 → now_in w x.shown 0 ≡ held 2 bytes → ⊥
   lost_and_held answers x bytes lost is = absurd (let e = sym is ∙ x.gone.told 0 2 lost in cc)
 
--- ---- a lane with two pins is not told that it has none on object 1, nor gives one back of object 2
+-- ---- a lane with two pins is not told that it has none on object 1, nor gives one back of object
+-- 2
 unpins_and_refuses : UnpinGoes 1 pinning answer.NotPinned pinning → ⊥
 unpins_and_refuses (inl x) = x.no_pin.0 refl
 unpins_and_refuses (inr x) = absurd (let e = x.told in cc)

@@ -88,7 +88,8 @@ out_of_order x = absurd (let e = (x.1.0 (lit≤ tt)) in cc)
 
 rising : AreRising Mine (written ∷ entry 2 9 1 [] [] ∷ made ∷ [])
 rising = (
-  λ own x has same. ⊎_elim (λ e. absurd (let h = ap (λ (z : Entry). z.handle) e in omega (arith, h, same)))
+  λ own x has same. ⊎_elim (λ e. absurd
+      (let h = ap (λ (z : Entry). z.handle) e in omega (arith, h, same)))
       (λ has. ⊎_elim (λ e. let v = ap (λ (z : Entry). z.version) e in omega (arith, v))
       (λ none. absurd none) has) has,
   (λ own. absurd (foreign 9 own), (λ own x none. absurd none, tt)),
@@ -100,11 +101,13 @@ one_version_twice x = let less = x.0 (lit≤ tt) made (inl refl) refl in omega (
 -- what was read
 read : AreRead Mine (written ∷ made ∷ []) (version_seen 1 1 2 (7 ∷ []) ∷ version_seen 2 9 1 [] ∷ [])
 read s has own = ⊎_elim (λ e. (made, inr (inl refl), sym e)) (λ has. ⊎_elim
-    (λ e. absurd (let h = ap (λ (k : Seen). k.handle) e in omega (arith, h, own))) (λ none. absurd none) has) has
+    (λ e. absurd (let h = ap (λ (k : Seen). k.handle) e in omega (arith, h, own)))
+    (λ none. absurd none) has) has
 
 read_what_no_one_wrote : AreRead Mine (made ∷ []) (version_seen 1 2 2 (8 ∷ []) ∷ []) → ⊥
 read_what_no_one_wrote x = let z = x (version_seen 1 2 2 (8 ∷ [])) (inl refl) (lit≤ tt) in ⊎_elim
-    (λ e. absurd (let v = ap (λ (k : Seen). k.version) z.2 in let w = ap (λ (k : Entry). k.version) e in
+    (λ e. absurd (let v = ap (λ (k : Seen). k.version) z.2 in let w = ap
+    (λ (k : Entry). k.version) e in
     omega (arith, v, w))) (λ none. absurd none) z.1
 
 -- ---- what calls tell
@@ -227,7 +230,8 @@ module _ (c : Config) (t : Turn) where
   keeps_no_order x = absurd (let e = x.order.1.0 (inl refl) in cc)
 
   read_what_was_not_written : KeepsOwn (record kept { seen = version_seen 1 5 2 (8 ∷ []) ∷ [] }) → ⊥
-  read_what_was_not_written x = let z = x.read (version_seen 1 5 2 (8 ∷ [])) (inl refl) (inl refl) in
+  read_what_was_not_written x = let z = x.read (version_seen 1 5 2 (8 ∷ [])) (inl refl)
+      (inl refl) in
       let v = ap (λ (k : Seen). k.version) z.2 in ⊎_elim
       (λ e. let w = ap (λ (k : Entry). k.version) e in omega (arith, v, w))
       (λ has. ⊎_elim (λ e. let w = ap (λ (k : Entry). k.version) e in omega (arith, v, w))
@@ -242,7 +246,8 @@ module _ (c : Config) (t : Turn) where
       (λ none. absurd none) has) z.1
 
   made_at_version_2 : KeepsOwn (record kept { turns = makes 2 ∷ [] }) → ⊥
-  made_at_version_2 x = absurd (let e = x.makes (makes 2) (inl refl) (7 ∷ []) (of 1) 2 refl refl in cc)
+  made_at_version_2 x = absurd
+      (let e = x.makes (makes 2) (inl refl) (7 ∷ []) (of 1) 2 refl refl in cc)
 
 -- ---- lines of a lane
 abbrev by : ℕ → Request → Line
@@ -263,14 +268,19 @@ a_line : IsLaneLine lines 1 no_handles (Make b (2 ∷ [])) (answer.Made (of 4) 1
 unfolding name_made
 a_line = record {
   line = tt;
-  makes = λ p bytes e. (subst (λ (n : List ℕ). is_maker lines 1 n ≡ true) (ap name_made e) refl, refl);
+  makes = λ p bytes e. (
+    subst (λ (n : List ℕ). is_maker lines 1 n ≡ true)
+        (ap name_made e) refl,
+    refl,
+  );
   pins = λ p e. absurd cc;
 }
 
 a_line_with_another_reply : IsLaneLine lines 1 no_handles (Read b) answer.Done → ⊥
 a_line_with_another_reply x = x.line
 
-a_make_of_another_lane_s_name : IsLaneLine lines 1 no_handles (Make a (1 ∷ [])) (answer.Made (of 4) 1) → ⊥
+a_make_of_another_lane_s_name : IsLaneLine lines 1 no_handles (Make a (1 ∷ []))
+    (answer.Made (of 4) 1) → ⊥
 a_make_of_another_lane_s_name x = absurd (let e = (x.makes a (1 ∷ []) refl).0 in cc)
 
 a_second_make : IsLaneLine lines 1 (λ p. Some 3) (Make b (2 ∷ [])) (answer.Made (of 4) 1) → ⊥

@@ -1,5 +1,5 @@
--- Worked lines of a lane that runs beside others: what meets each definition, and what breaks one of
--- its parts alone.
+-- Worked lines of a lane that runs beside others: what meets each definition, and what breaks one
+-- of its parts alone.
 use Rattle.std.proofs.Common.{◌≡◌, ◌≢◌, ℕ, List, [], ◌∷◌, length, map, replicate, inl, inr, refl}
 use Rattle.std.proofs.Common.{sym, ap, ◌∙◌, lit<, arith}
 use Rattle.std.proofs.lemmas.Bool.{eqb-false}
@@ -216,7 +216,7 @@ full_and_pins w x = let few = x.0 in omega (arith, few)
 
 -- ---- what is asked of a pass
 asks_a_pin : goes_in two (Pins 1) full answer.ScopeFull full
-asks_a_pin = is_full
+asks_a_pin = (is_full, ([], refl, tt))
 
 asks_a_peek : goes_in two (Peeks 1) pinning (answer.Bytes 4 eight) peeking
 asks_a_peek = shows
@@ -246,7 +246,8 @@ held = refl
 held_in_another_order : AreHeld (kept older ∷ kept newer ∷ []) pinning → ⊥
 held_in_another_order e = eqb-false 0 1 refl (ap (in_first (λ m. m.handle)) e)
 
-held_at_another_version : AreHeld (record (kept newer) { version = 5 } ∷ kept older ∷ []) pinning → ⊥
+held_at_another_version : AreHeld (record (kept newer) { version = 5 } ∷ kept older ∷ []) pinning
+    → ⊥
 held_at_another_version e = eqb-false 5 4 refl (ap (in_first (λ m. m.version)) e)
 
 held_of_another_length : AreHeld (record (kept newer) { len = 9 } ∷ kept older ∷ []) pinning → ⊥

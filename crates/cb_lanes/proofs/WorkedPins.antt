@@ -86,10 +86,12 @@ a_peek_takes_none : scope_after three (Peek a) (Bytes 2 (7 ∷ [])) ≡ three
 a_peek_takes_none = refl
 
 abbrev pub by : ℕ → Request → Reply → Answer
-by lane request reply = record { lane = record { n = lane }; line = 2; request = request; reply = reply }
+by lane request reply = record
+    { lane = record { n = lane }; line = 2; request = request; reply = reply }
 
 abbrev two_lanes : List Answer
-two_lanes = by 1 (Pin a) (Version 1) ∷ by 2 (Pin a) (Version 1) ∷ by 1 (Pin b) (Version 5) ∷ by 1 (Unpin a) Done ∷ []
+two_lanes = by 1 (Pin a) (Version 1) ∷ by 2 (Pin a) (Version 1) ∷ by 1 (Pin b) (Version 5) ∷ by 1
+    (Unpin a) Done ∷ []
 
 own_pins_alone : scope_of 1 two_lanes ≡ on b 5 ∷ []
 own_pins_alone = refl
@@ -157,7 +159,8 @@ one_is_kept : ScopeSays None three Leave (Left 2) → ⊥
 one_is_kept says = absurd cc
 
 three_pins_two_of_them_own : PinnedSays 2 (Pinned 3)
-three_pins_two_of_them_own = λ count e. let same : 3 ≡ count = cc in (omega (arith, same), omega (arith, same))
+three_pins_two_of_them_own = λ count e. let same : 3 ≡ count =
+    cc in (omega (arith, same), omega (arith, same))
 
 fewer_than_the_own : PinnedSays 2 (Pinned 1) → ⊥
 fewer_than_the_own says = omega (arith, (says 1 refl).1)
@@ -172,13 +175,15 @@ a_filter_tells_fewer : ScopeSays (Some 0) three (Filter a) (Pinned 1) → ⊥
 a_filter_tells_fewer says = omega (arith, (says 1 refl).1)
 
 a_write_is_held_up : ScopeSays (Some 0) three (Write a 0 (7 ∷ [])) (Pinned 2)
-a_write_is_held_up = λ count e. let same : 2 ≡ count = cc in (omega (arith, same), omega (arith, same))
+a_write_is_held_up = λ count e. let same : 2 ≡ count =
+    cc in (omega (arith, same), omega (arith, same))
 
 a_write_tells_fewer : ScopeSays (Some 0) three (Write a 0 (7 ∷ [])) (Pinned 1) → ⊥
 a_write_tells_fewer says = omega (arith, (says 1 refl).1)
 
 a_free_is_held_up : ScopeSays (Some 0) three (Free a) (Pinned 2)
-a_free_is_held_up = λ count e. let same : 2 ≡ count = cc in (omega (arith, same), omega (arith, same))
+a_free_is_held_up = λ count e. let same : 2 ≡ count =
+    cc in (omega (arith, same), omega (arith, same))
 
 a_free_tells_fewer : ScopeSays (Some 0) three (Free a) (Pinned 1) → ⊥
 a_free_tells_fewer says = omega (arith, (says 1 refl).1)
@@ -232,7 +237,8 @@ a_pin_is_not_kept (mid, unpin_refused none is same, e) = absurd cc
 a_pin_is_not_kept (mid, given is t, e) =
     let kept = ap (λ (v : WorldState). length (pins_of_seat v.seats 1)) e in
     let less = ap (λ (xs : List SeatState). length (pins_of_seat xs 1)) t.pins in
-    let one = length-remove (pin ∷ []) t.at (slice_get_within (pin ∷ []) t.at t.newest.pin t.newest.there) in
+    let one = length-remove (pin ∷ []) t.at
+    (slice_get_within (pin ∷ []) t.at t.newest.pin t.newest.there) in
     omega (arith, kept, less, one)
 
 all_stays_before_the_last_line : Rests 1 1 held held
@@ -264,7 +270,8 @@ newest = record {
   pin = pin;
   there = refl;
   on = refl;
-  newest = λ later other lt there. absurd (let within = slice_get_within (pin ∷ []) later other there in
+  newest = λ later other lt there. absurd
+      (let within = slice_get_within (pin ∷ []) later other there in
       omega (arith, lt, within));
 }
 
@@ -302,7 +309,8 @@ with_word word = record (empty_world small) {
 }
 
 abbrev with_all_pins : WorldState
-with_all_pins = record (with_word 16385) { seats = with_pins (empty_world small).seats 1 (replicate 16 pin) }
+with_all_pins = record (with_word 16385)
+    { seats = with_pins (empty_world small).seats 1 (replicate 16 pin) }
 
 far_to_be_pinned : IsFarToPin 1 0 (with_word 16385)
 far_to_be_pinned = record { room = lit< tt; away = refl }
@@ -314,7 +322,8 @@ no_more_to_be_pinned : IsFarToPin 1 0 with_all_pins → ⊥
 no_more_to_be_pinned is = omega (arith, is.room)
 
 -- an object that is here is pinned by the one step
-pinned_at_once : (w new : WorldState) → PinEvent 1 4 w (Version 2) new → PinLine 1 4 w (Version 2) new
+pinned_at_once : (w new : WorldState) → PinEvent 1 4 w (Version 2) new
+    → PinLine 1 4 w (Version 2) new
 pinned_at_once w new pin = at_once pin (λ e. cc)
 
 -- one that can't be swapped in is answered as the swap was

@@ -43,10 +43,11 @@ abbrev of : ℕ → Handle
 of h = record { n = h }
 
 abbrev own_answer : Request → Reply → Answer
-own_answer request reply = record { lane = record { n = 1 }; line = 2; request = request; reply = reply }
+own_answer request reply =
+    record { lane = record { n = 1 }; line = 2; request = request; reply = reply }
 
--- the pointer word of an object of 8 bytes at place 5, Here; made at version 3, by a pass with a part
--- of the share
+-- the pointer word of an object of 8 bytes at place 5, Here; made at version 3, by a pass with a
+-- part of the share
 abbrev calm : ℕ
 calm = 2684420098
 
@@ -112,7 +113,8 @@ abbrev the_pin : Stand
 the_pin = stand 1 8 5 3 (2826 ∷ [])
 
 -- the pin is below what was read, so it can't be shown
-peeks_less_than_read : (w : View) → PeekGoes 1 then_read (answer.Bytes 3 (bytes_in (2826 ∷ []) 8)) w → ⊥
+peeks_less_than_read : (w : View) → PeekGoes 1 then_read (answer.Bytes 3 (bytes_in (2826 ∷ []) 8)) w
+    → ⊥
 peeks_less_than_read w (inl x) = absurd (let e = x.told in cc)
 peeks_less_than_read w (inr x) = let low = x.above.seen.0 refl in
     let is : 3 ≡ x.pin.version = ap bytes_version x.peeks.told in omega (arith, low, is)
@@ -137,7 +139,8 @@ abbrev names : List Named
 names = record { name = a; handle = Some (of 1) } ∷ []
 
 abbrev lines : List Answer
-lines = own_answer (Pin a) (answer.Version 3) ∷ own_answer (Peek a) (answer.Bytes 3 (bytes_in (2826 ∷ []) 8)) ∷ []
+lines = own_answer (Pin a) (answer.Version 3) ∷ own_answer (Peek a)
+    (answer.Bytes 3 (bytes_in (2826 ∷ []) 8)) ∷ []
 
 abbrev at_end : View
 at_end = unpinned_all then_peeked
@@ -155,19 +158,20 @@ rising : LaneRises 1 names lines part
 rising given called = record {
   own = (refl, (refl, tt));
   rises = lane_rises two names lines part then_peeked then_peeked refl
-      (first_pin, pins, (then_peeked, peeks, refl)) (λ h n freed has. has)
+      (first_pin, (pins, ([], refl, tt)), (then_peeked, peeks, refl)) (λ h n freed has. has)
       (λ h last n freed gone has. absurd (none_freed h last gone)) given called;
 }
 
--- ---- and what would not rise: lines of another lane, a version below one that the record had, and one
--- below one that was told before
+-- ---- and what would not rise: lines of another lane, a version below one that the record had, and
+-- one below one that was told before
 abbrev made_it : List Answer
 made_it = own_answer (Make a []) (answer.Made (of 1) 3) ∷ []
 
 is_made : AreNamesOf names made_it
 is_made name = by (bytes_eq a name)
   where
-    by : (b : Bool) → first_of None (if b then Some 1 else None) ≡ first_of None (if b then Some 1 else None)
+    by : (b : Bool) → first_of None (if b then Some 1 else None) ≡ first_of None
+        (if b then Some 1 else None)
     by b = refl
 
 falls_alone : (lane : ℕ) (answers : List Answer) (v : View) → LaneRises lane names answers v
@@ -181,12 +185,14 @@ abbrev less : List Answer
 less = own_answer (Pin a) (answer.Version 2) ∷ []
 
 below_the_record : LaneRises 1 names less part → ⊥
-below_the_record x = let low = (falls_alone 1 less part x).rises.behind.0 1 3 false refl has_third in
+below_the_record x = let low = (falls_alone 1 less part x).rises.behind.0 1 3 false refl has_third
+    in
     omega (arith, low)
 
 abbrev falling : List Answer
 falling = own_answer (Pin a) (answer.Version 4) ∷ own_answer (Pin a) (answer.Version 3) ∷ []
 
 below_the_last : LaneRises 1 names falling (blank two) → ⊥
-below_the_last x = let low = (falls_alone 1 falling (blank two) x).rises.rising.0.0 1 (inl refl) refl refl 4 refl in
+below_the_last x = let low = (falls_alone 1 falling (blank two) x).rises.rising.0.0 1
+    (inl refl) refl refl 4 refl in
     omega (arith, low)

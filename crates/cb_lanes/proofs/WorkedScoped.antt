@@ -1,5 +1,5 @@
--- Worked answers of lanes beside others: names that are one to one with handles, and what is told of
--- pins.
+-- Worked answers of lanes beside others: names that are one to one with handles, and what is told
+-- of pins.
 use Rattle.std.proofs.Common.{◌≡◌, ℕ, List, [], ◌∷◌, ◌++◌, length, replicate, Option, Some, None}
 use Rattle.std.proofs.Common.{◌⊎◌, inl, inr, refl, sym, ap, ◌∙◌, arith}
 use Rattle.std.specs.Prelude.{if◌then◌else◌}
@@ -26,7 +26,8 @@ abbrev b : List ℕ
 b = 98 ∷ []
 
 abbrev by : ℕ → Request → Reply → Answer
-by lane request reply = record { lane = record { n = lane }; line = 2; request = request; reply = reply }
+by lane request reply = record
+    { lane = record { n = lane }; line = 2; request = request; reply = reply }
 
 abbrev made : List ℕ → ℕ → Answer
 made name h = by 0 (Make name (7 ∷ [])) (Made (record { n = h }) 1)
@@ -123,13 +124,15 @@ full_with_no_pin keep =
 a_seventeenth_pin : KeepScopes (made a 5 ∷ replicate 16 one_pin) (one_pin ∷ []) → ⊥
 a_seventeenth_pin keep = absurd (let e : Version 1 ≡ ScopeFull = keep.0.1 refl in cc)
 
-a_peek_at_another_version : KeepScopes (made a 5 ∷ one_pin ∷ []) (by 1 (Peek a) (Bytes 2 []) ∷ []) → ⊥
+a_peek_at_another_version : KeepScopes (made a 5 ∷ one_pin ∷ []) (by 1 (Peek a) (Bytes 2 []) ∷ [])
+    → ⊥
 a_peek_at_another_version keep = absurd (let e = keep.0.1 in cc)
 
 a_peek_under_no_pin : KeepScopes (made a 5 ∷ []) (by 1 (Peek a) (Bytes 1 []) ∷ []) → ⊥
 a_peek_under_no_pin keep = absurd (let e : Bytes 1 [] ≡ NotPinned = keep.0 in cc)
 
-a_pin_that_is_not_given_back : KeepScopes (made a 5 ∷ one_pin ∷ []) (by 1 (Unpin a) NotPinned ∷ []) → ⊥
+a_pin_that_is_not_given_back : KeepScopes (made a 5 ∷ one_pin ∷ []) (by 1 (Unpin a) NotPinned ∷ [])
+    → ⊥
 a_pin_that_is_not_given_back keep = absurd (let e : NotPinned ≡ Done = keep.0 in cc)
 
 a_pin_that_is_not_counted : KeepScopes (made a 5 ∷ one_pin ∷ []) (by 1 Leave (Left 0) ∷ []) → ⊥

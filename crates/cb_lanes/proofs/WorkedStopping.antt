@@ -1,14 +1,15 @@
 -- Worked lanes that found no memory: what meets each definition, and what breaks one of its parts
 -- alone.
 use Rattle.std.proofs.Common.{◌≡◌, ◌≢◌, ℕ, ◌<◌, List, [], ◌∷◌, ◌++◌, length, length-append, Option}
-use Rattle.std.proofs.Common.{None, Some, inl, inr, refl, sym, ap, ◌∙◌, subst, lit≤, arith}
+use Rattle.std.proofs.Common.{None, Some, inl, inr, refl, sym, ap, ◌∙◌, subst, arith}
 use Rattle.std.proofs.lemmas.Bool.{eqb-false}
 use Rattle.std.proofs.lemmas.List.{append-nil}
 use Rattle.cb_types.specs.declared.answer.Answer.{Answer}
 use Rattle.cb_types.specs.declared.request.Request.{Request}
 use Rattle.cb_types.specs.declared.job.Job.{Job}
 use Rattle.cb_types.specs.declared.job.Job.TheVariants as job
-use Rattle.cb_types.specs.declared.request.Request.TheVariants.{Evict, Leave, Peek, Pin, Read}
+use Rattle.cb_types.specs.Jobs.{job_index}
+use Rattle.cb_types.specs.declared.request.Request.TheVariants.{Evict, Leave, Peek, Read}
 use Rattle.cb_types.specs.declared.reply.Reply.{Reply}
 use Rattle.cb_types.specs.declared.reply.Reply.TheVariants as answer
 use Rattle.cb_script.specs.declared.script.Line.{Line}
@@ -22,18 +23,20 @@ use Rattle.cb_rule.specs.TriesAgain.{tries_again}
 use Rattle.cb_record.specs.Deeds.{Deed, deed, happened, happening}
 use Rattle.cb_record.specs.Parts.{Part, grown, nothing_more}
 use Rattle.cb_shared.specs.Calls.{AtNone, AtThis, Brings, IsAnswerTo, IsInVain, IsUnanswered}
-use Rattle.cb_shared.specs.Calls.{the_handle}
-use Rattle.cb_shared.proofs.Laws.{grown_nothing, so_far}
+use Rattle.cb_shared.specs.Calls.{TurnLacks, the_handle}
+use Rattle.cb_shared.proofs.Laws.{so_far, stops_idle}
 use Rattle.cb_shared.specs.Joining.{unpinned_all}
 use Rattle.cb_shared.specs.Recalls.{Recalls}
 use Rattle.cb_lanes.specs.LaneStops.{AddsIdly, LaneStops, LinesStop}
-use Rattle.cb_lanes.specs.LineGoes.{Leaves, Peeks}
+use Rattle.cb_lanes.specs.LineGoes.{Leaves, Peeks, Pins}
 use Rattle.cb_lanes.specs.Scoped.{AreOneToOne, IsMadeAs}
 use Rattle.cb_lanes.specs.Stopping.{AskStops, BringsNot, LineStops, PinStops, stops_in}
 use Rattle.cb_lanes.proofs.LaneStopping.{lane_stops}
-use Rattle.cb_lanes.proofs.Stopping.{idle_line, idle_next}
+use Rattle.cb_lanes.proofs.PinTurns.{AreToBring, stops_to_bring}
+use Rattle.cb_lanes.proofs.Stopping.{idle_next, idle_pin}
 use Rattle.cb_lanes.proofs.WorkedBodies.{part}
 use Rattle.cb_lanes.proofs.WorkedPassing.{pinning, two}
+use Rattle.cb_lanes.proofs.WorkedPinTurns.{gets_a_fetch, gets_a_swap, one_turn}
 
 abbrev a : List ℕ
 a = 97 ∷ []
@@ -42,7 +45,8 @@ abbrev by : ℕ → Request → Line
 by lane request = record { lane = record { n = lane }; line = 2; request = request }
 
 abbrev told : ℕ → Request → Reply → Answer
-told lane request reply = record { lane = record { n = lane }; line = 2; request = request; reply = reply }
+told lane request reply =
+    record { lane = record { n = lane }; line = 2; request = request; reply = reply }
 
 abbrev pins_in : View → ℕ
 pins_in v = length v.pins
@@ -126,28 +130,22 @@ far = with_look 1 away (blank two)
 abbrev turned : Turn → Part
 turned t = record nothing_more { turns = t ∷ [] }
 
--- a fetch found no memory
-no_memory : (t : Turn) → t.job ≡ job.Fetch (the_handle 1) → t.reply ≡ None
-    → BringsNot two 1 (blank two) (grown (turned t) far)
-no_memory t is none = record {
+-- a turn found no memory that was to bring it in
+lacks_by : (j : Job) → Brings 1 j → (w : View) → TurnLacks two j far w
+    → BringsNot two 1 (blank two) w
+lacks_by j of w lacks = record {
   word = away;
   away = refl;
   lacks = record {
     between = far;
-    last = turned t;
     tries = so_far AtNone (IsUnanswered (Brings 1)) far;
-    lacks = record {
-      looks = [];
-      turns = t ∷ [];
-      at = tt;
-      of = ((inr (inl is), none), tt);
-      idle = ((λ i. happening (is i) (none i)), tt);
-      part = refl;
-    };
-    one = lit≤ tt;
-    left = refl;
+    lacks = inr (j, of, lacks);
   };
 }
+
+no_memory : (w : View) → TurnLacks two (job.Fetch (the_handle 1)) far w
+    → BringsNot two 1 (blank two) w
+no_memory w lacks = lacks_by (job.Fetch (the_handle 1)) (inr (inl refl)) w lacks
 
 -- or there was none for the row, behind a fetch that handed out its order
 no_memory_for_a_row : (t : Turn) → t.job ≡ job.Fetch (the_handle 1)
@@ -158,11 +156,8 @@ no_memory_for_a_row t is told = record {
   away = refl;
   lacks = record {
     between = grown (turned t) far;
-    last = nothing_more;
     tries = (turned t, fetched, refl);
-    lacks = record { looks = []; turns = []; at = tt; of = tt; idle = tt; part = refl };
-    one = lit≤ tt;
-    left = grown_nothing (grown (turned t) far);
+    lacks = inl refl;
   };
 }
   where
@@ -180,41 +175,63 @@ no_memory_for_a_row t is told = record {
         no_answer x = subst (λ (j : Job). IsAnswerTo (tries_again t) j
             (answer.Fetched (record { n = 3 }) 0)) is x
 
+-- it was a turn of another job
+by_an_eviction : (t : Turn) → t.job ≡ job.Evict → BringsNot two 1 (blank two) (grown (turned t) far)
+    → ⊥
+by_an_eviction t is x = no_eviction (subst (Brings 1) is (one_turn (AreToBring 1) t
+    (with_look 1 x.word (blank two)) (grown (turned t) far) refl
+    (stops_to_bring two 1 (with_look 1 x.word (blank two)) (grown (turned t) far) x.lacks)).0)
+  where
+    no_eviction : Brings 1 job.Evict → ⊥
+    no_eviction (inl e) = eqb-false 6 4 refl (ap job_index e)
+    no_eviction (inr (inl e)) = eqb-false 6 21 refl (ap job_index e)
+    no_eviction (inr (inr e)) = eqb-false 6 22 refl (ap job_index e)
+
 found_here : (w : View) → (x : BringsNot two 1 (blank two) w) → x.word ≡ 2684420098 → ⊥
 found_here w x is = eqb-false 1 2 refl
     (ap state_number (sym x.away ∙ ap (λ (n : ℕ). state_of n) is))
 
 looks_more : (v w : View) → BringsNot two 1 v w → looks_in v < looks_in w
 looks_more v w x =
-    let y = x.lacks in
-    let first : looks_in w ≡ length (y.last.looks ++ y.between.looks) = ap looks_in y.left in
-    let then : looks_in y.between ≡ length (y.tries.0.looks ++ look_at 1 x.word ∷ v.looks) =
-    ap looks_in y.tries.2 in
-    let both = length-append y.last.looks y.between.looks in
-    let all = length-append y.tries.0.looks (look_at 1 x.word ∷ v.looks) in
-    omega (arith, first, then, both, all)
+    let z = stops_idle two AtNone (Brings 1) (with_look 1 x.word v) w x.lacks in
+    let all : looks_in w ≡ length (z.0.looks ++ look_at 1 x.word ∷ v.looks) = ap looks_in z.2 in
+    let both = length-append z.0.looks (look_at 1 x.word ∷ v.looks) in
+    omega (arith, all, both)
 
 unlooked : BringsNot two 1 (blank two) (blank two) → ⊥
 unlooked x = let less = looks_more (blank two) (blank two) x in omega (arith, less)
 
 -- behind looks and turns that came to nothing
-stops_a_pin : (t : Turn) → t.job ≡ job.Fetch (the_handle 1) → t.reply ≡ None
-    → PinStops two 1 (blank two) (grown (turned t) far)
-stops_a_pin t is none = record {
+stops_a_pin : (j : Job) → Brings 1 j → (w : View) → TurnLacks two j far w
+    → PinStops two 1 (blank two) w
+stops_a_pin j of w lacks = record {
   between = blank two;
   in_vain = so_far (AtThis 1) (IsUnanswered (Brings 1)) (blank two);
-  lacks = no_memory t is none;
+  lacks = lacks_by j of w lacks;
 }
 
 stops_without_a_look : PinStops two 1 (blank two) (blank two) → ⊥
 stops_without_a_look x = let less = looks_more x.between (blank two) x.lacks in omega (arith, less)
 
+-- the turns of a pin come in their order
+stops_fetching : (w : View) → TurnLacks two (job.Fetch (the_handle 1)) far w
+    → stops_in two (Pins 1) (blank two) w
+stops_fetching w (e, (d, adds, is)) = (
+  stops_a_pin (job.Fetch (the_handle 1)) (inr (inl refl)) w (e, (d, adds, is)),
+  gets_a_fetch adds.turn (blank two) w
+      (ap (λ (z : View). z.turns) is ∙ ap (λ (p : Part). p.turns ++ []) adds.part) adds.job_is,
+)
+
+stops_swapping : (w : View) → TurnLacks two (job.Swap (the_handle 1)) far w
+    → stops_in two (Pins 1) (blank two) w → ⊥
+stops_swapping w (e, (d, adds, is)) x = gets_a_swap adds.turn (blank two) w
+    (ap (λ (z : View). z.turns) is ∙ ap (λ (p : Part). p.turns ++ []) adds.part) adds.job_is x.1
+
 -- behind an entry
 stops_behind_an_entry : (w : View) (e : Entry) → w.written ≡ e ∷ []
     → PinStops two 1 (blank two) w → ⊥
 stops_behind_an_entry w e is x = one_zero (ap (λ (es : List Entry). length es)
-    (sym is ∙ ap (λ (v : View). v.written)
-    (idle_line two (Some 1) (Pin a) (blank two) w (inr x)).grows))
+    (sym is ∙ ap (λ (v : View). v.written) (idle_pin two 1 (blank two) w x).grows))
 
 -- ---- the line behind those that were answered
 abbrev lines : List Line
@@ -260,16 +277,19 @@ abbrev Stops : List Answer → View → Type 0
 Stops answers w = LaneStops 1 two 1 [] own_lines (blank two) answers w
 
 stopped : Recalls 1 (blank two) → Stops (left ∷ []) (blank two)
-stopped own = lane_stops 1 two 1 [] own_lines (left ∷ []) (blank two) (blank two) (blank two) refl refl tt
+stopped own = lane_stops 1 two 1 [] own_lines (left ∷ []) (blank two) (blank two)
+    (blank two) refl refl tt
     ((refl, tt), ((refl, tt), tt)) (by 1 Evict ∷ [], refl)
-    (record { behind = blank two; goes = (blank two, (refl, refl), refl); stops = inl refl }) refl own refl
+    (record { behind = blank two; goes = (blank two, (refl, refl), refl); stops = inl refl }) refl
+    own refl
 
 abbrev first_request : List Line → Request
 first_request [] = Evict
 first_request (l ∷ ls) = l.request
 
 of_another_line : (w : View) → Stops (told 1 Evict answer.Worn ∷ []) w → ⊥
-of_another_line w x = absurd (let e : ◌≡◌ {A = Request} Leave Evict = ap first_request x.front.1 in cc)
+of_another_line w x = absurd
+    (let e : ◌≡◌ {A = Request} Leave Evict = ap first_request x.front.1 in cc)
 
 no_reply_of_its_line : (w : View) → Stops (told 1 Leave answer.Freed ∷ []) w → ⊥
 no_reply_of_its_line w x = x.answered.0
@@ -286,7 +306,8 @@ hands_no_answer_back x =
     an_entry (subst (λ (v : View). AddsIdly (unpinned_all v) part) x.lines_stop.goes x.adds)
 
 -- no make told a handle
-none_made : (lane n : ℕ) (p : List ℕ) (g : ℕ) → IsMadeAs (told lane Leave (answer.Left n) ∷ []) p g → ⊥
+none_made : (lane n : ℕ) (p : List ℕ) (g : ℕ) → IsMadeAs (told lane Leave (answer.Left n) ∷ []) p g
+    → ⊥
 none_made lane n p g (inl e) = absurd (let z : ◌≡◌ {A = Option ℕ} None (Some g) = e in cc)
 none_made lane n p g (inr x) = absurd x
 

@@ -16,7 +16,8 @@ unmade : IsSuited [] (record { handle = None; request = Read (codes "a"); reply 
 unmade = tt
 
 -- and nothing else
-freed_without_a_handle : IsSuited [] (record { handle = None; request = Read (codes "a"); reply = Freed }) → ⊥
+freed_without_a_handle : IsSuited []
+    (record { handle = None; request = Read (codes "a"); reply = Freed }) → ⊥
 freed_without_a_handle x = x
 
 -- a name with one is never told so
@@ -34,7 +35,8 @@ shown = inl (refl, refl, refl, refl)
 
 shown_too_long : IsSuited (seen_two ∷ [])
     (record { handle = Some 3; request = Peek (codes "a"); reply = Bytes 2 (5 ∷ 0 ∷ 0 ∷ []) }) → ⊥
-shown_too_long x = ⊎_elim (λ (s : IsSeenLong 3 2 3 seen_two). let e : 2 ≡ 3 = s.3 in omega (arith, e))
+shown_too_long x = ⊎_elim
+    (λ (s : IsSeenLong 3 2 3 seen_two). let e : 2 ≡ 3 = s.3 in omega (arith, e))
     (λ (none : ⊥). none) x
 
 -- so is the version
@@ -49,6 +51,7 @@ a_wrong_reply : IsSuited [] (record { handle = None; request = Evict; reply = Fr
 a_wrong_reply x = x
 
 -- all of them
-full_and_not_pinned : AreSuited [] (record { handle = None; request = Make (codes "a") (1 ∷ []); reply = Full 4 }
+full_and_not_pinned : AreSuited []
+    (record { handle = None; request = Make (codes "a") (1 ∷ []); reply = Full 4 }
     ∷ record { handle = Some 3; request = Peek (codes "b"); reply = NotPinned } ∷ [])
 full_and_not_pinned = (tt, (tt, tt))

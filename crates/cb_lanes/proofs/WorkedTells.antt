@@ -45,7 +45,8 @@ lost_untold : (w : WorldState) (h : ℕ) (id : SetId) (l : List Loss) → IsLost
 lost_untold w h id l lost few t =
     let e : answer.Moving ≡ answer.Unavailable id l = t.each h id l refl tt few lost in cc
 
-full_scope : (w : WorldState) → length (pins_of_seat w.seats 1) ≡ 16 → BringsObject w 1 (Pin name) → ⊥
+full_scope : (w : WorldState) → length (pins_of_seat w.seats 1) ≡ 16 → BringsObject w 1 (Pin name)
+    → ⊥
 full_scope w full room = omega (arith, full, room)
 
 -- ---- what a line leaves

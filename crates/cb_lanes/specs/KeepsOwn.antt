@@ -20,8 +20,8 @@ abbrev pub last_in : List Entry → ℕ → Option Entry
 last_in [] h = None
 last_in (e ∷ es) h = cond (eqb e.handle h) (Some e) (last_in es h)
 
--- the entry comes next behind one of its object: it has the next version, goes on from its words, and
--- keeps its length until it is the freed one, behind which there is none
+-- the entry comes next behind one of its object: it has the next version, goes on from its words,
+-- and keeps its length until it is the freed one, behind which there is none
 pub record EntryComesNext (x e : Entry) : Type 0 where
   pub there : x.freed ≡ false
   pub next : e.version ≡ x.version + 1

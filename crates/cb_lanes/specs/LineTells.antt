@@ -22,8 +22,8 @@ BringsObject w seat request = ⊥
 -- It is answered Unavailable exactly where it is to bring in its object, and that is far in a set
 -- that has lost more shards than it has parities; and the answer tells that set and all that it
 -- lost. A turn that is no longer counted is answered Worn.
-pub record LineTells (seat : ℕ) (handle : Option ℕ) (request : Request) (w : WorldState) (r : Reply) :
-    Type 0 where
+pub record LineTells (seat : ℕ) (handle : Option ℕ) (request : Request) (w : WorldState)
+    (r : Reply) : Type 0 where
   pub only : (id : SetId) (losses : List Loss) → r ≡ answer.Unavailable id losses
       → (h : ℕ) × (handle ≡ Some h) × BringsObject w seat request × IsLost w h id losses
   pub each : (h : ℕ) (id : SetId) (losses : List Loss) → handle ≡ Some h
@@ -33,8 +33,8 @@ pub record LineTells (seat : ℕ) (handle : Option ℕ) (request : Request) (w :
 -- What a line leaves, by the world behind it and that in which its lane rests then: the world is
 -- sound; each object that has a pin before and behind stays at its place, with its length, its
 -- version and its bytes; and it is answered Unavailable exactly where it is to be.
-pub record LineLeaves (seat : ℕ) (handle : Option ℕ) (request : Request) (w : WorldState) (r : Reply)
-    (between rested : WorldState) : Type 0 where
+pub record LineLeaves (seat : ℕ) (handle : Option ℕ) (request : Request) (w : WorldState)
+    (r : Reply) (between rested : WorldState) : Type 0 where
   pub sound : IsSoundWorld rested
   pub pinned : KeepsPinned w between
   pub resting : KeepsPinned between rested

@@ -10,14 +10,15 @@ use Rattle.cb_lanes.specs.GivingBack.{Rests, lines_by}
 use Rattle.cb_lanes.specs.LineStep.{LineStep, LinesLead}
 use Rattle.cb_lanes.specs.LineTells.{LineLeaves}
 
--- as LinesLead; and the world behind each line is sound, what is pinned stays, and a line is answered
--- Unavailable exactly where it is to be
+-- as LinesLead; and the world behind each line is sound, what is pinned stays, and a line is
+-- answered Unavailable exactly where it is to be
 abbrev pub LinesLeadSoundly : Side → List Answer → WorldState → List Answer → WorldState → Type 0
 LinesLeadSoundly side before w [] new = new ≡ w
 LinesLeadSoundly side before w (a ∷ after) new = (between : WorldState) × (rested : WorldState)
     × LineStep side a.lane.n (handle_named before (name_of a.request)) a.request w a.reply between
     × Rests (lines_by a.lane.n (map (λ later. later.lane.n) after)) a.lane.n between rested
-    × LineLeaves a.lane.n (handle_named before (name_of a.request)) a.request w a.reply between rested
+    × LineLeaves a.lane.n (handle_named before (name_of a.request)) a.request w a.reply between
+    rested
     × LinesLeadSoundly side (before ++ a ∷ []) rested after new
 
 -- The lines have no other answers from that world, and lead to no other one.

@@ -20,10 +20,12 @@ use Rattle.cb_record.specs.Parts.{Grows, Part}
 use Rattle.cb_shared.specs.declared.pass.Pin.{Pin}
 use Rattle.cb_shared.specs.Calls.{AsksFor, AtThis, Brings, IsUnanswered, ReadGives, TriesInVain}
 use Rattle.cb_shared.specs.Calls.{TurnGives, WriteAnswers}
+use Rattle.cb_shared.specs.Fetching.{GetsTurns}
 use Rattle.cb_shared.specs.Joining.{unpinned_all}
 use Rattle.cb_shared.specs.Pinning.{FindsFreed}
 use Rattle.cb_shared.specs.Turning.{TurnBy}
 use Rattle.cb_lanes.specs.LineGoes.{Calls, Goes, Leaves, Peeks, Pins, Unpins}
+use Rattle.cb_lanes.specs.PinTurns.{AreBringing}
 
 -- a call: reads, writes, makes and frees try again until they are answered, and every other job is
 -- one turn
@@ -118,10 +120,10 @@ UnpinGoes h v r w = IsNotPinned h r v w ⊎ GivesPinBack h r v w
 abbrev pub LeaveGoes : View → Reply → View → Type 0
 LeaveGoes v r w = (r ≡ answer.Left (length v.pins)) × (w ≡ unpinned_all v)
 
--- what is asked of a pass
+-- what is asked of a pass; the turns of a pin come in the order in which they bring its object in
 abbrev pub goes_in : Config → Goes View
 goes_in c (Calls j) v r w = CallGives c j v r w
-goes_in c (Pins h) v r w = PinGoes c h v r w
+goes_in c (Pins h) v r w = PinGoes c h v r w × GetsTurns (AreBringing h) v w
 goes_in c (Peeks h) v r w = PeekGoes h v r w
 goes_in c (Unpins h) v r w = UnpinGoes h v r w
 goes_in c Leaves v r w = LeaveGoes v r w

@@ -1,6 +1,5 @@
 -- What a line of a lane beside others leaves that found no memory.
-use Rattle.std.specs.Prelude.{◌≡◌, ◌⊎◌, ℕ, Option, Err}
-use Rattle.cb_member.specs.declared.no_memory.NoMemory.{NoMemory}
+use Rattle.std.specs.Prelude.{◌≡◌, ◌⊎◌, ℕ, Option}
 use Rattle.cb_ptr.specs.declared.word.State.TheVariants as state
 use Rattle.cb_ptr.specs.Word.{state_of}
 use Rattle.cb_types.specs.declared.config.Config.{Config}
@@ -10,21 +9,19 @@ use Rattle.cb_types.specs.declared.reply.Reply.TheVariants as answer
 use Rattle.cb_types.specs.declared.request.Request.{Request}
 use Rattle.cb_rule.specs.declared.view.View.{View}
 use Rattle.cb_rule.specs.Steps.{with_look}
-use Rattle.cb_shared.specs.Calls.{AtNone, Brings, ReadStops, StopsBy, TurnStops, WriteStops}
-use Rattle.cb_shared.specs.Turning.{TurnBy}
+use Rattle.cb_shared.specs.Calls.{AtNone, Brings, ReadStops, StopsBy, TurnLacks, TurnStops}
+use Rattle.cb_shared.specs.Calls.{WriteStops}
+use Rattle.cb_shared.specs.Fetching.{GetsTurns}
 use Rattle.cb_lanes.specs.LineGoes.{Ask, Calls, Goes, Leaves, LineGoes, ObjectGoes, Peeks, Pins}
 use Rattle.cb_lanes.specs.LineGoes.{Unpins}
 use Rattle.cb_lanes.specs.Passing.{PinsInVain}
-
--- a turn that found no memory, and nothing else
-abbrev pub TurnLacks : Config → Job → View → View → Type 0
-TurnLacks c j v w = (e : NoMemory) × TurnBy c j (Err e) v w
+use Rattle.cb_lanes.specs.PinTurns.{AreBringing}
 
 -- a look that found the object far, and turns that were to bring it in, where there was no memory
 pub record BringsNot (c : Config) (h : ℕ) (v w : View) : Type 0 where
   pub word : ℕ
   pub away : state_of word ≡ state.Far
-  pub lacks : StopsBy AtNone (Brings h) (with_look h word v) w
+  pub lacks : StopsBy c AtNone (Brings h) (with_look h word v) w
 
 -- a pin: tries that came to nothing, and then one that ends so
 pub record PinStops (c : Config) (h : ℕ) (v w : View) : Type 0 where
@@ -44,10 +41,11 @@ CallStops c j v w = TurnLacks c j v w
 abbrev pub Stops : Type 0 → Type 1
 Stops A = Ask → A → A → Type 0
 
--- what is asked of a pass: a peek changes nothing, and the end of a pin takes no memory
+-- what is asked of a pass: the turns of a pin come in their order; a peek changes nothing, and the
+-- end of a pin takes no memory
 abbrev pub stops_in : Config → Stops View
 stops_in c (Calls j) v w = CallStops c j v w
-stops_in c (Pins h) v w = PinStops c h v w
+stops_in c (Pins h) v w = PinStops c h v w × GetsTurns (AreBringing h) v w
 stops_in c (Peeks h) v w = w ≡ v
 stops_in c (Unpins h) v w = ⊥
 stops_in c Leaves v w = ⊥

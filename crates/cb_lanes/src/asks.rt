@@ -1,14 +1,16 @@
 //! What a lane asks of the shared runtime with its pass: calls, pins, looks under a pin, and the
 //! ends of pins.
-ghost use Rattle.std.specs.Prelude.{◌≡◌, ◌<◌, ℕ, List, length, IfOk, OnErr};
+ghost use Rattle.std.specs.Prelude.{◌≡◌, ◌<◌, ℕ, List, length, None, IfOk, OnErr};
 ghost use Rattle.cb_core.specs.Jobs.{IsJob, NeedsNoOrder};
 ghost use Rattle.cb_rule.specs.Lists.{Has};
 ghost use Rattle.cb_rule.specs.Steps.{IsNewest, Knows};
+ghost use Rattle.cb_shared.specs.Fetching.{GetsTurns};
 ghost use Rattle.cb_shared.specs.Joining.{unpinned_all};
 ghost use Rattle.cb_shared.specs.Passes.{IsPassOf, IsPinOf, record_of, stand_of};
 ghost use Rattle.cb_shared.specs.Turning.{KnowsOf};
 ghost use Rattle.cb_lanes.specs.Passing.{AreHeld, CallGives, PeekGoes, PeeksAll, PinGoes, PinTries};
 ghost use Rattle.cb_lanes.specs.Passing.{PinsAtLast, UnpinGoes};
+ghost use Rattle.cb_lanes.specs.PinTurns.{AreBringing, AreTried};
 ghost use Rattle.cb_lanes.specs.Stopping.{BringsNot, CallStops, PinStops};
 
 use crate::kept_pins::{KeptPins, MOST_PINS, keep_pin, newest_pin};
@@ -72,6 +74,7 @@ pub(crate) fn pin<R: Wait>(
         (record_of pass.new)) }
     ensures error { OnErr result (PinStops shared.now.config h.n (record_of pass.old)
         (record_of pass.new)) }
+    ensures jobs { GetsTurns (AreBringing h.n) (record_of pass.old) (record_of pass.new) }
 {
     if pins.len() == MOST_PINS {
         return Ok(Reply::ScopeFull);
@@ -98,6 +101,7 @@ fn pin_at_last<R: Wait>(
         (record_of pass.old) (record_of pass.new)) }
     ensures error { OnErr result (PinStops shared.now.config h.n (record_of pass.old)
         (record_of pass.new)) }
+    ensures jobs { GetsTurns (AreBringing h.n) (record_of pass.old) (record_of pass.new) }
 {
     let mut patience = Patience::new();
     for _ in rt.forever() {
@@ -128,6 +132,9 @@ fn try_pin<R: Wait>(
     ensures pin { IfOk result (λ o. PinTries shared.now.config h.n o (record_of pass.old)
         (record_of pass.new)) }
     ensures error { OnErr result (BringsNot shared.now.config h.n (record_of pass.old)
+        (record_of pass.new)) }
+    ensures jobs { GetsTurns (AreBringing h.n) (record_of pass.old) (record_of pass.new) }
+    ensures again { IfOk result (λ o. o ≡ None → GetsTurns (AreTried h.n) (record_of pass.old)
         (record_of pass.new)) }
 {
     match shared.pin(pass, h) {

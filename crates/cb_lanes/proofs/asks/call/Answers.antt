@@ -2,8 +2,7 @@ use Rattle.std.proofs.Common.{ℕ, List, sym, ap, ◌∙◌, subst}
 use Rattle.cb_types.specs.declared.job.Job.{Job}
 use Rattle.cb_types.specs.declared.job.Job.TheVariants as jobs
 use Rattle.cb_core.specs.Jobs.{IsJob}
-use Rattle.cb_shared.specs.Calls.{AtNone, AtThis, IsForWant, IsReadJob, IsUnanswered, IsWriteJob}
-use Rattle.cb_shared.specs.Calls.{OfThis}
+use Rattle.cb_shared.specs.Calls.{AtNone, AtThis, IsReadJob, IsWriteJob, OfThis}
 use Rattle.cb_shared.specs.Turning.{KnowsOf}
 use Rattle.cb_lanes.proofs.Stopping.{call_stops, other_stops}
 use Rattle.cb_lanes.proofs.Trying.{call_is, call_leaves, other_call, turn_leaves}
@@ -32,9 +31,7 @@ returns-in-Make-clause-call g c = call_is c.args.shared.now.config c.args.job.no
 
 pub returns-in-Make-clause-pins : goal.returns-in-Make-clause-pins
 returns-in-Make-clause-pins g c = call_leaves c.args.shared.now.config
-    (jobs.Make c.as_slice.result.now) AtNone
-    (IsUnanswered (OfThis (jobs.Make c.as_slice.result.now)))
-    (IsForWant (OfThis (jobs.Make c.as_slice.result.now)))
+    (jobs.Make c.as_slice.result.now) AtNone (OfThis (jobs.Make c.as_slice.result.now))
     c.args.pass.now.seat.me.0 c.make.new.pass.seat.me.0 c.make.result c.make.ensures.make
     c.make.ensures.error
 
@@ -68,9 +65,8 @@ returns-in-Read-clause-call g c = call_is c.args.shared.now.config c.args.job.no
 pub returns-in-Read-clause-pins : goal.returns-in-Read-clause-pins
 returns-in-Read-clause-pins g c = call_leaves c.args.shared.now.config
     (jobs.Read c.in-Read.handle) (AtThis c.in-Read.handle.n)
-    (IsUnanswered (IsReadJob c.in-Read.handle.n)) (IsForWant (IsReadJob c.in-Read.handle.n))
-    c.args.pass.now.seat.me.0 c.read.new.pass.seat.me.0 c.read.result
-    c.read.ensures.read c.read.ensures.error
+    (IsReadJob c.in-Read.handle.n) c.args.pass.now.seat.me.0 c.read.new.pass.seat.me.0
+    c.read.result c.read.ensures.read c.read.ensures.error
 
 pub returns-in-Write-clause-call : goal.returns-in-Write-clause-call
 returns-in-Write-clause-call g c = call_is c.args.shared.now.config c.args.job.now
@@ -82,10 +78,9 @@ returns-in-Write-clause-call g c = call_is c.args.shared.now.config c.args.job.n
 pub returns-in-Write-clause-pins : goal.returns-in-Write-clause-pins
 returns-in-Write-clause-pins g c = call_leaves c.args.shared.now.config
     (jobs.Write c.in-Write.handle c.in-Write.at c.as_slice-in-Write.result.now)
-    (AtThis c.in-Write.handle.n) (IsUnanswered
-    (IsWriteJob c.in-Write.handle.n c.in-Write.at c.as_slice-in-Write.result.now))
-    (IsForWant (IsWriteJob c.in-Write.handle.n c.in-Write.at
-    c.as_slice-in-Write.result.now)) c.args.pass.now.seat.me.0 c.write.new.pass.seat.me.0
+    (AtThis c.in-Write.handle.n)
+    (IsWriteJob c.in-Write.handle.n c.in-Write.at c.as_slice-in-Write.result.now)
+    c.args.pass.now.seat.me.0 c.write.new.pass.seat.me.0
     c.write.result c.write.ensures.write c.write.ensures.error
 
 pub returns-in-Free-clause-call : goal.returns-in-Free-clause-call
@@ -95,10 +90,9 @@ returns-in-Free-clause-call g c = call_is c.args.shared.now.config c.args.job.no
 
 pub returns-in-Free-clause-pins : goal.returns-in-Free-clause-pins
 returns-in-Free-clause-pins g c = call_leaves c.args.shared.now.config
-    (jobs.Free c.in-Free.handle) AtNone
-    (IsUnanswered (OfThis (jobs.Free c.in-Free.handle)))
-    (IsForWant (OfThis (jobs.Free c.in-Free.handle))) c.args.pass.now.seat.me.0
-    c.free.new.pass.seat.me.0 c.free.result c.free.ensures.free c.free.ensures.error
+    (jobs.Free c.in-Free.handle) AtNone (OfThis (jobs.Free c.in-Free.handle))
+    c.args.pass.now.seat.me.0 c.free.new.pass.seat.me.0 c.free.result c.free.ensures.free
+    c.free.ensures.error
 
 pub make-requires-clause-of : goal.make-requires-clause-of
 make-requires-clause-of g c = c.requires.of
@@ -139,9 +133,11 @@ returns-in_default g c = record {
   pins = turn_leaves c.args.shared.now.config c.args.job.now c.args.pass.now.seat.me.0
       c.turn_within.new.pass.seat.me.0 c.turn_within.result c.turn_within.ensures.turn;
   call = other_call c.args.shared.now.config c.args.job.now c.args.pass.now.seat.me.0
-      c.turn_within.new.pass.seat.me.0 c.turn_within.result c.in_default.not-Make c.in_default.not-Read
+      c.turn_within.new.pass.seat.me.0 c.turn_within.result c.in_default.not-Make
+      c.in_default.not-Read
       c.in_default.not-Write c.in_default.not-Free c.turn_within.ensures.turn;
   error = other_stops c.args.shared.now.config c.args.job.now c.args.pass.now.seat.me.0
-      c.turn_within.new.pass.seat.me.0 c.turn_within.result c.in_default.not-Make c.in_default.not-Read
+      c.turn_within.new.pass.seat.me.0 c.turn_within.result c.in_default.not-Make
+      c.in_default.not-Read
       c.in_default.not-Write c.in_default.not-Free c.turn_within.ensures.turn;
 }

@@ -1,4 +1,4 @@
-use Rattle.std.proofs.Common.{arith, sym, ◌∙◌, refl}
+use Rattle.std.proofs.Common.{[], arith, sym, ◌∙◌, refl}
 use Rattle.std.proofs.lemmas.Result.{IfOk-weaker}
 use Rattle.cb_lanes.proofs.PinsHeld.{held_count}
 use Rattle.cb_lanes.proofs.Trying.{pin_goes}
@@ -26,3 +26,9 @@ returns-clause-pin g c = let e = held_count c.args.pins.now.items
 
 pub returns-clause-error : goal.returns-clause-error
 returns-clause-error g c = c.pin_at_last.ensures.error
+
+pub returns-then-len-eq-MOST_PINS-clause-jobs : goal.returns-then-len-eq-MOST_PINS-clause-jobs
+returns-then-len-eq-MOST_PINS-clause-jobs g c = ([], refl, tt)
+
+pub returns-clause-jobs : goal.returns-clause-jobs
+returns-clause-jobs g c = c.pin_at_last.ensures.jobs

@@ -1,7 +1,8 @@
-use Rattle.std.proofs.Common.{◌<◌, List, length, Some, sym, subst}
+use Rattle.std.proofs.Common.{◌<◌, List, length, Some, refl, sym, subst}
 use Rattle.cb_rule.specs.declared.view.Stand.{Stand}
 use Rattle.cb_shared.specs.Calls.{AtThis, Brings, IsUnanswered}
 use Rattle.cb_shared.proofs.Laws.{known_still, so_far}
+use Rattle.cb_lanes.proofs.PinTurns.{bringing_then, tried_none, tried_then}
 use Rattle.cb_lanes.proofs.Stopping.{err_always}
 use Rattle.cb_lanes.proofs.Trying.{pin_again, pinned_at_last, vain_pins}
 use Rattle.cb_lanes.proofs.asks.pin_at_last.Goals as goal
@@ -13,6 +14,7 @@ loop-init g c = (
   so_far (AtThis c.args.h.n)
       (IsUnanswered (Brings c.args.h.n))
       c.args.pass.now.seat.me.0,
+  tried_none c.args.h.n c.args.pass.now.seat.me.0 c.args.pass.now.seat.me.0 refl,
 )
 
 pub try_pin-requires-clause-of : goal.try_pin-requires-clause-of
@@ -43,6 +45,8 @@ loop-preserved g c = (
   pin_again c.args.shared.now.config c.args.h.n c.in_ok-reply.field-0 c.args.pass.now.seat.me.0
       c.loop.pass.seat.me.0 c.try_pin.new.pass.seat.me.0 c.in_default.is c.loop.invariant.2
       c.in_ok-reply.ensures.pin,
+  tried_then c.args.h.n c.args.pass.now.seat.me.0 c.loop.pass.seat.me.0
+      c.try_pin.new.pass.seat.me.0 c.loop.invariant.3 (c.in_ok-reply.ensures.again c.in_default.is),
 )
 
 pub returns-in_err-reply-clause-error : goal.returns-in_err-reply-clause-error
@@ -52,3 +56,13 @@ returns-in_err-reply-clause-error g c =
       in_vain = c.loop.invariant.2;
       lacks = c.in_err-reply.ensures.error;
     })
+
+pub returns-in-Some-2-clause-jobs : goal.returns-in-Some-2-clause-jobs
+returns-in-Some-2-clause-jobs g c = bringing_then c.args.h.n c.args.pass.now.seat.me.0
+    c.loop.pass.seat.me.0 c.try_pin.new.pass.seat.me.0 c.loop.invariant.3
+    c.in_ok-reply.ensures.jobs
+
+pub returns-in_err-reply-clause-jobs : goal.returns-in_err-reply-clause-jobs
+returns-in_err-reply-clause-jobs g c = bringing_then c.args.h.n c.args.pass.now.seat.me.0
+    c.loop.pass.seat.me.0 c.try_pin.new.pass.seat.me.0 c.loop.invariant.3
+    c.in_err-reply.ensures.jobs

@@ -1,8 +1,10 @@
-use Rattle.std.proofs.Common.{arith, ap, ◌∙◌}
+use Rattle.std.proofs.Common.{arith, sym, ap, ◌∙◌}
+use Rattle.std.proofs.lemmas.Option.{none-some}
 use Rattle.std.proofs.lemmas.Result.{IfOk-weaker}
 use Rattle.cb_rule.specs.declared.view.View.{View}
 use Rattle.cb_shared.proofs.Laws.{known_below}
 use Rattle.cb_lanes.proofs.PinsHeld.{held_count, held_more, held_same}
+use Rattle.cb_lanes.proofs.PinTurns.{brings_behind, only_bringing, pin_none, tries_behind}
 use Rattle.cb_lanes.proofs.Stopping.{brings_not}
 use Rattle.cb_lanes.proofs.Trying.{bring_leaves, brought, is_hindered, pinned_once, was_far}
 use Rattle.cb_lanes.proofs.Trying.{was_freed, was_hindered, was_pinned}
@@ -20,7 +22,8 @@ returns-in-Pinned-clause-held g c = held_more c.args.pins.now.items c.keep_pin.n
     c.keep_pin.ensures.kept c.requires.held
 
 pub returns-in-Pinned-clause-pin : goal.returns-in-Pinned-clause-pin
-returns-in-Pinned-clause-pin g c = pinned_once c.args.shared.now.config c.args.h.n c.in-Pinned.pin _ _ _
+returns-in-Pinned-clause-pin g c = pinned_once c.args.shared.now.config c.args.h.n c.in-Pinned.pin _
+    _ _
     c.version-version.ensures
     (was_pinned c.args.h.n c.pin.result c.in-Pinned.pin _ _ c.in-Pinned.is c.pin.ensures.pin)
 
@@ -56,3 +59,35 @@ returns-in-NotHere-clause-error g c = brings_not c.args.shared.now.config c.args
     c.args.pass.now.seat.me.0 c.pin.new.pass.seat.me.0 c.bring.new.pass.seat.me.0
     c.bring.result (was_far c.args.h.n c.pin.result _ _ c.in-NotHere.is c.pin.ensures.pin)
     c.bring.ensures.error
+
+pub returns-in-NotHere-clause-jobs : goal.returns-in-NotHere-clause-jobs
+returns-in-NotHere-clause-jobs g c = brings_behind c.args.shared.now.config c.args.h.n c.pin.result
+    _ _ _ c.pin.ensures.pin c.bring.result c.bring.ensures.brings c.bring.ensures.error
+    c.bring.ensures.jobs
+
+pub returns-in-NotHere-clause-again : goal.returns-in-NotHere-clause-again
+returns-in-NotHere-clause-again g c = tries_behind c.args.shared.now.config c.args.h.n c.pin.result
+    _ _ _ c.pin.ensures.pin c.args.patience.now.brought c.bring.new.patience.brought c.bring.result
+    c.bring.ensures.brings c.bring.ensures.brought
+
+pub returns-in-Pinned-clause-jobs : goal.returns-in-Pinned-clause-jobs
+returns-in-Pinned-clause-jobs g c = only_bringing c.args.h.n _ _
+    (pin_none c.args.h.n c.pin.result _ _ c.pin.ensures.pin)
+
+pub returns-in-Freed-clause-jobs : goal.returns-in-Freed-clause-jobs
+returns-in-Freed-clause-jobs g c = only_bringing c.args.h.n _ _
+    (pin_none c.args.h.n c.pin.result _ _ c.pin.ensures.pin)
+
+pub returns-in-Moving-clause-jobs : goal.returns-in-Moving-clause-jobs
+returns-in-Moving-clause-jobs g c = only_bringing c.args.h.n _ _
+    (pin_none c.args.h.n c.pin.result _ _ c.pin.ensures.pin)
+
+pub returns-in-Pinned-clause-again : goal.returns-in-Pinned-clause-again
+returns-in-Pinned-clause-again g c = λ none. absurd (none-some _ (sym none))
+
+pub returns-in-Freed-clause-again : goal.returns-in-Freed-clause-again
+returns-in-Freed-clause-again g c = λ none. absurd (none-some _ (sym none))
+
+pub returns-in-Moving-clause-again : goal.returns-in-Moving-clause-again
+returns-in-Moving-clause-again g c =
+    λ none. pin_none c.args.h.n c.pin.result _ _ c.pin.ensures.pin

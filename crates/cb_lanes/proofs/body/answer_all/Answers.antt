@@ -11,7 +11,8 @@ loop-line-init g c = record {
   of = c.requires.of;
   held = c.requires.held;
   far = none_so_far c.args.shared.now.config c.args.names.now c.as_slice.result.now c.args.lines.now
-      c.keep_names.new.kept c.args.answers.now.items c.args.passing.now.pass.seat.me.0 c.requires.names
+      c.keep_names.new.kept c.args.answers.now.items c.args.passing.now.pass.seat.me.0
+      c.requires.names
       c.as_slice.ensures.items c.in_ok-keep_names.ensures.kept c.requires.none;
 }
 
@@ -20,7 +21,8 @@ returns-in_err-keep_names-clause-front g c =
     front_none c.args.lines.now c.args.answers.now.items c.requires.none
 
 pub returns-in_err-keep_names-clause-stops : goal.returns-in_err-keep_names-clause-stops
-returns-in_err-keep_names-clause-stops g c = err_always c.from_residual.result _ (none_stops c.args.shared.now.config c.args.names.now
+returns-in_err-keep_names-clause-stops g c =
+    err_always c.from_residual.result _ (none_stops c.args.shared.now.config c.args.names.now
     c.args.lines.now c.args.answers.now.items c.args.passing.now.pass.seat.me.0 c.requires.none)
 
 pub answer_one-requires-clause-of : goal.answer_one-requires-clause-of
@@ -63,7 +65,8 @@ returns-in_err-answer_one-clause-stops g c = err_always c.from_residual-in_err-a
     c.in_err-answer_one.ensures.stops)
 
 pub returns-clause-front : goal.returns-clause-front
-returns-clause-front g c = front_taken c.args.lines.now c.loop-line.line-index c.loop-line.answers.items
+returns-clause-front g c = front_taken c.args.lines.now c.loop-line.line-index
+    c.loop-line.answers.items
     c.loop-line.invariant.far.front
 
 pub returns-clause-lines : goal.returns-clause-lines

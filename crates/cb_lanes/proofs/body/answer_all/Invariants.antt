@@ -9,6 +9,7 @@ invariant-loop-line g l =
     record {
       of : IsPassOf l.shared l.passing.pass;
       held : AreHeld l.passing.pins.items l.passing.pass.seat.me.0;
-      far : LinesSoFar l.shared.config l.names l.lines l.fn.passing.pass.seat.me.0 l.line-index l.kept
+      far : LinesSoFar l.shared.config l.names l.lines l.fn.passing.pass.seat.me.0 l.line-index
+          l.kept
           l.answers.items l.passing.pass.seat.me.0;
     }

@@ -65,33 +65,38 @@ pub returns-in-Ok-clause-rises : goal.returns-in-Ok-clause-rises
 returns-in-Ok-clause-rises g c = lane_alone c.args.shared.now.config c.args.names.now
     c.args.shared.now.config.nodes c.args.lane.n c.args.lines.now c.from-answers.result
     c.args.pass.seat.me.0 c.leave_at_end.new.pass.seat.me.0 c.leave_at_end.new.pass.seat.me.0
-    c.requires.pins (returns-in-Ok-clause-goes g c) c.requires.lines (returns-in-Ok-clause-lines g c)
+    c.requires.pins (returns-in-Ok-clause-goes g c) c.requires.lines
+    (returns-in-Ok-clause-lines g c)
     (λ h n freed has. has) c.leave_at_end.ensures.own.stands.ends
 
 pub returns-in-Ok-clause-scoped : goal.returns-in-Ok-clause-scoped
 returns-in-Ok-clause-scoped g c = lane_scoped c.args.shared.now.config c.args.names.now
     c.args.shared.now.config.nodes c.args.lane.n c.args.lines.now c.from-answers.result
     (first_version_of c.args.shared.now) c.args.pass.seat.me.0 c.leave_at_end.new.pass.seat.me.0
-    c.leave_at_end.new.pass.seat.me.0 c.requires.pins c.requires.names (returns-in-Ok-clause-goes g c)
+    c.leave_at_end.new.pass.seat.me.0 c.requires.pins c.requires.names
+    (returns-in-Ok-clause-goes g c)
     c.leave_at_end.ensures.own (leads_same c.leave_at_end.new.pass.seat.me.0) c.requires.lines
     (returns-in-Ok-clause-lines g c)
 
 pub returns-in-Ok-clause-alone : goal.returns-in-Ok-clause-alone
 returns-in-Ok-clause-alone g c = λ first unwritten.
     let w = c.leave_at_end.new.pass.seat.me.0 in
-    lane_keeps_alone c.args.shared.now.config c.args.shared.now.config.nodes c.args.lane.n c.args.names.now
+    lane_keeps_alone c.args.shared.now.config c.args.shared.now.config.nodes c.args.lane.n
+    c.args.names.now
     c.args.lines.now c.from-answers.result c.args.pass.seat.me.0 w c.requires.pins
     c.requires.of.rest.fresh c.requires.names (returns-in-Ok-clause-goes g c)
     (returns-in-Ok-clause-lines g c) (returns-in-Ok-clause-answered g c)
     (lane_keeps_own c.args.shared.now.config c.args.names.now c.from-answers.result
     c.args.pass.seat.me.0 w unwritten (returns-in-Ok-clause-goes g c)
-    (subst (λ (n : ℕ). Recalls n w) first c.leave_at_end.ensures.own) c.leave_at_end.ensures.of.rest.fresh)
+    (subst (λ (n : ℕ). Recalls n w) first c.leave_at_end.ensures.own)
+    c.leave_at_end.ensures.of.rest.fresh)
 
 pub returns-in-Err-clause-stopped : goal.returns-in-Err-clause-stopped
 returns-in-Err-clause-stopped g c = (
   c.leave_at_end.ensures.of,
   ap (λ (v : View). v.pins) c.leave_at_end.ensures.left,
-  subst (λ (l : List Answer). LaneStops (first_version_of c.args.shared.now) c.args.shared.now.config
+  subst (λ (l : List Answer). LaneStops (first_version_of c.args.shared.now)
+      c.args.shared.now.config
       c.args.lane.n c.args.names.now c.args.lines.now c.args.pass.seat.me.0 l
       c.leave_at_end.new.pass.seat.me.0) (sym c.from-answers.ensures)
       (lane_stops (first_version_of c.args.shared.now) c.args.shared.now.config c.args.lane.n

@@ -1,6 +1,7 @@
-use Rattle.cb_lanes.proofs.Compacted.{compacted_stays, lacking_is, lacking_stays, turn_compacted, turn_refused}
+use Rattle.std.proofs.lemmas.Result.{on_err_weaker}
+use Rattle.cb_lanes.proofs.Compacted.{compacted_stays, lacking_is, lacking_stays, turn_compacted}
+use Rattle.cb_lanes.proofs.Compacted.{turn_refused}
 use Rattle.cb_lanes.proofs.Shown.{either_way, ok_then}
-use Rattle.cb_lanes.proofs.Stopping.{err_then}
 use Rattle.cb_lanes.proofs.compacting.compact_here.Goals as goal
 
 pub returns-in-Some-clause-step : goal.returns-in-Some-clause-step
@@ -11,11 +12,12 @@ returns-in-Some-clause-step c =
 pub returns-in-None-clause-step : goal.returns-in-None-clause-step
 returns-in-None-clause-step c = ok_then c.compact.result (λ r step.
     turn_compacted c.args.seat c.args.world.now c.admit_turn.new.world c.compact.new.world
-    c.requires.sound c.in-None.ensures.admitted c.compact.ensures.desk c.compact.ensures.seats r step)
+    c.requires.sound c.in-None.ensures.admitted c.compact.ensures.desk c.compact.ensures.seats r
+    step)
     c.compact.ensures.step
 
 pub returns-in-None-clause-error : goal.returns-in-None-clause-error
-returns-in-None-clause-error c = err_then c.compact.result _ _ (λ lacks.
+returns-in-None-clause-error c = on_err_weaker c.compact.result (λ lacks.
     lacking_is c.args.seat c.args.world.now c.admit_turn.new.world c.compact.new.world
     c.requires.sound c.in-None.ensures.admitted c.compact.ensures.desk c.compact.ensures.seats
     lacks.0 lacks.1 lacks.2)

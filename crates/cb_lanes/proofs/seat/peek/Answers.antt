@@ -10,7 +10,8 @@ returns-in-Some-clause-peek c =
     record { desk = c.world.inside.desk; far = c.world.inside.far; seats = c.world.inside.seats } in
     let sound : IsSoundWorld w = subst IsSoundWorld (sym c.world.view_is) c.requires.sound in
     let newest = c.in-Some.ensures.found in
-    let p : PeekedAt w c.args.seat c.args.handle.n c.in-Some.field-0 c.read.new.desk c.read.new.far = record {
+    let p : PeekedAt w c.args.seat c.args.handle.n c.in-Some.field-0 c.read.new.desk
+    c.read.new.far = record {
       sound = sound;
       seat_is = c.requires.seat;
       newest = newest;
@@ -18,8 +19,10 @@ returns-in-Some-clause-peek c =
     } in
     ok_then c.read.result (λ r performs.
     subst (λ (v : WorldState). PeekStep c.args.seat c.args.handle.n v r
-    (record { desk = c.read.new.desk; far = c.read.new.far; seats = c.world.inside.seats })) c.world.view_is
-    (peek_is w c.args.seat c.args.handle.n c.in-Some.field-0 c.read.new.desk c.read.new.far r p performs))
+    (record { desk = c.read.new.desk; far = c.read.new.far; seats = c.world.inside.seats }))
+    c.world.view_is
+    (peek_is w c.args.seat c.args.handle.n c.in-Some.field-0 c.read.new.desk c.read.new.far r p
+    performs))
     c.read.ensures.read
 
 pub returns-in-Some-clause-sound : goal.returns-in-Some-clause-sound
@@ -28,7 +31,8 @@ returns-in-Some-clause-sound c =
     record { desk = c.world.inside.desk; far = c.world.inside.far; seats = c.world.inside.seats } in
     let sound : IsSoundWorld w = subst IsSoundWorld (sym c.world.view_is) c.requires.sound in
     let newest = c.in-Some.ensures.found in
-    let p : PeekedAt w c.args.seat c.args.handle.n c.in-Some.field-0 c.read.new.desk c.read.new.far = record {
+    let p : PeekedAt w c.args.seat c.args.handle.n c.in-Some.field-0 c.read.new.desk
+    c.read.new.far = record {
       sound = sound;
       seat_is = c.requires.seat;
       newest = newest;

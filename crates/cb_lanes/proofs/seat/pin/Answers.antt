@@ -16,7 +16,8 @@ use Rattle.cb_lanes.proofs.seat.pin.Goals as goal
 pub turn_of-requires-clause-job : goal.turn_of-requires-clause-job
 turn_of-requires-clause-job c = subst (λ (d : Config). c.args.handle.n < d.handles)
     (sym (step_settings c.args.world.now c.step_of.new.world
-    (event.Step c.args.seat (atomic.Pin c.args.handle)) c.in_ok-reply.reply c.in_ok-reply.ensures.step))
+    (event.Step c.args.seat (atomic.Pin c.args.handle)) c.in_ok-reply.reply
+    c.in_ok-reply.ensures.step))
     c.requires.within
 
 pub turn_of-requires-clause-sound : goal.turn_of-requires-clause-sound
@@ -28,7 +29,8 @@ step_of-requires-then-is_in-clause-handle c = subst (λ (d : Config). c.args.han
     (event.Turn c.args.seat (job.Swap c.args.handle)) c.in_ok-reply-in-NotHere.reply
     c.in_ok-reply-in-NotHere.ensures.step
     ∙ step_settings c.args.world.now c.step_of.new.world
-    (event.Step c.args.seat (atomic.Pin c.args.handle)) c.in_ok-reply.reply c.in_ok-reply.ensures.step))
+    (event.Step c.args.seat (atomic.Pin c.args.handle)) c.in_ok-reply.reply
+    c.in_ok-reply.ensures.step))
     c.requires.within
 
 pub step_of-requires-then-is_in-clause-sound : goal.step_of-requires-then-is_in-clause-sound
@@ -36,26 +38,34 @@ step_of-requires-then-is_in-clause-sound c = c.turn_of.ensures.sound
 
 pub returns-then-is_in : goal.returns-then-is_in
 returns-then-is_in c =
-    let first : PinEvent c.args.seat c.args.handle.n c.args.world.now answer.NotHere c.step_of.new.world =
-    subst (λ (q : Reply). PinEvent c.args.seat c.args.handle.n c.args.world.now q c.step_of.new.world)
+    let first : PinEvent c.args.seat c.args.handle.n c.args.world.now answer.NotHere
+    c.step_of.new.world =
+    subst (λ (q : Reply). PinEvent c.args.seat c.args.handle.n c.args.world.now q
+    c.step_of.new.world)
     c.in-NotHere.is c.in_ok-reply.ensures.step in record {
       pin = ok_then c.step_of-then-is_in.result (λ r again.
-          let z = far_to_pin c.args.seat c.args.handle.n c.args.world.now c.step_of.new.world first in
+          let z = far_to_pin c.args.seat c.args.handle.n c.args.world.now c.step_of.new.world first
+          in
           swapped_in c.turn_of.new.world c.in_ok-reply-in-NotHere.reply z.0
           (subst (λ (v : WorldState). SwapEvent c.args.seat c.args.handle.n v
-          c.in_ok-reply-in-NotHere.reply c.turn_of.new.world) z.1 c.in_ok-reply-in-NotHere.ensures.step)
+          c.in_ok-reply-in-NotHere.reply c.turn_of.new.world) z.1
+          c.in_ok-reply-in-NotHere.ensures.step)
           (c.is_in.ensures.0 c.if-is_in.true) again) c.step_of-then-is_in.ensures.step;
       sound = c.step_of-then-is_in.ensures.sound;
     }
 
 pub returns-else-is_in : goal.returns-else-is_in
 returns-else-is_in c =
-    let first : PinEvent c.args.seat c.args.handle.n c.args.world.now answer.NotHere c.step_of.new.world =
-    subst (λ (q : Reply). PinEvent c.args.seat c.args.handle.n c.args.world.now q c.step_of.new.world)
+    let first : PinEvent c.args.seat c.args.handle.n c.args.world.now answer.NotHere
+    c.step_of.new.world =
+    subst (λ (q : Reply). PinEvent c.args.seat c.args.handle.n c.args.world.now q
+    c.step_of.new.world)
     c.in-NotHere.is c.in_ok-reply.ensures.step in record {
-      pin = let z = far_to_pin c.args.seat c.args.handle.n c.args.world.now c.step_of.new.world first in
+      pin = let z = far_to_pin c.args.seat c.args.handle.n c.args.world.now c.step_of.new.world
+          first in
           stays_far z.0 (subst (λ (v : WorldState). SwapEvent c.args.seat c.args.handle.n v
-          c.in_ok-reply-in-NotHere.reply c.turn_of.new.world) z.1 c.in_ok-reply-in-NotHere.ensures.step)
+          c.in_ok-reply-in-NotHere.reply c.turn_of.new.world) z.1
+          c.in_ok-reply-in-NotHere.ensures.step)
           (λ is. false≢true (sym c.if-is_in.false ∙ c.is_in.ensures.1 is));
       sound = c.turn_of.ensures.sound;
     }

@@ -10,7 +10,8 @@ returns-clause-line c = λ later are. ok_then c.rest.result (λ done rests.
       between = c.answer_by.new.lane;
       step = line.line_goes;
       sound = c.answer_by.ensures.well.1;
-      rests = subst (λ (n : ℕ). Rests n c.args.line.now.lane.n c.answer_by.new.lane c.rest.new.world)
+      rests = subst (λ (n : ℕ). Rests n c.args.line.now.lane.n c.answer_by.new.lane
+          c.rest.new.world)
           (c.take_line-behind.ensures.left later are).1 (rw c.from.ensures at rests);
       holds = line.holds;
       answer = line.answer;
@@ -24,4 +25,5 @@ returns-in_err-answer_by-clause-left c = λ later are. (c.take_line-behind.ensur
 
 pub returns-clause-losses : goal.returns-clause-losses
 returns-clause-losses c = λ so_far.
-    ok_then c.rest.result (λ done rests. c.in_ok-answer_by.ensures.losses so_far) c.rest.ensures.rests
+    ok_then c.rest.result (λ done rests. c.in_ok-answer_by.ensures.losses so_far)
+    c.rest.ensures.rests

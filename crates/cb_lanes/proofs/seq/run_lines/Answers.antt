@@ -27,9 +27,11 @@ lines_by_lane-left-requires-clause-lanes c = rw c.as_slice.ensures.items
 
 pub loop-line-init : goal.loop-line-init
 loop-line-init c = record {
-  along = rw c.new-answers.ensures.empty (along_none c.args.side c.args.s.now.config (lanes_of c.args.s.now.lines)
+  along = rw c.new-answers.ensures.empty
+      (along_none c.args.side c.args.s.now.config (lanes_of c.args.s.now.lines)
       c.in_ok-world.world c.new-names.result c.requires.script.config c.in_ok-world.ensures.empty
-      (lines_lanes c.args.s.now.config.nodes [] c.args.s.now.lines c.requires.script.lines) (search rules));
+      (lines_lanes c.args.s.now.config.nodes [] c.args.s.now.lines c.requires.script.lines)
+      (search rules));
   lines = search rules;
   losses = rw c.new-answers.ensures.empty c.new-losses.ensures.items;
   left = rw c.as_slice.ensures.items at c.lines_by_lane-left.ensures.left;
@@ -48,7 +50,8 @@ answer_line-requires-clause-some c =
     let lines = c.args.s.now.lines in
     let i = c.loop-line.line-index in
     let l = c.line-item.result in
-    let form = line_form c.args.s.now.config.nodes [] lines i l c.requires.script.lines (search rules)
+    let form = line_form c.args.s.now.config.nodes [] lines i l c.requires.script.lines
+    (search rules)
     (search rules) in
     let low = form.1 in
     let at = c.loop-line.invariant.left.counts l.lane.n (omega (arith, low)) in
@@ -64,7 +67,8 @@ answer_line-requires-clause-request c =
     c.line-item.result c.requires.script.lines (search rules) (search rules)).0
 
 pub answer_line-requires-clause-ready : goal.answer_line-requires-clause-ready
-answer_line-requires-clause-ready c = along_ready c.args.side c.args.s.now.config _ c.loop-line.answers c.loop-line.world
+answer_line-requires-clause-ready c = along_ready c.args.side c.args.s.now.config _
+    c.loop-line.answers c.loop-line.world
     c.loop-line.names c.loop-line.invariant.along
 
 pub answer_line-requires-clause-sound : goal.answer_line-requires-clause-sound
@@ -91,23 +95,29 @@ loop-line-preserved c =
       length-map answers asked,
     ) in
     let most = c.requires.script.few in
-    let along : Along c.args.side config (l.lane.n ∷ later) answers c.loop-line.world c.loop-line.names =
-    subst (λ (lanes : List ℕ). Along c.args.side config lanes answers c.loop-line.world c.loop-line.names) split
+    let along : Along c.args.side config (l.lane.n ∷ later) answers c.loop-line.world
+    c.loop-line.names =
+    subst (λ (lanes : List ℕ). Along c.args.side config lanes answers c.loop-line.world
+    c.loop-line.names) split
     c.loop-line.invariant.along in
     let left : AreLeft (l.lane.n ∷ later) c.loop-line.left =
     subst (λ (lanes : List ℕ). AreLeft lanes c.loop-line.left) split c.loop-line.invariant.left in
-    let fresh = fresh_by answers (take i lines) l.lane.n l.request (kept_number c.loop-line.names) along.kept
+    let fresh = fresh_by answers (take i lines) l.lane.n l.request
+    (kept_number c.loop-line.names) along.kept
     so_far (line_known config.nodes [] lines i l c.requires.script.lines lt at) in
     let done = c.in_ok-answer_line.ensures.line later left in
-    let then : Along c.args.side config later c.answer_line.new.answers c.answer_line.new.world c.answer_line.new.names =
+    let then : Along c.args.side config later c.answer_line.new.answers c.answer_line.new.world
+    c.answer_line.new.names =
     along_answered c.args.side config later answers c.answer_line.new.answers l c.loop-line.world
     c.answer_line.new.world c.loop-line.names c.answer_line.new.names along
     (omega (arith, lt, few, most)) (omega (arith, low)) form.0 fresh done in record {
       along = then;
-      lines = lines_push lines i answers c.answer_line.new.answers l done.reply lt at so_far done.answer;
+      lines = lines_push lines i answers c.answer_line.new.answers l done.reply lt at so_far
+          done.answer;
       losses = c.in_ok-answer_line.ensures.losses c.loop-line.invariant.losses;
       left = c.in_ok-answer_line.ensures.left later left;
-      ease = λ ease. eases_answered c.args.side c.args.s.now i later answers c.answer_line.new.answers l
+      ease = λ ease. eases_answered c.args.side c.args.s.now i later answers
+          c.answer_line.new.answers l
           c.loop-line.world c.answer_line.new.world c.loop-line.names c.answer_line.new.names
           c.requires.script ease lt at so_far along then done (c.loop-line.invariant.ease ease);
     }
@@ -119,7 +129,8 @@ returns-clause-lines c =
 
 pub returns-clause-legal : goal.returns-clause-legal
 returns-clause-legal c =
-    legal_in_order 1 c.args.s.now.config.handles c.loop-line.answers c.loop-line.invariant.along.follow
+    legal_in_order 1 c.args.s.now.config.handles c.loop-line.answers
+    c.loop-line.invariant.along.follow
 
 pub returns-clause-answered : goal.returns-clause-answered
 returns-clause-answered c = c.loop-line.invariant.along.answered
@@ -128,15 +139,18 @@ pub returns-clause-leads : goal.returns-clause-leads
 returns-clause-leads c =
     let past : length c.args.s.now.lines ≤ c.loop-line.line-index = search rules in
     leads_end c.args.side [] c.loop-line.answers (empty_world c.args.s.now.config) c.loop-line.world
-    (subst (λ (ls : List Line). LeadsOn c.args.side (lanes_of ls) [] (empty_world c.args.s.now.config) c.loop-line.answers
+    (subst (λ (ls : List Line). LeadsOn c.args.side (lanes_of ls) []
+    (empty_world c.args.s.now.config) c.loop-line.answers
     c.loop-line.world) (drop_all c.loop-line.line-index c.args.s.now.lines past)
     c.loop-line.invariant.along.leads)
 
 pub returns-clause-along : goal.returns-clause-along
 returns-clause-along c =
     let past : length c.args.s.now.lines ≤ c.loop-line.line-index = search rules in
-    soundly_end c.args.side [] c.loop-line.answers (empty_world c.args.s.now.config) c.loop-line.world
-    (subst (λ (ls : List Line). LeadsOn c.args.side (lanes_of ls) [] (empty_world c.args.s.now.config) c.loop-line.answers
+    soundly_end c.args.side [] c.loop-line.answers
+    (empty_world c.args.s.now.config) c.loop-line.world
+    (subst (λ (ls : List Line). LeadsOn c.args.side (lanes_of ls) []
+    (empty_world c.args.s.now.config) c.loop-line.answers
     c.loop-line.world) (drop_all c.loop-line.line-index c.args.s.now.lines past)
     c.loop-line.invariant.along.leads)
 
@@ -149,7 +163,8 @@ pub returns-clause-sound : goal.returns-clause-sound
 returns-clause-sound c = c.loop-line.invariant.along.sound
 
 pub returns-clause-holds : goal.returns-clause-holds
-returns-clause-holds c = along_holds c.args.side c.args.s.now.config _ c.loop-line.answers c.loop-line.world
+returns-clause-holds c = along_holds c.args.side c.args.s.now.config _ c.loop-line.answers
+    c.loop-line.world
     c.loop-line.names c.loop-line.invariant.along
 
 pub returns-clause-losses : goal.returns-clause-losses
@@ -157,7 +172,8 @@ returns-clause-losses c = c.from.ensures ∙ c.loop-line.invariant.losses
 
 pub returns-clause-in_order : goal.returns-clause-in_order
 returns-clause-in_order c = subst AreInOrder (sym (returns-clause-losses c))
-    (losses_in_order c.args.side c.loop-line.answers (empty_world c.args.s.now.config) c.loop-line.world
+    (losses_in_order c.args.side c.loop-line.answers
+    (empty_world c.args.s.now.config) c.loop-line.world
     (returns-clause-leads c))
 
 pub returns-clause-scopes : goal.returns-clause-scopes

@@ -1,8 +1,8 @@
 use Rattle.std.proofs.Common.{inr}
+use Rattle.std.proofs.lemmas.Result.{on_err_weaker}
 use Rattle.cb_lanes.specs.LineGoes.{Calls}
 use Rattle.cb_lanes.proofs.ByPass.{KnownTo, is_made, job_alone, job_knows, job_within, stays_known}
 use Rattle.cb_lanes.proofs.PinsHeld.{held_same}
-use Rattle.cb_lanes.proofs.Stopping.{err_then}
 use Rattle.cb_lanes.proofs.passing.PassCallerCaller.turn.Goals as goal
 
 pub call-requires-clause-of : goal.call-requires-clause-of
@@ -27,7 +27,7 @@ returns g c = record {
       c.args.lane.now.pass.seat.me.0 c.call.new.pass.seat.me.0 c.call.ensures.call;
   made = is_made c.args.self.now.shared.now.config c.args.job c.call.result
       c.args.lane.now.pass.seat.me.0 c.call.new.pass.seat.me.0 c.call.ensures.call;
-  error = err_then c.call.result _ _ inr c.call.ensures.error;
+  error = on_err_weaker c.call.result inr c.call.ensures.error;
   well = (
     c.call.ensures.of,
     held_same c.args.lane.now.pins.items c.args.lane.now.pass.seat.me.0 c.call.new.pass.seat.me.0

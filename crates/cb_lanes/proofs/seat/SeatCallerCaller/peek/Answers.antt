@@ -7,7 +7,8 @@ use Rattle.cb_lanes.proofs.seat.SeatCallerCaller.peek.Goals as goal
 pub returns : goal.returns
 returns c = record {
   goes = c.peek.ensures.peek;
-  stays = seat_stays c.args.self.now.side c.args.self.now.seat (Peeks c.args.handle.n) c.args.world.now
+  stays = seat_stays c.args.self.now.side c.args.self.now.seat
+      (Peeks c.args.handle.n) c.args.world.now
       c.peek.new.world c.peek.result c.requires.well.1 c.requires.well.0 c.peek.ensures.peek;
   error = err_always c.peek.result _ (inr tt);
   well = (c.requires.well.0, c.peek.ensures.sound);

@@ -7,7 +7,8 @@ use Rattle.cb_lanes.proofs.seat.SeatCallerCaller.pin.Goals as goal
 pub returns : goal.returns
 returns c = record {
   goes = c.pin.ensures.pin;
-  stays = seat_stays c.args.self.now.side c.args.self.now.seat (Pins c.args.handle.n) c.args.world.now
+  stays = seat_stays c.args.self.now.side c.args.self.now.seat
+      (Pins c.args.handle.n) c.args.world.now
       c.pin.new.world c.pin.result c.requires.well.1 c.requires.well.0 c.pin.ensures.pin;
   error = err_always c.pin.result _ (inr tt);
   well = (c.requires.well.0, c.pin.ensures.sound);

@@ -16,9 +16,11 @@ pub returns : goal.returns
 returns c = record {
   goes = c.turn_at.ensures.step;
   stays = seat_stays c.args.self.now.side c.args.self.now.seat (Calls c.args.job) c.args.world.now
-      c.turn_at.new.world c.turn_at.result c.requires.well.1 c.requires.well.0 c.turn_at.ensures.step;
+      c.turn_at.new.world c.turn_at.result c.requires.well.1 c.requires.well.0
+      c.turn_at.ensures.step;
   made = seat_made c.args.self.now.side c.args.self.now.seat c.args.job c.args.world.now
-      c.turn_at.new.world c.turn_at.result c.requires.well.1 c.turn_at.ensures.sound c.turn_at.ensures.step;
+      c.turn_at.new.world c.turn_at.result c.requires.well.1 c.turn_at.ensures.sound
+      c.turn_at.ensures.step;
   error = err_always c.turn_at.result _ (inr tt);
   well = (c.requires.well.0, c.turn_at.ensures.sound);
 }
