@@ -22,10 +22,10 @@ use Rattle.cb_rule.specs.Lists.{Each, Has}
 use Rattle.cb_rule.specs.Steps.{Knows, look_at}
 use Rattle.cb_rule.specs.TriesAgain.{tries_again}
 use Rattle.cb_shared.specs.Calls.{AtNone, AtThis, Brings, EndsAtLast, IsAnswer, IsAnswerTo}
-use Rattle.cb_shared.specs.Calls.{IsCalled, IsForWant, IsInVain, IsLack, IsReadJob, IsUnanswered}
-use Rattle.cb_shared.specs.Calls.{LooksOf, OfThis, ReadCallEnds, ReadGives, ReadStops, ReadTries}
-use Rattle.cb_shared.specs.Calls.{ReadsInPlace, StopsInVain, TellsWhatIs, TriesInVain, TurnEnds}
-use Rattle.cb_shared.specs.Calls.{TurnGives, TurnStops, TurnTries, again_in}
+use Rattle.cb_shared.specs.Calls.{IsCalled, IsInVain, IsLack, IsReadJob, IsUnanswered, LooksOf}
+use Rattle.cb_shared.specs.Calls.{OfThis, ReadCallEnds, ReadGives, ReadStops, ReadTries}
+use Rattle.cb_shared.specs.Calls.{ReadsInPlace, StopsBy, TellsWhatIs, TriesInVain, TurnEnds}
+use Rattle.cb_shared.specs.Calls.{TurnGives, TurnLacks, TurnStops, TurnTries, again_in}
 use Rattle.cb_record.specs.Deeds.{happening}
 use Rattle.cb_record.specs.Parts.{Part, Grows, grown, nothing_more, sum}
 use Rattle.cb_shared.specs.declared.reading.ReadAnswer.{ReadAnswer}
@@ -116,35 +116,6 @@ module _ (on : ℕ → Type 0) (vain : Turn → Type 0) where
             ∙ ap (grown x.last) at ∙ grown_sum (sum d x.before) x.last v),
       )
 
-  -- or one that found no memory
-  pub stops_then : (want : Turn → Type 0) (v w u : View) → TriesInVain on vain v w
-      → StopsInVain on vain want w u → StopsInVain on vain want v u
-  stops_then want v w u x y = record {
-    between = y.between;
-    last = y.last;
-    tries = tries_then v w y.between x y.tries;
-    lacks = y.lacks;
-    one = y.one;
-    left = y.left;
-  }
-
-  -- the first try found none
-  pub stops_first : (want : Turn → Type 0) (v w : View) (d : Part) → IsInVain on want d
-      → length d.turns ≤ 1 → Grows v d w → StopsInVain on vain want v w
-  stops_first want v w d x one grew = record {
-    between = v;
-    last = d;
-    tries = so_far v;
-    lacks = x;
-    one = one;
-    left = grew;
-  }
-
-  pub stops_at_once : (want : Turn → Type 0) (v : View) → StopsInVain on vain want v v
-  stops_at_once want v = stops_first want v v nothing_more
-      (record { looks = []; turns = []; at = tt; of = tt; idle = tt; part = refl }) (lit≤ tt)
-      (grown_nothing v)
-
 -- tries of one kind are tries of a wider one
 pub vain_wider : (on all : ℕ → Type 0) (vain wide : Turn → Type 0) → ((h : ℕ) → on h → all h)
     → ((t : Turn) → vain t → wide t) → (d : Part) → IsInVain on vain d → IsInVain all wide d
@@ -164,17 +135,10 @@ pub tries_wider : (on all : ℕ → Type 0) (vain wide : Turn → Type 0) → ((
 tries_wider on all vain wide looks turns v w (d, x, grew) =
     (d, vain_wider on all vain wide looks turns d x, grew)
 
-pub stops_wider : (on all : ℕ → Type 0) (vain wide want lack : Turn → Type 0)
-    → ((h : ℕ) → on h → all h) → ((t : Turn) → vain t → wide t) → ((t : Turn) → want t → lack t)
-    → (v w : View) → StopsInVain on vain want v w → StopsInVain all wide lack v w
-stops_wider on all vain wide want lack looks turns lacks v w x = record {
-  between = x.between;
-  last = x.last;
-  tries = tries_wider on all vain wide looks turns v x.between x.tries;
-  lacks = vain_wider on all want lack looks lacks x.last x.lacks;
-  one = x.one;
-  left = x.left;
-}
+-- turns of fewer jobs are turns of more
+pub unanswered_wider : (may all : Job → Type 0) → ((job : Job) → may job → all job) → (t : Turn)
+    → IsUnanswered may t → IsUnanswered all t
+unanswered_wider may all wider t x = (wider t.job x.0, x.1)
 
 pub vain_look : (h word : ℕ) (vain : Turn → Type 0) → IsInVain (AtThis h) vain (looked h word)
 vain_look h word vain = record {
@@ -336,52 +300,6 @@ turn_vain c (jobs.Read handle) r v d called x off = (
 )
 turn_vain c job r v d called x off = absurd called
 
--- nor does one that found no memory
-pub turn_lacks : (c : Config) (job : Job) (e : NoMemory) (v : View) (d : Part) → IsCalled job
-    → TurnAdds c job (Err e) v d
-    → IsInVain (LooksOf job) (IsForWant (OfThis job)) d × (made_by_turn job None ≡ [])
-turn_lacks c (jobs.Make bytes) e v d called x = (
-  vain_turn c (jobs.Make bytes) _ (Err e) v d x x.wrote (no_looks AtNone _ x.reads) x.finds refl
-      (x.job_is, x.reply_is),
-  refl,
-)
-turn_lacks c (jobs.Write handle at bytes) e v d called x = (
-  vain_turn c (jobs.Write handle at bytes) _ (Err e) v d x x.wrote (no_looks AtNone _ x.reads)
-      x.finds refl (x.job_is, x.reply_is),
-  refl,
-)
-turn_lacks c (jobs.Free handle) e v d called x = (
-  vain_turn c (jobs.Free handle) _ (Err e) v d x x.wrote (no_looks AtNone _ x.reads) x.finds refl
-      (x.job_is, x.reply_is),
-  refl,
-)
-turn_lacks c (jobs.Swap handle) e v d called x = (
-  vain_turn c (jobs.Swap handle) _ (Err e) v d x x.wrote (no_looks AtNone _ x.reads) x.finds refl
-      (x.job_is, x.reply_is),
-  refl,
-)
-turn_lacks c (jobs.Fetch handle) e v d called x = (
-  vain_turn c (jobs.Fetch handle) _ (Err e) v d x x.wrote (no_looks AtNone _ x.reads) x.finds refl
-      (x.job_is, x.reply_is),
-  refl,
-)
-turn_lacks c jobs.Land e v d called x = (
-  vain_turn c jobs.Land _ (Err e) v d x x.wrote (no_looks AtNone _ x.reads) x.finds refl
-      (x.job_is, x.reply_is),
-  refl,
-)
-turn_lacks c (jobs.Read handle) e v d called x = (
-  vain_turn c (jobs.Read handle) _ (Err e) v d x x.wrote (lacking_looks x.reads) x.finds refl
-      (x.job_is, x.reply_is),
-  refl,
-)
-  where
-    lacking_looks : JobReads (jobs.Read handle) x.turn.acts (Err e) v x.within
-        → LooksAlone (AtThis handle.n) x.within
-    lacking_looks (inl y) = no_looks (AtThis handle.n) x.within y.0
-    lacking_looks (inr y) = (y.looks, y.on, y.part)
-turn_lacks c job e v d called x = absurd called
-
 pub grows_own : (made : List ℕ) (v w : View) (d : Part) → made ≡ [] → w ≡ with_own made (grown d v)
     → Grows v d w
 grows_own made v w d none is = is ∙ ap (λ (l : List ℕ). with_own l (grown d v)) none
@@ -419,24 +337,123 @@ turn_in_vain c job r again v w called told off (d, x, is) =
     (told ∙ record_again c job (Ok r) v w d x is) off) in
     (d, z.0, grows_own (made_by_turn job (Some r)) v w d z.1 is)
 
-pub turn_without : (c : Config) (job : Job) (e : NoMemory) (v w : View) → IsCalled job
-    → TurnBy c job (Err e) v w → TurnStops c job v w
-turn_without c job e v w called (d, x, is) = let z = turn_lacks c job e v d called x in
-    stops_first (LooksOf job) (IsUnanswered (OfThis job)) (IsForWant (OfThis job)) v w d z.0
-    (subst (λ (l : List Turn). length l ≤ 1) (sym (ap (λ (q : Part). q.turns) x.part)) (lit≤ tt))
-    (grows_own (made_by_turn job None) v w d z.1 is)
+-- ---- no memory
+module _ (c : Config) (on : ℕ → Type 0) (may : Job → Type 0) where
+  -- behind tries that came to nothing
+  pub stops_then : (v w u : View) → TriesInVain on (IsUnanswered may) v w → StopsBy c on may w u
+      → StopsBy c on may v u
+  stops_then v w u x y = record {
+    between = y.between;
+    tries = tries_then on (IsUnanswered may) v w y.between x y.tries;
+    lacks = y.lacks;
+  }
+
+  -- with no turn more, and by one
+  pub stops_here : (v w : View) → TriesInVain on (IsUnanswered may) v w → StopsBy c on may v w
+  stops_here v w x = record { between = w; tries = x; lacks = inl refl }
+
+  pub stops_at_once : (v : View) → StopsBy c on may v v
+  stops_at_once v = stops_here v v (so_far on (IsUnanswered may) v)
+
+  pub stops_by_turn : (job : Job) (v w : View) → may job → TurnLacks c job v w
+      → StopsBy c on may v w
+  stops_by_turn job v w is x = record {
+    between = v;
+    tries = so_far on (IsUnanswered may) v;
+    lacks = inr (job, is, x);
+  }
+
+  pub stops_wider : (all : ℕ → Type 0) (wide : Job → Type 0) → ((h : ℕ) → on h → all h)
+      → ((job : Job) → may job → wide job) → (v w : View) → StopsBy c on may v w
+      → StopsBy c all wide v w
+  stops_wider all wide looks wider v w x = record {
+    between = x.between;
+    tries = tries_wider on all (IsUnanswered may) (IsUnanswered wide) looks
+        (unanswered_wider may wide wider) v x.between x.tries;
+    lacks = lacks_wider x.lacks;
+  }
+    where
+      lacks_wider : (w ≡ x.between) ⊎ ((job : Job) × may job × TurnLacks c job x.between w)
+          → (w ≡ x.between) ⊎ ((job : Job) × wide job × TurnLacks c job x.between w)
+      lacks_wider (inl same) = inl same
+      lacks_wider (inr (job, is, lacks)) = inr (job, wider job is, lacks)
+
+pub turn_without : (c : Config) (job : Job) (e : NoMemory) (v w : View) → TurnBy c job (Err e) v w
+    → TurnStops c job v w
+turn_without c job e v w x = stops_by_turn c (LooksOf job) (OfThis job) job v w refl (e, x)
+
+-- what is left then: looks and turns, by which nothing was made
+none_happened : (job : Job) → happening job None ≡ []
+none_happened (jobs.Make bytes) = refl
+none_happened (jobs.Crash node) = refl
+none_happened (jobs.Join node) = refl
+none_happened job = refl
+
+none_made : (job : Job) → made_by_turn job None ≡ []
+none_made (jobs.Make bytes) = refl
+none_made job = refl
+
+all_looks : (h : ℕ) (ls : List Look) → Each (λ (l : Look). l.handle ≡ h) ls
+    → Each (λ (l : Look). Unit {0}) ls
+all_looks h ls all =
+    each_map (λ (l : Look). l.handle ≡ h) (λ (l : Look). Unit {0}) (λ l is. tt) ls all
+
+-- a read that is part of such a turn leaves looks
+within_looks : (job : Job) (es : List Event) (e : NoMemory) (v : View) (d : Part)
+    → JobReads job es (Err e) v d → LooksAlone (λ h. Unit {0}) d
+within_looks (jobs.Read h) es e v d (inl x) = no_looks (λ k. Unit {0}) d x.0
+within_looks (jobs.Read h) es e v d (inr x) =
+    (x.looks, all_looks h.n x.looks x.on, x.part)
+within_looks job es e v d x = no_looks (λ k. Unit {0}) d x
+
+-- tries of any kind that came to nothing
+abbrev pub GoesIdly : View → View → Type 0
+GoesIdly v w = TriesInVain (λ h. Unit {0}) (λ t. Unit {0}) v w
+
+pub turn_idle : (c : Config) (job : Job) (v w : View) → TurnLacks c job v w → GoesIdly v w
+turn_idle c job v w (e, (d, x, is)) =
+    let z = within_looks job x.turn.acts e v x.within x.reads in (
+      d,
+      record {
+        looks = z.0;
+        turns = x.turn ∷ [];
+        at = z.1;
+        of = (tt, tt);
+        idle = ((λ i. happening (x.job_is i) (x.reply_is i)) ∙ none_happened job, tt);
+        part = x.part ∙ (λ i. turn_part x.turn (x.wrote i) (z.2 i) (x.finds i));
+      },
+      grows_own (made_by_turn job None) v w d (none_made job) is,
+    )
+
+pub stops_idle : (c : Config) (on : ℕ → Type 0) (may : Job → Type 0) (v w : View)
+    → StopsBy c on may v w → GoesIdly v w
+stops_idle c on may v w x = behind x.lacks
+  where
+    before : GoesIdly v x.between
+    before = tries_wider on (λ h. Unit {0}) (IsUnanswered may) (λ t. Unit {0}) (λ h is. tt)
+        (λ t is. tt) v x.between x.tries
+
+    behind : (w ≡ x.between) ⊎ ((job : Job) × may job × TurnLacks c job x.between w) → GoesIdly v w
+    behind (inl same) = subst (GoesIdly v) (sym same) before
+    behind (inr (job, is, lacks)) = tries_then (λ h. Unit {0}) (λ t. Unit {0}) v x.between w before
+        (turn_idle c job x.between w lacks)
 
 -- ---- a look that found the object far, and then a turn
+one_look : (h word : ℕ) (vain : Turn → Type 0) (v w : View) (d : Part) → Grows v d w
+    → d ≡ looked h word → TriesInVain (AtThis h) vain v w
+one_look h word vain v w d grew is =
+    (d, subst (IsInVain (AtThis h) vain) (sym is) (vain_look h word vain), grew)
+
 pub look_tries : (h word : ℕ) (vain : Turn → Type 0) (v w u : View) (d : Part) → d ≡ looked h word
     → Grows v d w → TriesInVain (AtThis h) vain w u → TriesInVain (AtThis h) vain v u
-look_tries h word vain v w u d is grew x = tries_after (AtThis h) vain v w u (looked h word)
-    (vain_look h word vain) (grew ∙ ap (λ (z : Part). grown z v) is) x
+look_tries h word vain v w u d is grew x =
+    tries_then (AtThis h) vain v w u (one_look h word vain v w d grew is) x
 
-pub look_stops : (h word : ℕ) (vain want : Turn → Type 0) (v w u : View) (d : Part)
-    → d ≡ looked h word → Grows v d w → StopsInVain (AtThis h) vain want w u
-    → StopsInVain (AtThis h) vain want v u
-look_stops h word vain want v w u d is grew x = stops_then (AtThis h) vain want v w u
-    (looked h word, vain_look h word vain, grew ∙ ap (λ (z : Part). grown z v) is) x
+pub look_stops : (c : Config) (h word : ℕ) (may : Job → Type 0) (v w u : View) (d : Part)
+    → d ≡ looked h word → Grows v d w → StopsBy c (AtThis h) may w u
+    → StopsBy c (AtThis h) may v u
+look_stops c h word may v w u d is grew x = stops_then c (AtThis h) may v w u
+    (one_look h word (IsUnanswered may) v w d grew is) x
 
 pub err_always : {T E : Type 0} (r : Result T E) (P : Type 0) → P → OnErr r P
 err_always (Ok x) P p = tt
@@ -481,11 +498,6 @@ found_freed c h a v w is (d, grew, f) =
     ends_first (AtThis h) (IsUnanswered (IsReadJob h)) (ReadCallEnds c h answer.Freed) v w d
     (inl (subst (λ (z : ReadAnswer). ReadFinds h z v d) is f)) grew
 
-one_look : (h word : ℕ) (vain : Turn → Type 0) (v w : View) (d : Part) → Grows v d w
-    → d ≡ looked h word → TriesInVain (AtThis h) vain v w
-one_look h word vain v w d grew is =
-    (d, subst (IsInVain (AtThis h) vain) (sym is) (vain_look h word vain), grew)
-
 -- one of three answers, the last one with two words, has what each of them has
 pub one_of_three : {A : Type 0} (P : A → Type 0) (a x y : A) (z : ℕ → ℕ → A) → P x → P y
     → ((n m : ℕ) → P (z n m))
@@ -528,9 +540,8 @@ found_hindered h vain (found.Raced saw other) v w is (d, grew, f) = (
 
 pub lacks_room : (c : Config) (h : ℕ) (v w : View)
     → (word : ℕ) × (state_of word ≡ state.Here) × Grows v (looked h word) w → ReadStops c h v w
-lacks_room c h v w (word, here, grew) = stops_first (AtThis h) (IsUnanswered (IsReadJob h))
-    (IsForWant (IsReadJob h)) v w (looked h word) (vain_look h word (IsForWant (IsReadJob h)))
-    (lit≤ tt) grew
+lacks_room c h v w (word, here, grew) = stops_here c (AtThis h) (IsReadJob h) v w
+    (one_look h word (IsUnanswered (IsReadJob h)) v w (looked h word) grew refl)
 
 -- ---- what the record knows
 has_behind : {A : Type 0} (x : A) (xs ys : List A) → Has x ys → Has x (xs ++ ys)

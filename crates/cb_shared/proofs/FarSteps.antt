@@ -1,5 +1,5 @@
 -- Turns of a call whose object is far, one after another.
-use Rattle.std.proofs.Common.{◌≡◌, ◌≤◌, ◌+◌, length, ℕ, ◌||◌, Bool, false, List, [], ◌∷◌, ◌++◌, Option, None, Some}
+use Rattle.std.proofs.Common.{◌≡◌, ℕ, ◌||◌, Bool, false, List, [], ◌∷◌, ◌++◌, Option, None, Some}
 use Rattle.std.proofs.Common.{Result, Ok, Err, sym, refl, ap, ◌∙◌, subst, inl, inr}
 use Rattle.std.specs.Prelude.{IfOk, OnErr}
 use Rattle.std.proofs.lemmas.Result.{IfOk-weaker, on_err_weaker}
@@ -14,7 +14,7 @@ use Rattle.cb_types.specs.declared.reply.Reply.{Reply}
 use Rattle.cb_types.specs.declared.reply.Reply.TheVariants as answer
 use Rattle.cb_types.specs.Orders.{IsDecodable}
 use Rattle.cb_ptr.specs.declared.word.State.TheVariants as state
-use Rattle.cb_ptr.specs.Word.{len_of, state_of}
+use Rattle.cb_ptr.specs.Word.{state_of}
 use Rattle.cb_swapin.specs.declared.fetching.Fetching.{Fetching}
 use Rattle.cb_swapin.specs.declared.fetching.Fetching.TheVariants as fetching
 use Rattle.cb_orders.specs.Done.{DecodeDoneState}
@@ -31,36 +31,30 @@ use Rattle.cb_shared.specs.declared.reading.ReadAnswer.TheVariants as found
 use Rattle.cb_shared.specs.declared.ways.Way.{Way}
 use Rattle.cb_shared.specs.declared.ways.Way.TheVariants as ways
 use Rattle.cb_shared.specs.Calls.{AnswersBy, AsksFor, AtNone, AtThis, Brings, EndsAtLast, FoundFar}
-use Rattle.cb_shared.specs.Calls.{IsForWant, IsInVain, IsLack, IsReadJob, IsUnanswered, IsWriteJob}
-use Rattle.cb_shared.specs.Calls.{IsWriteJobAt, LooksOf}
+use Rattle.cb_shared.specs.Calls.{IsInVain, IsLack, IsReadJob, IsUnanswered, IsWriteJob, LooksOf}
 use Rattle.cb_shared.specs.Calls.{OfThis, ReadCallEnds, ReadTries, StopsBy, TriesBy}
 use Rattle.cb_shared.specs.Calls.{TriesInVain, TurnStops, TurnTries, WriteCallEnds}
 use Rattle.cb_shared.specs.Calls.{WriteTries, again_in, the_handle}
 use Rattle.cb_shared.specs.Fetching.{GetsTurns, brings, job_behind_fetch}
-use Rattle.cb_shared.specs.Ordering.{IsPlainFetch, fetch_told}
+use Rattle.cb_core.specs.Ordered.{fetch_answer}
+use Rattle.cb_shared.specs.Ordering.{IsPlainFetch}
 use Rattle.cb_shared.specs.Reading.{ReadFinds, looked}
 use Rattle.cb_shared.specs.Turning.{TurnBy, made_by_turn}
 use Rattle.cb_shared.specs.Ways.{HasWay, IsFound, IsWayBy, IsWayOf, IsWayTold, way_told}
 use Rattle.cb_shared.specs.Writing.{WriteGives}
 use Rattle.cb_shared.proofs.CallSteps.{Found, ends_after, ends_then, grows_own, known_still}
 use Rattle.cb_shared.proofs.CallSteps.{look_stops, look_tries, stops_then, stops_wider, tries_then, tries_wider}
-use Rattle.cb_shared.proofs.CallSteps.{turn_ends, turn_in_vain, turn_without, vain_look, vain_none}
-use Rattle.cb_shared.proofs.CallSteps.{vain_wider}
+use Rattle.cb_shared.proofs.CallSteps.{turn_ends, turn_in_vain, turn_without, unanswered_wider}
+use Rattle.cb_shared.proofs.CallSteps.{vain_look, vain_none, vain_wider}
 use Rattle.cb_shared.proofs.ReadParts.{grown_nothing}
 use Rattle.cb_shared.proofs.ReadSteps.{look_part}
 
 -- ---- turns of fewer jobs are turns of more
 module _ (may all : Job → Type 0) (wide : (job : Job) → may job → all job) where
-  unanswered_wider : (t : Turn) → IsUnanswered may t → IsUnanswered all t
-  unanswered_wider t x = (wide t.job x.0, x.1)
-
-  want_wider : (t : Turn) → IsForWant may t → IsForWant all t
-  want_wider t x = (wide t.job x.0, x.1)
-
   pub vain_by_wider : (on : ℕ → Type 0) (v w : View) → TriesInVain AtNone (IsUnanswered may) v w
       → TriesInVain on (IsUnanswered all) v w
   vain_by_wider on v w x = tries_wider AtNone on (IsUnanswered may) (IsUnanswered all)
-      (λ k none. absurd none) unanswered_wider v w x
+      (λ k none. absurd none) (unanswered_wider may all wide) v w x
 
   pub tries_by_wider : (c : Config) (on : ℕ → Type 0) (o : Option Reply) (v w : View)
       → TriesBy c AtNone may o v w → TriesBy c on all o v w
@@ -71,7 +65,7 @@ module _ (may all : Job → Type 0) (wide : (job : Job) → may job → all job)
       before = x.before;
       last = x.last;
       in_vain = vain_wider AtNone AtNone (IsUnanswered may) (IsUnanswered all) (λ k none. none)
-          unanswered_wider x.before x.in_vain;
+          (unanswered_wider may all wide) x.before x.in_vain;
       ends_so = record {
         job = x.ends_so.job;
         of = wide x.ends_so.job x.ends_so.of;
@@ -82,9 +76,9 @@ module _ (may all : Job → Type 0) (wide : (job : Job) → may job → all job)
     grew,
   )
 
-  pub stops_by_wider : (on : ℕ → Type 0) (v w : View) → StopsBy AtNone may v w → StopsBy on all v w
-  stops_by_wider on v w x = stops_wider AtNone on (IsUnanswered may) (IsUnanswered all)
-      (IsForWant may) (IsForWant all) (λ k none. absurd none) unanswered_wider want_wider v w x
+  pub stops_by_wider : (c : Config) (on : ℕ → Type 0) (v w : View) → StopsBy c AtNone may v w
+      → StopsBy c on all v w
+  stops_by_wider c on v w x = stops_wider c AtNone may on all (λ k none. absurd none) wide v w x
 
 of_this : (may : Job → Type 0) (job : Job) → may job → (j : Job) → OfThis job j → may j
 of_this may job is j same = subst may (sym same) is
@@ -103,17 +97,9 @@ brings_land h = inr (inr refl)
 pub read_brings : (h : ℕ) (j : Job) → Brings h j → IsReadJob h j
 read_brings h j is = inl is
 
-pub write_own : (h at : ℕ) (bytes : List ℕ) (word : ℕ)
-    → IsWriteJobAt h at bytes word (jobs.Write (the_handle h) at bytes)
-write_own h at bytes word = inl refl
-
-pub write_fetch : (h at : ℕ) (bytes : List ℕ) (word : ℕ) (j : Job)
-    → OfThis (jobs.Fetch (the_handle h)) j → IsWriteJobAt h at bytes word j
-write_fetch h at bytes word j is = inr (inl is)
-
-pub write_land : (h at : ℕ) (bytes : List ℕ) (word : ℕ) → at + length bytes ≤ len_of word
-    → IsWriteJobAt h at bytes word jobs.Land
-write_land h at bytes word inside = inr (inr (refl, inside))
+pub write_fetch : (h at : ℕ) (bytes : List ℕ) (j : Job) → OfThis (jobs.Fetch (the_handle h)) j
+    → IsWriteJob h at bytes j
+write_fetch h at bytes j is = inr (inl is)
 
 -- ---- one turn of such a job
 module _ (on : ℕ → Type 0) (may : Job → Type 0) (job : Job) (is : may job)
@@ -129,11 +115,9 @@ module _ (on : ℕ → Type 0) (may : Job → Type 0) (job : Job) (is : may job)
       (record { job = job; of = is; ends = ends })
       (grows_own (made_by_turn job (Some r)) v w d (makes r) next)
 
-  pub turn_stops : (c : Config) (v w : View) → TurnStops c job v w → StopsBy on may v w
-  turn_stops c v w x = stops_wider (LooksOf job) on (IsUnanswered (OfThis job)) (IsUnanswered may)
-      (IsForWant (OfThis job)) (IsForWant may) looks
-      (unanswered_wider (OfThis job) may (of_this may job is))
-      (want_wider (OfThis job) may (of_this may job is)) v w x
+  pub turn_stops : (c : Config) (v w : View) → TurnStops c job v w → StopsBy c on may v w
+  turn_stops c v w x =
+      stops_wider c (LooksOf job) (OfThis job) on may looks (of_this may job is) v w x
 
 -- ---- such turns behind some that came to nothing
 pub tries_by_then : (c : Config) (on : ℕ → Type 0) (may : Job → Type 0) (o : Option Reply)
@@ -145,11 +129,6 @@ tries_by_then c on may None v w u x y = tries_then on (IsUnanswered may) v w u
 tries_by_then c on may (Some r) v w u x y =
     ends_then AtNone (IsUnanswered may) (AnswersBy c may r) (λ (z : View). z) v w u x y
 
-pub stops_by_then : (may : Job → Type 0) (v w u : View)
-    → TriesInVain AtNone (IsUnanswered may) v w → StopsBy AtNone may w u → StopsBy AtNone may v u
-stops_by_then may v w u x y =
-    stops_then AtNone (IsUnanswered may) (IsForWant may) v w u x y
-
 -- a turn that did not answer, by what it told
 pub vain_way : (c : Config) (job : Job) (o : Option Reply) (v w : View) → o ≡ None
     → TriesBy c AtNone (OfThis job) o v w → TriesInVain AtNone (IsUnanswered (OfThis job)) v w
@@ -160,25 +139,24 @@ pub way_knows : (c : Config) (job : Job) (o : Option Reply) (h : ℕ) (v w : Vie
 way_knows c job o h v w is x knows = known_still AtNone (IsUnanswered (OfThis job)) (Some h) v w
     knows (vain_way c job o v w is x)
 
--- a turn of a write's own job behind a fetch
-module _ (c : Config) (h at : ℕ) (bytes : List ℕ) (word : ℕ) (told : Option Reply)
-    (r : Result (Option Reply) NoMemory) (v w u : View) (is : told ≡ None)
+-- a turn of a write behind a fetch
+module _ (c : Config) (h at : ℕ) (bytes : List ℕ) (told : Option Reply) (job : Job)
+    (of : IsWriteJob h at bytes job) (none : (k : ℕ) → LooksOf job k → ⊥)
+    (makes : (q : Reply) → made_by_turn job (Some q) ≡ []) (r : Result (Option Reply) NoMemory)
+    (v w u : View) (is : told ≡ None)
     (x : TriesBy c AtNone (OfThis (jobs.Fetch (the_handle h))) told v w) where
-  fetched_for : TriesInVain AtNone (IsUnanswered (IsWriteJobAt h at bytes word)) v w
-  fetched_for = vain_by_wider (OfThis (jobs.Fetch (the_handle h))) (IsWriteJobAt h at bytes word)
-      (write_fetch h at bytes word) AtNone v w (vain_way c (jobs.Fetch (the_handle h)) told v w is x)
+  fetched_for : TriesInVain AtNone (IsUnanswered (IsWriteJob h at bytes)) v w
+  fetched_for = vain_by_wider (OfThis (jobs.Fetch (the_handle h))) (IsWriteJob h at bytes)
+      (write_fetch h at bytes) AtNone v w (vain_way c (jobs.Fetch (the_handle h)) told v w is x)
 
-  pub own_tries : IfOk r (λ o. TurnTries c (jobs.Write (the_handle h) at bytes) o w u)
-      → IfOk r (λ o. TriesBy c AtNone (IsWriteJobAt h at bytes word) o v u)
-  own_tries y = IfOk-weaker r _ _ (λ o z. tries_by_then c AtNone (IsWriteJobAt h at bytes word) o v w u
-      fetched_for (turn_tries AtNone (IsWriteJobAt h at bytes word) (jobs.Write (the_handle h) at bytes)
-      (write_own h at bytes word) (λ k n. n) c o w u (λ q. refl) z)) y
+  pub write_tries : IfOk r (λ o. TurnTries c job o w u)
+      → IfOk r (λ o. TriesBy c AtNone (IsWriteJob h at bytes) o v u)
+  write_tries y = IfOk-weaker r _ _ (λ o z. tries_by_then c AtNone (IsWriteJob h at bytes) o v w u
+      fetched_for (turn_tries AtNone (IsWriteJob h at bytes) job of (λ k n. none k n) c o w u makes z)) y
 
-  pub own_stops : OnErr r (TurnStops c (jobs.Write (the_handle h) at bytes) w u)
-      → OnErr r (StopsBy AtNone (IsWriteJobAt h at bytes word) v u)
-  own_stops y = on_err_weaker r (λ z. stops_by_then (IsWriteJobAt h at bytes word) v w u fetched_for
-      (turn_stops AtNone (IsWriteJobAt h at bytes word) (jobs.Write (the_handle h) at bytes)
-      (write_own h at bytes word) (λ k n. n) c w u z)) y
+  pub write_stops : OnErr r (TurnStops c job w u) → OnErr r (StopsBy c AtNone (IsWriteJob h at bytes) v u)
+  write_stops y = on_err_weaker r (λ z. stops_then c AtNone (IsWriteJob h at bytes) v w u fetched_for
+      (turn_stops AtNone (IsWriteJob h at bytes) job of (λ k n. none k n) c w u z)) y
 
 -- ---- such turns behind a look that found the object far
 abbrev pub LooksFar : ℕ → View → View → Type 0
@@ -229,10 +207,10 @@ wrote_far h at bytes a v w is x =
     let y = subst (λ (z : WriteAnswer). WriteGives h at bytes z v w) is x in
     (y.0, y.1, y.2 ∙ look_part h y.0 v)
 
-pub far_stops : (h : ℕ) (may : Job → Type 0) (v w u : View) → LooksFar h v w
-    → StopsBy (AtThis h) may w u → StopsBy (AtThis h) may v u
-far_stops h may v w u (word, far, grew) x = look_stops h word (IsUnanswered may) (IsForWant may)
-    v w u (looked h word) refl grew x
+pub far_stops : (c : Config) (h : ℕ) (may : Job → Type 0) (v w u : View) → LooksFar h v w
+    → StopsBy c (AtThis h) may w u → StopsBy c (AtThis h) may v u
+far_stops c h may v w u (word, far, grew) x =
+    look_stops c h word may v w u (looked h word) refl grew x
 
 pub far_tries : (h : ℕ) (may : Job → Type 0) (v w u : View) → LooksFar h v w
     → TriesInVain (AtThis h) (IsUnanswered may) w u
@@ -283,7 +261,7 @@ module _ (c : Config) (h : ℕ) (again before after : Bool) (v w : View) where
       (turn_ends c work r again v w told is.2 by))
 
   pub way_tries : (f : Result Fetching NoMemory) (o : Result Way NoMemory)
-      → again ≡ again_in w.turns → TurnBy c work (fetch_told f) v w
+      → again ≡ again_in w.turns → TurnBy c work (fetch_answer f) v w
       → IsWayOf again before after f o → IfOk o Tried
   way_tries (Ok (fetching.Order d)) (Ok way) told by is = subst Tried (sym is.0)
       (vain_fetch (answer.Fetched (record { n = d.set }) d.position) told (λ x. x) by)
@@ -293,14 +271,14 @@ module _ (c : Config) (h : ℕ) (again before after : Bool) (v w : View) where
   way_tries (Err e) (Ok way) told by is = absurd is
 
   pub way_stops : (f : Result Fetching NoMemory) (o : Result Way NoMemory)
-      → TurnBy c work (fetch_told f) v w → IsWayOf again before after f o
+      → TurnBy c work (fetch_answer f) v w → IsWayOf again before after f o
       → OnErr o (TurnStops c work v w)
   way_stops (Ok (fetching.Order d)) (Ok way) by is = tt
   way_stops (Ok (fetching.Order d)) (Err g) by is = absurd is
   way_stops (Ok (fetching.Answer r)) (Ok way) by is = tt
   way_stops (Ok (fetching.Answer r)) (Err g) by is = absurd is
   way_stops (Err e) (Ok way) by is = absurd is
-  way_stops (Err e) (Err g) by is = turn_without c work e v w tt by
+  way_stops (Err e) (Err g) by is = turn_without c work e v w by
 
   no_way : (r : Reply) (way : Way) → IsWayBy again before after r way → HasWay way w
   no_way r (ways.Made o) is = absurd is
@@ -359,7 +337,7 @@ module _ (c : Config) (h : ℕ) (again before after : Bool) (v w : View) where
       (is.3 ∙ ap (λ (b : Bool). b || before) (sym (lack_brings r is.2)))
 
   pub way_found : (f : Result Fetching NoMemory) (o : Result Way NoMemory)
-      → TurnBy c work (fetch_told f) v w → IsPlainFetch f → IsWayOf again before after f o
+      → TurnBy c work (fetch_answer f) v w → IsPlainFetch f → IsWayOf again before after f o
       → IfOk o (λ way. GetsTurns (IsFound h way before after) v w)
   way_found (Ok (fetching.Order d)) (Ok way) by plain is =
       subst (λ (z : Way). GetsTurns (IsFound h z before after) v w) (sym is.0)

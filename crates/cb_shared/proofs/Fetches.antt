@@ -33,13 +33,13 @@ brought_more b [] ts = refl
 brought_more b (u ∷ us) ts = ap (λ (x : Bool). brings u.reply || x) (brought_more b us ts)
 
 -- behind turns that are done the first one has the job that it has without these
-job_more : (h : ℕ) (b : Bool) (us ts : List Turn) → AreDone h ts
+pub job_more : (h : ℕ) (b : Bool) (us ts : List Turn) → AreDone h ts
     → job_to_fetch h b us ≡ job_to_fetch h b (us ++ ts)
 job_more h true us ts done = refl
 job_more h false [] ts done = sym done
 job_more h false (u ∷ us) ts done = refl
 
-done_more : (h : ℕ) (us ts : List Turn) → AreDone h ts → AreDone h us → AreDone h (us ++ ts)
+pub done_more : (h : ℕ) (us ts : List Turn) → AreDone h ts → AreDone h us → AreDone h (us ++ ts)
 done_more h [] ts x y = x
 done_more h (u ∷ us) ts x y = y
 
@@ -52,7 +52,7 @@ fetches_more h b (u ∷ us) ts done x y = (
   fetches_more h b us ts done x.1 y,
 )
 
-turns_then : (ts us : List Turn) (v w u : View) → w.turns ≡ ts ++ v.turns → u.turns ≡ us ++ w.turns
+pub turns_then : (ts us : List Turn) (v w u : View) → w.turns ≡ ts ++ v.turns → u.turns ≡ us ++ w.turns
     → u.turns ≡ (us ++ ts) ++ v.turns
 turns_then ts us v w u got more =
     more ∙ ap (λ (xs : List Turn). us ++ xs) got ∙ sym (append_assoc us ts v.turns)

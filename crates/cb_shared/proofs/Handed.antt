@@ -22,6 +22,7 @@ use Rattle.cb_swapin.specs.declared.fetching.Fetching.{Fetching}
 use Rattle.cb_swapin.specs.declared.fetching.Fetching.TheVariants as fetching
 use Rattle.cb_swapin.specs.FetchStep.{fetching_order}
 use Rattle.cb_core.specs.OrderLeaves.{fetch_hands}
+use Rattle.cb_core.specs.Ordered.{fetch_answer, fetch_keeps, gather_answer, gather_keeps}
 use Rattle.cb_core.specs.OrderParts.{decode_in}
 use Rattle.cb_rule.specs.declared.view.View.{View}
 use Rattle.cb_rule.specs.Slot.{Sat}
@@ -32,8 +33,7 @@ use Rattle.cb_shared.specs.declared.asked.Asked.TheVariants as asks
 use Rattle.cb_shared.specs.declared.asked.Outcome.{Outcome}
 use Rattle.cb_shared.specs.declared.asked.Outcome.TheVariants as ends
 use Rattle.cb_shared.specs.Ordering.{CanRun, IsAnswered, IsFetched, IsGathered, IsInstalled}
-use Rattle.cb_shared.specs.Ordering.{IsLanded, IsNoWant, MayAsk, behind_fetch, behind_gather}
-use Rattle.cb_shared.specs.Ordering.{fetch_told, fetched_of, gather_told, job_of, order_run, told}
+use Rattle.cb_shared.specs.Ordering.{IsLanded, IsNoWant, MayAsk, fetched_of, job_of, order_run, told}
 use Rattle.cb_shared.specs.Seats.{SeatAt, record_at}
 use Rattle.cb_shared.specs.Turning.{answer_of, freed_of, object_of}
 use Rattle.cb_shared.specs.UnderLock.{FreedMoves, IsBelow, TurnedBy}
@@ -72,13 +72,13 @@ keeps_then c job r keeps v w t = ap (λ (x : View). x.order) t.left ∙ t.keeps_
 
 -- that is the order that was handed out
 pub gather_handed : (r : Result Gathered NoMemory) (order new : Option Kept)
-    → new ≡ behind_gather r order
+    → new ≡ gather_keeps order r
     → IfOk r (λ g. (o : EncodeOrder) → g ≡ gathered.Order o → new ≡ Some (Encode o))
 gather_handed (Ok g) order new is = λ o e. is ∙ ap (gathered_order order) e
 gather_handed (Err x) order new is = tt
 
 pub fetch_handed : (r : Result Fetching NoMemory) (order new : Option Kept)
-    → new ≡ behind_fetch r order
+    → new ≡ fetch_keeps order r
     → IfOk r (λ g. (o : DecodeOrder) → g ≡ fetching.Order o → new ≡ Some (Decode o))
 fetch_handed (Ok g) order new is = λ o e. is ∙ ap (fetching_order order) e
 fetch_handed (Err x) order new is = tt
@@ -109,11 +109,11 @@ pub tried_none : (far : FarState) (k : Asked) (o : Outcome) → IsAnswered k o
     → ((r : Result Reply NoMemory) → o ≡ ends.Land r → ⊥)
     → false ≡ is_to_try_again far (order_run k) (job_of k) (answer_of (told o))
 tried_none far asks.Gather (ends.Gather r) kind not =
-    no_want_tried far None jobs.Gather (gather_told r) kind.1
+    no_want_tried far None jobs.Gather (gather_answer r) kind.1
 tried_none far (asks.Install done) (ends.Install r) kind not =
     no_want_tried far (Some (Encode done.now.order)) jobs.Install (Ok r) kind
 tried_none far (asks.Fetch handle) (ends.Fetch r) kind not =
-    no_want_tried far None (jobs.Fetch handle) (fetch_told r) kind.1
+    no_want_tried far None (jobs.Fetch handle) (fetch_answer r) kind.1
 tried_none far (asks.Land done) (ends.Land r) kind not = absurd (not r refl)
 tried_none far k o kind not = absurd kind
 
@@ -173,7 +173,7 @@ land_frames o r is kind = subst IsLanded is kind
 
 -- an order that is handed out, and want of memory, are not Freed
 pub not_freed : (h : ℕ) (r : Result Fetching NoMemory)
-    → ((q : Reply) → r ≡ Ok (fetching.Answer q) → ⊥) → None ≡ fetched_of h (fetch_told r)
+    → ((q : Reply) → r ≡ Ok (fetching.Answer q) → ⊥) → None ≡ fetched_of h (fetch_answer r)
 not_freed h (Ok (fetching.Order o)) not = refl
 not_freed h (Ok (fetching.Answer q)) not = absurd (not q refl)
 not_freed h (Err e) not = refl

@@ -11,7 +11,6 @@ use Rattle.cb_types.specs.declared.reply.Reply.{Reply}
 use Rattle.cb_types.specs.declared.reply.Reply.TheVariants as reply
 use Rattle.cb_world.specs.declared.entry.Entry.{Entry}
 use Rattle.cb_world.specs.Written.{entry}
-use Rattle.cb_rule.specs.declared.turn.Turn.{Turn}
 use Rattle.cb_rule.specs.declared.view.Seen.{Seen}
 use Rattle.cb_rule.specs.declared.view.View.{View}
 use Rattle.cb_rule.specs.Lists.{Has}
@@ -23,7 +22,7 @@ use Rattle.cb_shared.specs.declared.answers.PinAnswer.TheVariants as pins
 use Rattle.cb_shared.specs.declared.answers.WriteAnswer.{WriteAnswer}
 use Rattle.cb_shared.specs.declared.answers.WriteAnswer.TheVariants as writes
 use Rattle.cb_shared.specs.declared.pass.Pin.{Pin}
-use Rattle.cb_shared.specs.Calls.{AtThis, LooksOf, ReadGives, ReadStops, StopsInVain, TurnGives}
+use Rattle.cb_shared.specs.Calls.{AtThis, LooksOf, ReadGives, ReadStops, StopsBy, TurnGives}
 use Rattle.cb_shared.specs.Calls.{TurnStops, WriteAnswers, WriteStops}
 use Rattle.cb_shared.specs.Ordering.{FetchFinds}
 use Rattle.cb_shared.specs.Passes.{IsPinOf}
@@ -31,6 +30,7 @@ use Rattle.cb_shared.specs.Pinning.{PinGives}
 use Rattle.cb_shared.specs.Seeking.{TurnFinds}
 use Rattle.cb_shared.specs.Turning.{TurnAdds, TurnBy, with_own}
 use Rattle.cb_shared.specs.Writing.{WriteGives}
+use Rattle.cb_shared.proofs.CallSteps.{stops_idle}
 
 -- what the record v knew the record w knows
 abbrev pub Keeps : View → View → Type 0
@@ -153,10 +153,10 @@ owns_keeps : (made : List ℕ) (d : Part) (v w : View) → w ≡ with_own made (
 owns_keeps made d v w g = subst (Keeps v) (sym g) (λ h x. part_keeps d v h x)
 
 -- nor where there was no memory
-stops_keep : (on : ℕ → Type 0) (vain want : Turn → Type 0) (v w : View)
-    → StopsInVain on vain want v w → Keeps v w
-stops_keep on vain want v w x h known = grows_keeps x.last x.between w x.left h
-    (grows_keeps x.tries.0 v x.between x.tries.2 h known)
+stops_keep : (c : Config) (on : ℕ → Type 0) (may : Job → Type 0) (v w : View)
+    → StopsBy c on may v w → Keeps v w
+stops_keep c on may v w x h known =
+    let idle = stops_idle c on may v w x in grows_keeps idle.0 v w idle.2 h known
 
 -- a turn, and looks behind one
 pub turned_keeps : (c : Config) (job : Job) (r : Result Reply NoMemory) (v w : View)
@@ -172,25 +172,25 @@ pub turn_keeps : (c : Config) (job : Job) (r : Result Reply NoMemory) (v w : Vie
     → TurnFinds c job r v w → Keeps v w
 turn_keeps c job r v w (m, t, (d, grew, finds)) = looked_keeps c job r v m w d t grew
 
-pub fetch_keeps : (c : Config) (h : ℕ) (job : Job) (r : Result Reply NoMemory) (v w : View)
-    → FetchFinds c h job r v w → Keeps v w
-fetch_keeps c h job r v w (m, t, (d, grew, finds)) = looked_keeps c job r v m w d t grew
+pub fetch_keeps : (c : Config) (h : Handle) (r : Result Reply NoMemory) (v w : View)
+    → FetchFinds c h r v w → Keeps v w
+fetch_keeps c h r v w (m, t, (d, grew, finds)) = looked_keeps c _ r v m w d t grew
 
 pub read_keeps : (c : Config) (h : ℕ) (r : Result Reply NoMemory) (v w : View)
     → IfOk r (λ x. ReadGives c h x v w) → OnErr r (ReadStops c h v w) → Keeps v w
 read_keeps c h (Ok x) v w a b = grows_keeps a.0 v w a.2
-read_keeps c h (Err e) v w a b = stops_keep (AtThis h) _ _ v w b
+read_keeps c h (Err e) v w a b = stops_keep c (AtThis h) _ v w b
 
 pub call_keeps : (c : Config) (h at : ℕ) (bytes : List ℕ) (r : Result Reply NoMemory) (v w : View)
     → IfOk r (λ x. WriteAnswers c h at bytes x v w) → OnErr r (WriteStops c h at bytes v w)
     → Keeps v w
 call_keeps c h at bytes (Ok x) v w a b = grows_keeps a.0 v w a.2
-call_keeps c h at bytes (Err e) v w a b = stops_keep (AtThis h) _ _ v w b
+call_keeps c h at bytes (Err e) v w a b = stops_keep c (AtThis h) _ v w b
 
 pub turns_keep : (c : Config) (job : Job) (r : Result Reply NoMemory) (v w : View)
     → IfOk r (λ x. TurnGives c job x v w) → OnErr r (TurnStops c job v w) → Keeps v w
 turns_keep c job (Ok x) v w a b = owns_keeps _ a.0 v w a.2
-turns_keep c job (Err e) v w a b = stops_keep (LooksOf job) _ _ v w b
+turns_keep c job (Err e) v w a b = stops_keep c (LooksOf job) _ v w b
 
 -- ---- an object that was made
 makes_known : (h : ℕ) (made : List ℕ) (d : Part) (e : Entry) (v w : View) → Has e d.written

@@ -1,10 +1,14 @@
 -- The lemmas of this crate that other crates cite.
 pub use Rattle.cb_shared.proofs.AskedAlone.{asked_alone}
-pub use Rattle.cb_shared.proofs.CallSteps.{brings_lacks, ends_then, known_grown, known_still}
-pub use Rattle.cb_shared.proofs.CallSteps.{look_stops, look_tries, one_of_three, part_again}
-pub use Rattle.cb_shared.proofs.CallSteps.{read_lacks, so_far, stops_then}
+pub use Rattle.cb_shared.proofs.AskedTurns.{OwnOrLack, brings_idly, brings_lack, brings_none}
+pub use Rattle.cb_shared.proofs.AskedTurns.{by_read, by_write, each_brings, of_read, of_write}
+pub use Rattle.cb_shared.proofs.AskedTurns.{read_own, write_own, write_told}
+pub use Rattle.cb_shared.proofs.CallSteps.{GoesIdly, brings_lacks, ends_then, known_grown}
+pub use Rattle.cb_shared.proofs.CallSteps.{known_still, look_stops, look_tries, one_of_three}
+pub use Rattle.cb_shared.proofs.CallSteps.{part_again, read_lacks, so_far, stops_at_once}
+pub use Rattle.cb_shared.proofs.CallSteps.{stops_by_turn, stops_here, stops_idle, stops_then}
 pub use Rattle.cb_shared.proofs.CallSteps.{stops_wider, tries_then, tries_wider, turn_ends}
-pub use Rattle.cb_shared.proofs.CallSteps.{turn_in_vain, turn_without, vain_look}
+pub use Rattle.cb_shared.proofs.CallSteps.{turn_idle, turn_in_vain, turn_without, vain_look}
 pub use Rattle.cb_shared.proofs.FarSteps.{LooksFar, far_at_last, far_stops, far_tries}
 pub use Rattle.cb_shared.proofs.DidAlone.{did_alone, turn_alone, turn_keeps_order}
 pub use Rattle.cb_shared.proofs.Known.{Keeps, call_keeps, call_made, fetch_keeps, join_keeps}

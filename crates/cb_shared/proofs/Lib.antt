@@ -35,10 +35,11 @@ mod ReadKept
 mod Glanced
 mod Seeking
 mod CallSteps
+mod AskedTurns
 mod FarSteps
 mod Fetches
 mod WriteParts
-mod Landings
+mod WriteTurns
 mod WorkedGround
 mod WorkedRights
 mod WorkedPins

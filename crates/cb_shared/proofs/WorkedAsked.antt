@@ -374,7 +374,7 @@ looks_not : fetched_of 5 (Ok answer.Moving) ≡ None
 looks_not = refl
 
 abbrev Fetches : Reply → View → Type 0
-Fetches r w = FetchFinds two 1 (jobs.Fetch (the_handle 1)) (Ok r) part w
+Fetches r w = FetchFinds two (the_handle 1) (Ok r) part w
 
 -- object 1 is still known behind such a turn
 knows_still : (d : Part) (m : View) → m ≡ grown d part → Knows 1 m

@@ -1,7 +1,7 @@
 -- Worked steps: what each step of a pin and of a write comes to, and what breaks one of its parts
 -- alone.
 use Rattle.std.proofs.Common.{◌≡◌, ℕ, suc, ◌+◌, ◌-◌, ◌^◌, ◌<◌, ◌≤◌, false, List, [], ◌∷◌, length}
-use Rattle.std.proofs.Common.{refl, sym, ap, ◌∙◌, subst, inl, ⊎_elim, true≢false, lit<, lit≤, arith}
+use Rattle.std.proofs.Common.{refl, sym, ap, ◌∙◌, subst, inl, inr, ⊎_elim, true≢false, lit<, lit≤, arith}
 use Rattle.std.proofs.lemmas.Bool.{eqb-false}
 use mathlib.Core.Option.{none}
 use Rattle.atomic_table.specs.Seated.{TableId}
@@ -29,7 +29,8 @@ use Rattle.cb_shared.specs.Claims.{ClaimsHere, HoldsOnly, with_only}
 use Rattle.cb_shared.specs.Glances.{Glances, TakesPinAt, TellsVersion}
 use Rattle.cb_shared.specs.Pinning.{IsPinnedAt, IsRefusal, PinAt}
 use Rattle.cb_shared.specs.Seats.{HoldsLock, IsOf, Moves, SeatAt, record_at}
-use Rattle.cb_shared.specs.Writing.{IsWriteRefusal, IsWrittenAt, WriteAt, WriteClaimed, last_seen}
+use Rattle.cb_shared.specs.Writing.{IsWriteRefusal, IsWrittenAt, WriteAt, WriteClaimed, WriteFrom}
+use Rattle.cb_shared.specs.Writing.{last_seen}
 use Rattle.cb_shared.proofs.WorkedGround.{a_pin, a_stand, away, calm, freed_last, full, has_last}
 use Rattle.cb_shared.proofs.WorkedGround.{last_is_freed, last_look, moving, newest_later}
 use Rattle.cb_shared.proofs.WorkedGround.{newest_made, not_second, part, part_pinned, pinned}
@@ -203,6 +204,35 @@ write_saw_another g = eqb-false moving calm refl (g.0)
 write_found_the_same : WriteAt 1 calm 1 (12 ∷ []) (writes.Raced calm calm) part
     (with_look 1 calm part) → ⊥
 write_found_the_same g = g.1 refl
+
+-- ---- any write from a word: one that is refused does nothing; one that claims the object has room
+-- and finds no pins
+from_refused : WriteFrom 1 away 1 (12 ∷ []) writes.NotHere part part
+from_refused = inl (refl, refl)
+
+from_refused_and_looked : WriteFrom 1 away 1 (12 ∷ []) writes.NotHere part (with_look 1 away part)
+    → ⊥
+from_refused_and_looked (inl x) = eqb-false 1 0 refl (ap looks_of x.1)
+from_refused_and_looked (inr x) = x.2
+
+from_refused_for_another : WriteFrom 1 calm 1 (12 ∷ []) writes.NotHere part part → ⊥
+from_refused_for_another (inl x) = eqb-false 2 1 refl (ap state_number x.0)
+from_refused_for_another (inr x) = x.2
+
+from_claimed : WriteFrom 1 calm 1 (12 ∷ []) (writes.Ok 4) part (changed calm 4 (3082 ∷ []) part)
+from_claimed = inr ((refl, lit≤ tt), refl, by_write)
+
+from_past_the_end : (w : View) → WriteFrom 1 calm 8 (12 ∷ []) (writes.Ok 4) part w → ⊥
+from_past_the_end w (inl x) = x.0
+from_past_the_end w (inr x) = let l : 9 ≤ 8 = x.0.1 in omega (arith, l)
+
+from_pinned : (w : View) → WriteFrom 1 pinned 1 (12 ∷ []) (writes.Ok 4) part w → ⊥
+from_pinned w (inl x) = x.0
+from_pinned w (inr x) = eqb-false 1 0 refl x.1
+
+from_unclaimed : WriteFrom 1 calm 1 (12 ∷ []) (writes.Ok 4) part part → ⊥
+from_unclaimed (inl x) = x.0
+from_unclaimed (inr x) = eqb-false 0 1 refl (ap looks_of x.2.left)
 
 write_not_looked : WriteAt 1 calm 1 (12 ∷ []) (writes.Raced calm moving) part part → ⊥
 write_not_looked g = eqb-false 0 1 refl (ap looks_of g.2)

@@ -1,8 +1,9 @@
 -- Worked turns: what meets each definition, and what breaks one of its parts alone.
 use Rattle.std.proofs.Common.{◌≡◌, ℕ, ◌+◌, ◌^◌, ◌≤◌, true, false, List, [], ◌∷◌, ◌++◌, length}
-use Rattle.std.proofs.Common.{replicate, Option, None, Some, Ok, refl, sym, ap, ◌∙◌, subst, inl}
-use Rattle.std.proofs.Common.{inr, lit≤, arith}
+use Rattle.std.proofs.Common.{replicate, Option, None, Some, Ok, Err, refl, sym, ap, ◌∙◌, subst}
+use Rattle.std.proofs.Common.{inl, inr, lit<, lit≤, arith}
 use Rattle.std.proofs.lemmas.Bool.{eqb-false}
+use Rattle.cb_member.specs.declared.no_memory.NoMemory.{NoMemory}
 use Rattle.cb_ptr.specs.Word.{state_number, state_of}
 use Rattle.cb_types.specs.declared.handle.Handle.{Handle}
 use Rattle.cb_types.specs.declared.job.Job.{Job}
@@ -18,7 +19,7 @@ use Rattle.cb_world.specs.declared.shown.Shown.{Shown}
 use Rattle.cb_world.specs.Empty.{empty_far, empty_shown}
 use Rattle.cb_world.specs.FarState.{FarState}
 use Rattle.cb_world.specs.Shown.{version_at}
-use Rattle.cb_core.specs.Turned.{done, worn}
+use Rattle.cb_core.specs.Turned.{counted, done, worn}
 use Rattle.cb_core.specs.TurnLeaves.{OutcomeWrites}
 use Rattle.cb_rule.specs.declared.turn.Turn.{Turn}
 use Rattle.cb_rule.specs.declared.view.Look.{Look}
@@ -486,6 +487,48 @@ adds_worn j v wrote reads knows notes none = record {
   made = λ h known. was_made h (knows h known);
   tells = worn_tells j;
   reads = reads;
+  finds = refl;
+  part = refl;
+}
+
+-- ---- a turn of the job Read that found no memory, and did its job up to there: it is counted
+abbrev begun_far : FarState
+begun_far = empty_far 3 two
+
+abbrev pub lacking : Turn
+lacking = record (worn_turn (job.Read one)) {
+  reply = None;
+  took = begun_far;
+  gave = counted begun_far (job.Read one);
+}
+
+abbrev pub lacking_part : Part
+lacking_part = turn_part lacking [] nothing_more nothing_more
+
+pub noted_lacking : NotesWritten lacking [] part
+noted_lacking = record { had = refl; left = refl; old = refl; ended = refl }
+
+pub adds_lacking : (e : NoMemory) (v : View) → Did two lacking → ((h : ℕ) → Knows h v → 1 ≡ h)
+    → NotesWritten lacking [] v → v.order ≡ None
+    → TurnAdds two (job.Read one) (Err e) v lacking_part
+adds_lacking e v did knows notes kept = record {
+  turn = lacking;
+  more = [];
+  within = nothing_more;
+  later = nothing_more;
+  job_is = refl;
+  reply_is = refl;
+  before = sym kept;
+  agree = tt;
+  did = did;
+  next = inl (lit< tt, refl);
+  wrote = refl;
+  notes = notes;
+  new = tt;
+  pins = tt;
+  made = λ h known. was_made h (knows h known);
+  tells = tt;
+  reads = inl (refl, tt);
   finds = refl;
   part = refl;
 }

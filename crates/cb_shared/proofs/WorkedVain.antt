@@ -1,11 +1,12 @@
 -- Worked tries in vain, and reads by turns: what meets each definition, and what breaks one of its
 -- parts alone.
-use Rattle.std.proofs.Common.{◌≡◌, ℕ, true, false, List, [], ◌∷◌, ◌++◌, length, length-append, None}
-use Rattle.std.proofs.Common.{Some, Option, Ok, refl, sym, ap, ◌∙◌, ◌+◌, ◌≤◌, subst, inl, inr}
-use Rattle.std.proofs.Common.{lit≤, arith}
+use Rattle.std.proofs.Common.{◌≡◌, ℕ, true, false, List, [], ◌∷◌, ◌++◌, length, None}
+use Rattle.std.proofs.Common.{Some, Option, Ok, refl, sym, ap, ◌∙◌, ◌⊎◌, ◌+◌, subst, inl, inr}
+use Rattle.std.proofs.Common.{arith}
 use Rattle.std.proofs.lemmas.Bool.{eqb-false}
 use Rattle.std.proofs.lemmas.Option.{none-some, same_Some}
 use Rattle.cb_ptr.specs.Word.{state_number}
+use Rattle.cb_member.specs.declared.no_memory.NoMemory.{NoMemory}
 use Rattle.cb_types.specs.declared.config.Config.{Config}
 use Rattle.cb_types.specs.declared.job.Job.{Job}
 use Rattle.cb_types.specs.declared.job.Job.TheVariants as jobs
@@ -19,18 +20,19 @@ use Rattle.cb_rule.specs.Lists.{Each}
 use Rattle.cb_rule.specs.Steps.{Knows}
 use Rattle.cb_record.specs.Parts.{Part, grown, nothing_more, sum}
 use Rattle.cb_shared.specs.Calls.{AnswersBy, AsksFor, AtNone, AtThis, Brings, FoundFar, IsAnswerTo}
-use Rattle.cb_shared.specs.Calls.{IsForWant, IsInVain, IsReadJob, IsUnanswered, IsWriteJob}
-use Rattle.cb_shared.specs.Calls.{IsWriteJobAt, LooksOf, OfThis, ReadCallEnds, ReadStops}
-use Rattle.cb_shared.specs.Calls.{ReadsInPlace, StopsBy, StopsInVain, TellsWhatIs, TriesBy}
-use Rattle.cb_shared.specs.Calls.{the_handle}
+use Rattle.cb_shared.specs.Calls.{IsInVain, IsReadJob, IsUnanswered, IsWriteJob, LooksOf, OfThis}
+use Rattle.cb_shared.specs.Calls.{ReadCallEnds, ReadStops, ReadsInPlace, StopsBy, TellsWhatIs}
+use Rattle.cb_shared.specs.Calls.{TriesBy, TurnLacks, the_handle}
 use Rattle.cb_shared.specs.Reading.{looked, looked_freed}
 use Rattle.cb_shared.specs.Trying.{again_in}
-use Rattle.cb_shared.specs.Turning.{NotesWritten, TurnAdds}
-use Rattle.cb_shared.proofs.CallSteps.{brings_lacks, read_lacks}
+use Rattle.cb_shared.specs.Turning.{Did, NotesWritten, TurnAdds}
+use Rattle.cb_shared.proofs.CallSteps.{brings_lacks, read_lacks, vain_none}
+use Rattle.cb_shared.proofs.DidAlone.{turn_alone}
 use Rattle.cb_shared.proofs.ReadParts.{grown_nothing}
 use Rattle.cb_shared.proofs.WorkedGround.{away, knows_made, moving, newest_made, part, two}
 use Rattle.cb_shared.proofs.WorkedCalls.{in_vain}
-use Rattle.cb_shared.proofs.WorkedTurns.{adds_worn, worn_part, worn_turn}
+use Rattle.cb_shared.proofs.WorkedTurns.{adds_lacking, adds_worn, lacking, lacking_part}
+use Rattle.cb_shared.proofs.WorkedTurns.{noted_lacking, worn_part, worn_turn}
 
 abbrev pub swap : Job
 swap = jobs.Swap (the_handle 1)
@@ -126,23 +128,6 @@ a_write_swaps (inl e) = eqb-false 4 2 refl (ap job_index e)
 a_write_swaps (inr (inl e)) = eqb-false 4 21 refl (ap job_index e)
 a_write_swaps (inr (inr e)) = eqb-false 4 22 refl (ap job_index e)
 
--- an object of eight bytes has no ninth
-lands_the_last : IsWriteJobAt 1 7 (12 ∷ []) away jobs.Land
-lands_the_last = inr (inr (refl, lit≤ tt))
-
-lands_past_the_end : IsWriteJobAt 1 8 (12 ∷ []) away jobs.Land → ⊥
-lands_past_the_end (inl e) = eqb-false 22 2 refl (ap job_index e)
-lands_past_the_end (inr (inl e)) = eqb-false 22 21 refl (ap job_index e)
-lands_past_the_end (inr (inr x)) = let e : 9 ≤ 8 = x.1 in omega (arith, e)
-
-tells_past_the_end : IsWriteJobAt 1 8 (12 ∷ []) away (jobs.Write (the_handle 1) 8 (12 ∷ []))
-tells_past_the_end = inl refl
-
-swaps_for_a_write : IsWriteJobAt 1 7 (12 ∷ []) away swap → ⊥
-swaps_for_a_write (inl e) = eqb-false 4 2 refl (ap job_index e)
-swaps_for_a_write (inr (inl e)) = eqb-false 4 21 refl (ap job_index e)
-swaps_for_a_write (inr (inr x)) = eqb-false 4 22 refl (ap job_index x.0)
-
 -- a read looks at its object
 looks_at_it : LooksOf read 1
 looks_at_it = refl
@@ -187,42 +172,24 @@ read_of_another : IsUnanswered (IsReadJob 1) (told (jobs.Read (the_handle 0)) (S
     → ⊥
 read_of_another (of, x) = another_object of
 
--- ---- a turn that found no memory
-found_none : IsForWant (OfThis swap) (told swap None)
-found_none = (refl, refl)
+-- ---- a call that stopped for want of memory: a look that found the object moving, then a turn Read
+-- that found none; such a look alone; and one that found none to make the row
+read_lacked : (e : NoMemory) → Did two lacking → TurnLacks two read part (grown lacking_part part)
+read_lacked e did =
+    (e, (lacking_part, adds_lacking e part did knows_made noted_lacking refl, refl))
 
-found_some : IsForWant (OfThis swap) (worn_turn swap) → ⊥
-found_some (e, is) = none-some _ (sym is)
-
-for_another : IsForWant (OfThis swap) (told jobs.Evict None) → ⊥
-for_another (e, is) = eqb-false 9 1 refl (ap number e)
-
-a_read_found_none : IsForWant (IsReadJob 1) (told read None)
-a_read_found_none = (inr refl, refl)
-
-a_read_of_another_found_none : IsForWant (IsReadJob 1) (told (jobs.Read (the_handle 0)) None) → ⊥
-a_read_of_another_found_none (of, is) = another_object of
-
--- ---- a read that stopped for want of memory: a look that found the object moving, then a turn Fetch
--- that found none; and one that found none to make the row
-wants : IsInVain (AtThis 1) (IsForWant (IsReadJob 1)) (turned (told fetch None))
-wants = record {
-  looks = [];
-  turns = told fetch None ∷ [];
-  at = tt;
-  of = ((inl (inr (inl refl)), refl), tt);
-  idle = (refl, tt);
-  part = refl;
+stops : (e : NoMemory) → Did two lacking → ReadStops two 1 part (grown lacking_part part)
+stops e did = record {
+  between = part;
+  tries = (nothing_more, vain_none (AtThis 1) (IsUnanswered (IsReadJob 1)), grown_nothing part);
+  lacks = inr (read, inr refl, read_lacked e did);
 }
 
-stops : ReadStops two 1 part (grown (turned (told fetch None)) (grown (looked 1 moving) part))
-stops = record {
+stops_at_a_look : ReadStops two 1 part (grown (looked 1 moving) part)
+stops_at_a_look = record {
   between = grown (looked 1 moving) part;
-  last = turned (told fetch None);
   tries = (looked 1 moving, in_vain, refl);
-  lacks = wants;
-  one = lit≤ tt;
-  left = refl;
+  lacks = inl refl;
 }
 
 abbrev fetched : Turn
@@ -238,52 +205,69 @@ a_fetch = record {
   part = refl;
 }
 
-stops_before_its_row : StopsBy AtNone (Brings 1) part (grown (turned fetched) part)
-stops_before_its_row =
-    let none : IsInVain AtNone (IsForWant (Brings 1)) nothing_more =
-    record { looks = []; turns = []; at = tt; of = tt; idle = tt; part = refl } in record {
-      between = grown (turned fetched) part;
-      last = nothing_more;
-      tries = (turned fetched, a_fetch, refl);
-      lacks = none;
-      one = lit≤ tt;
-      left = grown_nothing (grown (turned fetched) part);
-    }
+stops_before_its_row : StopsBy two AtNone (Brings 1) part (grown (turned fetched) part)
+stops_before_its_row = record {
+  between = grown (turned fetched) part;
+  tries = (turned fetched, a_fetch, refl);
+  lacks = inl refl;
+}
 
-stops_by_another_job : (x : StopsBy AtNone (Brings 1) part
+-- what the last turn was, where there is one behind no tries
+module _ (on : ℕ → Type 0) (may : Job → Type 0) (t : Turn)
+    (x : StopsBy two on may part (grown (turned t) part)) (is : x.between ≡ part) where
+  abbrev first : List Turn → Turn
+  first [] = t
+  first (u ∷ us) = u
+
+  last_turn : (job : Job) × may job × (t.job ≡ job) × (t.reply ≡ None) × Did two t
+  last_turn = by_turn x.lacks
+    where
+      by_turn : (grown (turned t) part ≡ x.between)
+          ⊎ ((job : Job) × may job × TurnLacks two job x.between (grown (turned t) part))
+          → (job : Job) × may job × (t.job ≡ job) × (t.reply ≡ None) × Did two t
+      by_turn (inl same) =
+          absurd (eqb-false 1 0 refl (ap (λ (v : View). length v.turns) (same ∙ is)))
+      by_turn (inr (job, of, (e, (d, a, left)))) =
+          let same : t ≡ a.turn = ap (λ (v : View). first v.turns) left
+          ∙ ap (λ (p : Part). first (p.turns ++ x.between.turns)) a.part in (
+            job,
+            of,
+            ap (λ (u : Turn). u.job) same ∙ a.job_is,
+            ap (λ (u : Turn). u.reply) same ∙ a.reply_is,
+            subst (Did two) (sym same) a.did,
+          )
+
+-- it is by another job; it was answered; and it is told nothing where its job has it refused for its
+-- number
+stops_by_another_job : (x : StopsBy two AtNone (OfThis swap) part
     (grown (turned (told jobs.Evict None)) part)) → x.between ≡ part → ⊥
-stops_by_another_job x is = no_job x.last.turns
-    (ap (λ (v : View). x.last.turns ++ v.turns) (sym is) ∙ sym (ap (λ (v : View). v.turns) x.left))
-    (subst (Each (IsForWant (Brings 1))) (sym (ap (λ (d : Part). d.turns) x.lacks.part)) x.lacks.of)
-  where
-    not_evict : Brings 1 jobs.Evict → ⊥
-    not_evict b = another_job (inl b)
+stops_by_another_job x is = let l = last_turn AtNone (OfThis swap) (told jobs.Evict None) x is in
+    eqb-false 6 4 refl (ap job_index (l.2 ∙ l.1))
 
-    no_job : (ts : List Turn) → ts ++ [] ≡ told jobs.Evict None ∷ [] → Each (IsForWant (Brings 1)) ts
-        → ⊥
-    no_job [] e each = eqb-false 0 1 refl (ap (λ (l : List Turn). length l) e)
-    no_job (t ∷ ts) e each = not_evict (subst (Brings 1) (ap first e) each.0.0)
-      where
-        first : List Turn → Job
-        first [] = swap
-        first (u ∷ us) = u.job
+stops_answered : (x : StopsBy two AtNone (OfThis swap) part (grown (turned (worn_turn swap)) part))
+    → x.between ≡ part → ⊥
+stops_answered x is = none-some _ (sym (last_turn AtNone (OfThis swap) (worn_turn swap) x is).3)
 
--- two turns that found none; one that was answered; and an entry that was written
-abbrev turns_more : View → ℕ
-turns_more v = length v.turns
+stops_past_its_job : (x : StopsBy two AtNone (OfThis swap) part
+    (grown (turned (told swap None)) part)) → x.between ≡ part → ⊥
+stops_past_its_job x is = let l = last_turn AtNone (OfThis swap) (told swap None) x is in
+    let s = turn_alone two (told swap None) tt l.4 in let few = s.few in omega (arith, few)
 
-stops_twice : (x : StopsInVain (AtThis 1) (IsUnanswered (IsReadJob 1)) (IsForWant (IsReadJob 1)) part
+-- by two turns
+stops_twice : (x : StopsBy two (AtThis 1) (IsReadJob 1) part
     (grown (turned (told swap None)) (grown (turned (told swap None)) part)))
     → x.between ≡ part → ⊥
-stops_twice x is = let one = x.one in
-    let e : 2 ≡ length (x.last.turns ++ []) =
-    ap (λ (v : View). length v.turns) x.left
-    ∙ ap (λ (v : View). length (x.last.turns ++ v.turns)) is in
-    omega (arith, one, e, length-append x.last.turns [])
-
-abbrev newest_reply : List Turn → Option Reply
-newest_reply [] = None
-newest_reply (t ∷ ts) = t.reply
+stops_twice x is = two_turns x.lacks
+  where
+    two_turns : (grown (turned (told swap None)) (grown (turned (told swap None)) part) ≡ x.between)
+        ⊎ ((job : Job) × IsReadJob 1 job × TurnLacks two job x.between
+        (grown (turned (told swap None)) (grown (turned (told swap None)) part))) → ⊥
+    two_turns (inl same) =
+        eqb-false 2 0 refl (ap (λ (v : View). length v.turns) (same ∙ is))
+    two_turns (inr (job, of, (e, (d, a, left)))) = eqb-false 2 1 refl
+        (ap (λ (v : View). length v.turns) left
+        ∙ ap (λ (p : Part). length (p.turns ++ x.between.turns)) a.part
+        ∙ ap (λ (v : View). length (a.turn ∷ v.turns)) is)
 
 -- ---- a read in place
 reads_freed : ReadsInPlace 1 answer.Freed part (looked_freed 1 3 0)

@@ -1,7 +1,7 @@
 -- Worked turns that bring a far object in: what meets each definition, and what breaks one of its
 -- parts alone.
-use Rattle.std.proofs.Common.{◌≡◌, ℕ, zero, suc, ◌<◌, true, false, List, [], ◌∷◌, length, get_or}
-use Rattle.std.proofs.Common.{Option, None, Some, Ok, Err, refl, sym, ap, ◌∙◌, subst, inl, inr, lit≤, arith}
+use Rattle.std.proofs.Common.{◌≡◌, ℕ, zero, suc, ◌<◌, true, false, List, [], ◌∷◌, ◌++◌, length, get_or}
+use Rattle.std.proofs.Common.{Option, None, Some, Ok, Err, refl, sym, ap, ◌∙◌, subst, inl, inr, lit<, lit≤, arith}
 use Rattle.std.proofs.lemmas.Bool.{eqb-false, false≢true}
 use Rattle.cb_member.specs.declared.no_memory.NoMemory.{NoMemory}
 use Rattle.cb_types.specs.declared.job.Job.{Job}
@@ -17,17 +17,15 @@ use Rattle.cb_types.specs.Orders.{IsDecodable}
 use Rattle.cb_ptr.specs.Word.{state_number}
 use Rattle.cb_swapin.specs.declared.fetching.Fetching.TheVariants as fetching
 use Rattle.cb_rule.specs.declared.turn.Turn.{Turn}
+use Rattle.cb_rule.specs.declared.view.Look.{Look}
 use Rattle.cb_rule.specs.declared.view.View.{View}
 use Rattle.cb_rule.specs.Steps.{look_at, with_look}
-use Rattle.cb_record.specs.Lists.{HasOne}
-use Rattle.cb_record.specs.Parts.{Part, grown, nothing_more}
 use Rattle.cb_shared.specs.declared.ways.Way.TheVariants as ways
-use Rattle.cb_shared.specs.Calls.{FoundInside, LandsInside}
-use Rattle.cb_shared.specs.Fetching.{AreBringingTo, AreDone, AreFetches, AreFetchesTo, GetsTurns}
-use Rattle.cb_shared.specs.Fetching.{IsOneAtMost, IsOneMore, brought_in_by, job_behind}
-use Rattle.cb_shared.specs.Fetching.{job_to_fetch}
+use Rattle.cb_shared.specs.Fetching.{AreBringingTo, AreDone, AreFetches, AreFetchesTo, AreWrites}
+use Rattle.cb_shared.specs.Fetching.{AreWritesOn, FoundInside, FoundPast, GetsBoth, GetsTurns}
+use Rattle.cb_shared.specs.Fetching.{GoAsWrite, GoesOnAsWrite, IsOneAtMost, IsOneMore, IsWriteFor}
+use Rattle.cb_shared.specs.Fetching.{brought_in_by, job_behind, job_to_fetch}
 use Rattle.cb_shared.specs.Ordering.{CanRun}
-use Rattle.cb_shared.specs.Reading.{looked}
 use Rattle.cb_shared.specs.Ways.{HasWay, IsFound, IsWayBy, IsWayOf, IsWayTold, way_told}
 use Rattle.cb_shared.specs.Writing.{FoundFarAs}
 use Rattle.cb_shared.proofs.WorkedGround.{away, calm, moving, part}
@@ -309,36 +307,131 @@ direct_looks_again x = x.0 refl
 made_without_an_order : IsWayBy false true true answer.Direct (ways.Made (order 2)) → ⊥
 made_without_an_order x = x
 
--- ---- a row is landed for a write that lies inside of the object
-abbrev lands_it : Part
-lands_it = record nothing_more { looks = look_at 1 away ∷ []; turns = landed ∷ fetched ∷ [] }
+-- ---- the turns of a write, by those of a read: where a read swaps in, where it lands and else
+abbrev own : ℕ → Job
+own at = jobs.Write (record { n = 1 }) at (12 ∷ [])
 
+abbrev yes : Type 0
+yes = Unit {0}
+
+swaps_by_its_own : IsWriteFor (own 7) yes ⊥ swap (own 7)
+swaps_by_its_own = refl
+
+swaps_as_a_read : IsWriteFor (own 7) yes yes swap swap → ⊥
+swaps_as_a_read e = eqb-false 4 2 refl (ap job_index e)
+
+lands_or_tells : IsWriteFor (own 7) yes ⊥ jobs.Land jobs.Land
+    × IsWriteFor (own 7) ⊥ yes jobs.Land (own 7)
+lands_or_tells = (inl (refl, tt), inr (refl, tt))
+
+lands_past_the_end : IsWriteFor (own 8) ⊥ yes jobs.Land jobs.Land → ⊥
+lands_past_the_end (inl x) = x.1
+lands_past_the_end (inr x) = eqb-false 22 2 refl (ap job_index x.0)
+
+writes_what_is_lost : IsWriteFor (own 7) yes ⊥ jobs.Land (own 7) → ⊥
+writes_what_is_lost (inl x) = eqb-false 2 22 refl (ap job_index x.0)
+writes_what_is_lost (inr x) = x.1
+
+fetches_as_a_read : IsWriteFor (own 7) ⊥ ⊥ fetch fetch
+fetches_as_a_read = refl
+
+writes_in_place_of_a_fetch : IsWriteFor (own 7) yes yes fetch (own 7) → ⊥
+writes_in_place_of_a_fetch e = eqb-false 2 21 refl (ap job_index e)
+
+-- ---- one after the other
+abbrev wrote : ℕ → Turn
+wrote at = told (own at) (Some (answer.Version 9))
+
+goes_direct : GoAsWrite 1 (own 7) ⊥ ⊥ (wrote 7 ∷ direct ∷ [])
+goes_direct = (refl, (refl, tt))
+
+lands_and_goes_on : GoAsWrite 1 (own 7) yes ⊥ (fetched ∷ landed ∷ fetched ∷ [])
+lands_and_goes_on = (refl, (inl (refl, tt), (refl, tt)))
+
+writes_at_once : GoAsWrite 1 (own 7) yes yes (wrote 7 ∷ []) → ⊥
+writes_at_once x = eqb-false 2 21 refl (ap job_index x.0)
+
+swaps_it_in : GoAsWrite 1 (own 7) yes yes (swapped ∷ direct ∷ []) → ⊥
+swaps_it_in x = eqb-false 4 2 refl (ap job_index x.0)
+
+writes_behind_a_swap : GoAsWrite 1 (own 7) yes yes (wrote 7 ∷ swapped ∷ direct ∷ []) → ⊥
+writes_behind_a_swap x = eqb-false 2 21 refl (ap job_index x.0)
+
+lands_twice : GoAsWrite 1 (own 7) yes yes (landed ∷ landed ∷ fetched ∷ []) → ⊥
+lands_twice x = eqb-false 22 21 refl (ap job_index x.0)
+
+begins_by_its_own : GoAsWrite 1 (own 7) yes yes (fetched ∷ wrote 7 ∷ []) → ⊥
+begins_by_its_own x = eqb-false 2 21 refl (ap job_index x.1.0)
+
+goes_on : GoesOnAsWrite 1 (own 7) yes ⊥ (landed ∷ fetched ∷ [])
+goes_on = ((inl (refl, tt), (refl, tt)), refl)
+
+goes_on_with_a_row : GoesOnAsWrite 1 (own 7) yes ⊥ (fetched ∷ []) → ⊥
+goes_on_with_a_row x = left_to_land x.1
+
+goes_on_by_a_swap : GoesOnAsWrite 1 (own 7) yes ⊥ (swapped ∷ []) → ⊥
+goes_on_by_a_swap x = eqb-false 4 21 refl (ap job_index x.0.0)
+
+-- ---- by its looks: an object of eight bytes has no ninth
 found_inside : FoundInside 1 7 1 (look_at 1 away)
 found_inside = (refl, refl, lit≤ tt)
 
-found_past_the_end : FoundInside 1 8 1 (look_at 1 away) → ⊥
-found_past_the_end x = let l = x.2 in omega (arith, l)
+not_inside : FoundInside 1 8 1 (look_at 1 away) → ⊥
+not_inside x = let l = x.2 in omega (arith, l)
 
-found_of_another : FoundInside 0 7 1 (look_at 1 away) → ⊥
-found_of_another x = eqb-false 1 0 refl x.0
+inside_another : FoundInside 0 7 1 (look_at 1 away) → ⊥
+inside_another x = eqb-false 1 0 refl x.0
 
-found_here : FoundInside 1 7 1 (look_at 1 calm) → ⊥
-found_here x = eqb-false 2 1 refl (ap state_number x.1)
+inside_here : FoundInside 1 7 1 (look_at 1 calm) → ⊥
+inside_here x = eqb-false 2 1 refl (ap state_number x.1)
 
-lands_inside : LandsInside 1 7 1 part (grown lands_it part)
-lands_inside = (lands_it, refl, λ has. inl found_inside)
+found_past : FoundPast 1 8 1 (look_at 1 away)
+found_past = (refl, refl, lit< tt)
 
-lands_none : LandsInside 1 8 1 part (grown (looked 1 away) part)
-lands_none = (looked 1 away, refl, λ has. absurd has)
+not_past : FoundPast 1 7 1 (look_at 1 away) → ⊥
+not_past x = let l = x.2 in omega (arith, l)
 
-lands_past_the_end : (x : LandsInside 1 8 1 part (grown lands_it part)) → x.0 ≡ lands_it → ⊥
-lands_past_the_end (d, is, inside) e = none (subst (λ (p : Part).
-    HasOne (λ (t : Turn). t.job ≡ jobs.Land) p.turns → HasOne (FoundInside 1 8 1) p.looks) e inside
-    (inl refl))
-  where
-    none : HasOne (FoundInside 1 8 1) (look_at 1 away ∷ []) → ⊥
-    none (inl x) = found_past_the_end x
-    none (inr x) = x
+past_another : FoundPast 0 8 1 (look_at 1 away) → ⊥
+past_another x = eqb-false 1 0 refl x.0
+
+past_here : FoundPast 1 8 1 (look_at 1 calm) → ⊥
+past_here x = eqb-false 2 1 refl (ap state_number x.1)
+
+writes_inside : AreWrites 1 7 (12 ∷ []) (look_at 1 away ∷ []) (landed ∷ fetched ∷ [])
+writes_inside = (inl (refl, inl found_inside), (refl, tt))
+
+writes_past : AreWrites 1 8 (12 ∷ []) (look_at 1 away ∷ []) (wrote 8 ∷ fetched ∷ [])
+writes_past = (inr (refl, inl found_past), (refl, tt))
+
+lands_unlooked : AreWrites 1 7 (12 ∷ []) [] (landed ∷ fetched ∷ []) → ⊥
+lands_unlooked ((inl x), y) = x.1
+lands_unlooked ((inr x), y) = x.1
+
+writes_past_unlooked : AreWrites 1 7 (12 ∷ []) (look_at 1 away ∷ []) (wrote 7 ∷ fetched ∷ []) → ⊥
+writes_past_unlooked ((inl x), y) = eqb-false 2 22 refl (ap job_index x.0)
+writes_past_unlooked ((inr (is, inl x)), y) = not_past x
+writes_past_unlooked ((inr (is, inr x)), y) = x
+
+writes_and_goes_on : AreWritesOn 1 7 (12 ∷ []) (look_at 1 away ∷ []) (landed ∷ fetched ∷ [])
+writes_and_goes_on = (writes_inside, refl)
+
+goes_on_unlanded : AreWritesOn 1 7 (12 ∷ []) (look_at 1 away ∷ []) (fetched ∷ []) → ⊥
+goes_on_unlanded x = left_to_land x.1
+
+-- the record got both
+abbrev both_got : View
+both_got = record part { looks = look_at 1 away ∷ []; turns = landed ∷ fetched ∷ [] }
+
+gets_both : GetsBoth (AreWrites 1 7 (12 ∷ [])) part both_got
+gets_both = (look_at 1 away ∷ [], refl, (landed ∷ fetched ∷ [], refl, writes_inside))
+
+gets_no_look : (P : List Turn → Type 0) → GetsBoth (λ ls ts. (ls ≡ []) × P ts) part both_got → ⊥
+gets_no_look P (ls, is, (ts, got, (none, of))) = eqb-false 1 0 refl
+    (ap (λ (xs : List Look). length xs) (is ∙ ap (λ (xs : List Look). xs ++ []) none))
+
+gets_no_turn : GetsBoth (λ ls ts. ts ≡ []) part both_got → ⊥
+gets_no_turn (ls, is, (ts, got, none)) = eqb-false 2 0 refl
+    (ap (λ (xs : List Turn). length xs) (got ∙ ap (λ (xs : List Turn). xs ++ []) none))
 
 -- ---- a look that found it far, with its word
 far_as : FoundFarAs 1 away part (with_look 1 away part)

@@ -1,6 +1,6 @@
 -- A write of a claimed object, step by step.
 use Rattle.std.proofs.Common.{◌≡◌, ℕ, ◌+◌, ◌<◌, ◌≤◌, List, [], ◌∷◌, length, sym, refl, ap, ◌∙◌}
-use Rattle.std.proofs.Common.{subst, arith}
+use Rattle.std.proofs.Common.{subst, arith, inl, inr}
 use Rattle.atomic_table.specs.Seated.{TableId}
 use Rattle.cb_types.specs.declared.config.Config.{Config}
 use Rattle.cb_ptr.specs.Word.{len_of, pins_of, state_of}
@@ -20,7 +20,7 @@ use Rattle.cb_shared.specs.Glances.{Glances}
 use Rattle.cb_shared.specs.Passes.{IsAtRest}
 use Rattle.cb_shared.specs.Seats.{IsOf, SeatAt, Moves, record_at}
 use Rattle.cb_shared.specs.Writing.{FoundFarAs, IsRoomFor, IsWriteRefusal, WriteAt, WriteClaimed}
-use Rattle.cb_shared.specs.Writing.{WriteGives, last_seen}
+use Rattle.cb_shared.specs.Writing.{WriteFrom, WriteGives, last_seen}
 use Rattle.cb_shared.proofs.Resting.{far_empty, here_empty, moving_empty, view_of}
 
 pub of_moves : (z : TableId) (k : Setup) (c : Config) (p q : SeatAt) (w : View) → IsOf z k c p
@@ -123,7 +123,7 @@ written_at c h word at bytes (Pinned n) p m q v words rest below newest mv x = a
 written_at c h word at bytes (Raced s f) p m q v words rest below newest mv x = absurd x
 
 -- a refusal by the word that was found is answered
-pub refused_writes : (h w at : ℕ) (bytes : List ℕ) (a : WriteAnswer) (p q : SeatAt)
+refused_writes : (h w at : ℕ) (bytes : List ℕ) (a : WriteAnswer) (p q : SeatAt)
     → Glances h w p q
     → IsWriteRefusal at (length bytes) w a → WriteGives h at bytes a (record_at p) (record_at q)
 refused_writes h w at bytes (Ok n) p q g why = absurd why
@@ -156,7 +156,7 @@ refused_writes h w at bytes Worn p q g why = absurd why
 refused_writes h w at bytes (Raced s f) p q g why = absurd why
 
 -- with its word where it was found far
-pub refused_far : (h w at : ℕ) (bytes : List ℕ) (a : WriteAnswer) (p q : SeatAt) → Glances h w p q
+refused_far : (h w at : ℕ) (bytes : List ℕ) (a : WriteAnswer) (p q : SeatAt) → Glances h w p q
     → IsWriteRefusal at (length bytes) w a → a ≡ NotHere
     → FoundFarAs h w (record_at p) (record_at q)
 refused_far h w at bytes a p q g why is =
@@ -164,12 +164,12 @@ refused_far h w at bytes a p q g why is =
     (far, view_of p q (with_look h w (record_at p)) (g.other (λ e. far_empty (sym far ∙ e))))
 
 -- an exchange is made at a word that is here
-pub claimed_here : (h w at : ℕ) (bytes : List ℕ) (a : WriteAnswer) (v u : View)
+claimed_here : (h w at : ℕ) (bytes : List ℕ) (a : WriteAnswer) (v u : View)
     → WriteAt h w at bytes a v u → a ≡ NotHere → ⊥
 claimed_here h w at bytes a v u x is = subst (λ (z : WriteAnswer). WriteAt h w at bytes z v u) is x
 
 -- ---- a look at a word that can be claimed, and then the exchange
-module _ (h w at : ℕ) (bytes : List ℕ) (p m q : SeatAt) (g : Glances h w p m)
+module _ (h w at : ℕ) (bytes : List ℕ) (p m : SeatAt) (g : Glances h w p m)
     (room : IsRoomFor at (length bytes) w) (bare : pins_of w ≡ 0) where
   saw : record_at m ≡ with_look h w (record_at p)
   saw = view_of p m (with_look h w (record_at p)) (g.other (λ e. here_empty (sym room.0 ∙ e)))
@@ -182,9 +182,9 @@ module _ (h w at : ℕ) (bytes : List ℕ) (p m q : SeatAt) (g : Glances h w p m
   newest_before n x = let y = subst (IsNewest h n) saw x in
       record { written = y.written; seen = y.seen; lone = y.lone }
 
-  pub claimed_writes : (a : WriteAnswer) → WriteAt h w at bytes a (record_at m) (record_at q)
-      → WriteGives h at bytes a (record_at p) (record_at q)
-  claimed_writes (Ok version) x = record {
+  claimed_writes : (z : View) (a : WriteAnswer) → WriteAt h w at bytes a (record_at m) z
+      → WriteGives h at bytes a (record_at p) z
+  claimed_writes z (Ok version) x = record {
     word = w;
     old = x.old;
     new = x.new;
@@ -199,7 +199,7 @@ module _ (h w at : ℕ) (bytes : List ℕ) (p m q : SeatAt) (g : Glances h w p m
       written = entry h version (len_of w) x.old x.new ∷ v.written;
     } in z) saw;
   }
-  claimed_writes Worn x = record {
+  claimed_writes z Worn x = record {
     word = w;
     words = x.words;
     room = room;
@@ -210,14 +210,28 @@ module _ (h w at : ℕ) (bytes : List ℕ) (p m q : SeatAt) (g : Glances h w p m
       seen = last_seen h w x.words ∷ v.seen;
     } in z) saw;
   }
-  claimed_writes (Raced seen found) x = (
+  claimed_writes z (Raced seen found) x = (
     (λ e. x.1 (e ∙ x.0)),
     x.2 ∙ ap (with_look h found) saw
         ∙ ap (λ (n : ℕ). with_look h found (with_look h n (record_at p))) (sym x.0),
     ap state_of x.0 ∙ room.0,
   )
-  claimed_writes Freed x = absurd x
-  claimed_writes NotHere x = absurd x
-  claimed_writes Moving x = absurd x
-  claimed_writes (Range len) x = absurd x
-  claimed_writes (Pinned count) x = absurd x
+  claimed_writes z Freed x = absurd x
+  claimed_writes z NotHere x = absurd x
+  claimed_writes z Moving x = absurd x
+  claimed_writes z (Range len) x = absurd x
+  claimed_writes z (Pinned count) x = absurd x
+
+-- ---- a look, and then a write from its word
+module _ (h w at : ℕ) (bytes : List ℕ) (a : WriteAnswer) (p m : SeatAt) (g : Glances h w p m) (z : View)
+  where
+    pub from_gives : WriteFrom h w at bytes a (record_at m) z → WriteGives h at bytes a (record_at p) z
+    from_gives (inl (why, same)) = subst (WriteGives h at bytes a (record_at p)) (sym same)
+        (refused_writes h w at bytes a p m g why)
+    from_gives (inr (room, bare, x)) = claimed_writes h w at bytes p m g room bare z a x
+
+    pub from_far : WriteFrom h w at bytes a (record_at m) z → a ≡ NotHere
+        → FoundFarAs h w (record_at p) z
+    from_far (inl (why, same)) is = subst (FoundFarAs h w (record_at p)) (sym same)
+        (refused_far h w at bytes a p m g why is)
+    from_far (inr (room, bare, x)) is = absurd (claimed_here h w at bytes a (record_at m) z x is)

@@ -1,6 +1,7 @@
 -- What the calls that try again until they are answered add to the record of their pass.
 use Rattle.std.specs.Prelude.{◌≡◌, ◌⊎◌, ℕ, ◌+◌, ◌-◌, ◌^◌, ◌≤◌, Bool, false, List, [], ◌∷◌, length, Option}
-use Rattle.std.specs.Prelude.{None, Some, Ok}
+use Rattle.std.specs.Prelude.{None, Some, Ok, Err}
+use Rattle.cb_member.specs.declared.no_memory.NoMemory.{NoMemory}
 use Rattle.cb_types.specs.declared.config.Config.{Config}
 use Rattle.cb_types.specs.declared.handle.Handle.{Handle}
 use Rattle.cb_types.specs.declared.job.Job.{Job}
@@ -22,12 +23,11 @@ use Rattle.cb_shared.specs.declared.answers.WriteAnswer.{WriteAnswer}
 use Rattle.cb_shared.specs.declared.answers.WriteAnswer.TheVariants as place
 use Rattle.cb_shared.specs.Glances.{IsLastAlone}
 use Rattle.cb_record.specs.Deeds.{deed, happened}
-use Rattle.cb_record.specs.Lists.{HasOne}
 use Rattle.cb_record.specs.Parts.{Part, Grows, grown, nothing_more, sum}
 pub use Rattle.cb_shared.specs.Trying.{again_in, newest_tries}
 use Rattle.cb_shared.specs.Reading.{FindsGone, FindsOther, FindsWord, IsReadHere}
 use Rattle.cb_shared.specs.Reading.{looked_twice}
-use Rattle.cb_shared.specs.Turning.{TurnAdds, made_by_turn, with_own}
+use Rattle.cb_shared.specs.Turning.{TurnAdds, TurnBy, made_by_turn, with_own}
 use Rattle.cb_shared.specs.Writing.{IsPastEnd, IsPinnedSo, IsRoomFor, last_seen}
 
 -- why an object can't be brought in: for want of room only where the turn is not made again
@@ -99,21 +99,10 @@ abbrev pub IsWriteJob : ℕ → ℕ → List ℕ → Job → Type 0
 IsWriteJob h at bytes job = (job ≡ jobs.Write (the_handle h) at bytes)
     ⊎ ((job ≡ jobs.Fetch (the_handle h)) ⊎ (job ≡ jobs.Land))
 
--- so of one that found its object far with this word: the row is landed only where the bytes lie
--- inside of the object
-abbrev pub IsWriteJobAt : ℕ → ℕ → List ℕ → ℕ → Job → Type 0
-IsWriteJobAt h at bytes word job = (job ≡ jobs.Write (the_handle h) at bytes)
-    ⊎ ((job ≡ jobs.Fetch (the_handle h))
-    ⊎ ((job ≡ jobs.Land) × (at + length bytes ≤ len_of word)))
-
 -- a turn of such a job that was told no answer to its call
 abbrev pub IsUnanswered : (Job → Type 0) → Turn → Type 0
 IsUnanswered may t = may t.job
     × ((r : Reply) × (t.reply ≡ Some r) × (IsAnswerTo (tries_again t) t.job r → ⊥))
-
--- a turn of such a job that found no memory
-abbrev pub IsForWant : (Job → Type 0) → Turn → Type 0
-IsForWant may t = may t.job × (t.reply ≡ None)
 
 -- Tries that came to nothing: looks at such objects and such turns, which wrote, read and pinned
 -- nothing, and by which nothing was made.
@@ -141,15 +130,16 @@ LooksOf other = AtNone
 abbrev pub TriesInVain : (ℕ → Type 0) → (Turn → Type 0) → View → View → Type 0
 TriesInVain on vain v w = (d : Part) × IsInVain on vain d × Grows v d w
 
--- There was no memory: the record grew by tries that came to nothing, and by the one that found
--- none, which is looks and one such turn at the most.
-pub record StopsInVain (on : ℕ → Type 0) (vain want : Turn → Type 0) (v w : View) : Type 0 where
+-- a turn that found no memory, and nothing else
+abbrev pub TurnLacks : Config → Job → View → View → Type 0
+TurnLacks c job v w = (e : NoMemory) × TurnBy c job (Err e) v w
+
+-- There was no memory: the record grew by looks at such objects and turns of such jobs that came to
+-- nothing, and then by nothing, or by one such turn that found none.
+pub record StopsBy (c : Config) (on : ℕ → Type 0) (may : Job → Type 0) (v w : View) : Type 0 where
   pub between : View
-  pub last : Part
-  pub tries : TriesInVain on vain v between
-  pub lacks : IsInVain on want last
-  pub one : length last.turns ≤ 1
-  pub left : Grows between last w
+  pub tries : TriesInVain on (IsUnanswered may) v between
+  pub lacks : (w ≡ between) ⊎ ((job : Job) × may job × TurnLacks c job between w)
 
 -- tries that came to nothing, and then one that ends so
 pub record EndsAtLast (on : ℕ → Type 0) (vain : Turn → Type 0) (ends : View → Part → Type 0)
@@ -277,35 +267,21 @@ WriteAnswers c h at bytes r v w = (d : Part)
     × EndsAtLast (AtThis h) (IsUnanswered (IsWriteJob h at bytes))
     (WriteCallEnds c h at bytes r) v d × Grows v d w
 
--- a look that found the object far, with so many bytes from the byte number `at` on inside of it
-abbrev pub FoundInside : ℕ → ℕ → ℕ → Look → Type 0
-FoundInside h at count l =
-    (l.handle ≡ h) × (state_of l.word ≡ state.Far) × (at + count ≤ len_of l.word)
-
--- the record grew, by a turn that landed a row only where it has such a look more
-abbrev pub LandsInside : ℕ → ℕ → ℕ → View → View → Type 0
-LandsInside h at count v w = (d : Part) × Grows v d w
-    × (HasOne (λ (t : Turn). t.job ≡ jobs.Land) d.turns → HasOne (FoundInside h at count) d.looks)
-
 -- a handle that was made is the pass's own
 abbrev pub TurnGives : Config → Job → Reply → View → View → Type 0
 TurnGives c job r v w = (d : Part)
     × EndsAtLast (LooksOf job) (IsUnanswered (OfThis job)) (TurnEnds c job r) v d
     × (w ≡ with_own (made_by_turn job (Some r)) (grown d v))
 
--- what is left where there was no memory, of looks at such objects and turns of such jobs; and so of
--- each call
-abbrev pub StopsBy : (ℕ → Type 0) → (Job → Type 0) → View → View → Type 0
-StopsBy on may v w = StopsInVain on (IsUnanswered may) (IsForWant may) v w
-
+-- what is left of each call where there was no memory
 abbrev pub ReadStops : Config → ℕ → View → View → Type 0
-ReadStops c h v w = StopsBy (AtThis h) (IsReadJob h) v w
+ReadStops c h v w = StopsBy c (AtThis h) (IsReadJob h) v w
 
 abbrev pub WriteStops : Config → ℕ → ℕ → List ℕ → View → View → Type 0
-WriteStops c h at bytes v w = StopsBy (AtThis h) (IsWriteJob h at bytes) v w
+WriteStops c h at bytes v w = StopsBy c (AtThis h) (IsWriteJob h at bytes) v w
 
 abbrev pub TurnStops : Config → Job → View → View → Type 0
-TurnStops c job v w = StopsBy (LooksOf job) (OfThis job) v w
+TurnStops c job v w = StopsBy c (LooksOf job) (OfThis job) v w
 
 -- what one try comes to: it ends so, or came to nothing
 abbrev pub TurnTries : Config → Job → Option Reply → View → View → Type 0

@@ -1,11 +1,16 @@
--- The jobs by which a read brings a far object in.
-use Rattle.std.specs.Prelude.{◌≡◌, ◌⊎◌, ℕ, ◌||◌, Bool, true, false, List, [], ◌∷◌, ◌++◌, Option, Some}
+-- The jobs by which a read brings a far object in, and those of a write.
+use Rattle.std.specs.Prelude.{◌≡◌, ◌⊎◌, ℕ, ◌+◌, ◌<◌, ◌≤◌, ◌||◌, Bool, true, false, List, [], ◌∷◌, ◌++◌}
+use Rattle.std.specs.Prelude.{length, Option, Some}
+use Rattle.cb_ptr.specs.declared.word.State.TheVariants as state
+use Rattle.cb_ptr.specs.Word.{len_of, state_of}
 use Rattle.cb_types.specs.declared.job.Job.{Job}
 use Rattle.cb_types.specs.declared.job.Job.TheVariants as jobs
 use Rattle.cb_types.specs.declared.reply.Reply.{Reply}
 use Rattle.cb_types.specs.declared.reply.Reply.TheVariants as answer
 use Rattle.cb_rule.specs.declared.turn.Turn.{Turn}
+use Rattle.cb_rule.specs.declared.view.Look.{Look}
 use Rattle.cb_rule.specs.declared.view.View.{View}
+use Rattle.cb_record.specs.Lists.{HasOne}
 
 -- a turn so answered brought its object in, or found it there
 abbrev pub brings : Option Reply → Bool
@@ -75,3 +80,43 @@ AreFetchesTo h before after ts =
 abbrev pub AreBringingTo : ℕ → Bool → Bool → List Turn → Type 0
 AreBringingTo h before after ts =
     AreFetches h false ts × (after ≡ brought_in_by before ts) × AreDone h ts
+
+-- The job of a write's next turn, where that of a read is this one: its own where a read swaps the
+-- object in; where a read lands a row it does so too, if its bytes lie inside of the object, and takes
+-- its own if they go past the end; and else the same.
+abbrev pub IsWriteFor : Job → Type 0 → Type 0 → Job → Job → Type 0
+IsWriteFor own inside past (jobs.Swap handle) job = job ≡ own
+IsWriteFor own inside past jobs.Land job = ((job ≡ jobs.Land) × inside) ⊎ ((job ≡ own) × past)
+IsWriteFor own inside past other job = job ≡ other
+
+-- each of these turns, the newest first, has such a job by those before it
+abbrev pub GoAsWrite : ℕ → Job → Type 0 → Type 0 → List Turn → Type 0
+GoAsWrite h own inside past [] = Unit {0}
+GoAsWrite h own inside past (t ∷ ts) =
+    IsWriteFor own inside past (job_behind h ts) t.job × GoAsWrite h own inside past ts
+
+-- so where the call goes on behind them
+abbrev pub GoesOnAsWrite : ℕ → Job → Type 0 → Type 0 → List Turn → Type 0
+GoesOnAsWrite h own inside past ts = GoAsWrite h own inside past ts × AreDone h ts
+
+-- a look that found the object far, with so many bytes from the byte number `at` on inside of it; and
+-- one with these past its end
+abbrev pub FoundInside : ℕ → ℕ → ℕ → Look → Type 0
+FoundInside h at count l =
+    (l.handle ≡ h) × (state_of l.word ≡ state.Far) × (at + count ≤ len_of l.word)
+
+abbrev pub FoundPast : ℕ → ℕ → ℕ → Look → Type 0
+FoundPast h at count l =
+    (l.handle ≡ h) × (state_of l.word ≡ state.Far) × (len_of l.word < at + count)
+
+-- the turns of a write of these bytes, by its looks; and where it goes on behind them
+abbrev pub AreWrites : ℕ → ℕ → List ℕ → List Look → List Turn → Type 0
+AreWrites h at bytes ls ts = GoAsWrite h (jobs.Write (record { n = h }) at bytes)
+    (HasOne (FoundInside h at (length bytes)) ls) (HasOne (FoundPast h at (length bytes)) ls) ts
+
+abbrev pub AreWritesOn : ℕ → ℕ → List ℕ → List Look → List Turn → Type 0
+AreWritesOn h at bytes ls ts = AreWrites h at bytes ls ts × AreDone h ts
+
+-- the looks and the turns that a record got
+abbrev pub GetsBoth : (List Look → List Turn → Type 0) → View → View → Type 0
+GetsBoth P v w = (ls : List Look) × (w.looks ≡ ls ++ v.looks) × GetsTurns (P ls) v w

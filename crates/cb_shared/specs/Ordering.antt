@@ -2,6 +2,7 @@
 use Rattle.std.specs.Prelude.{◌≡◌, ℕ, ◌<◌, List, Option, None, Some, Result, Ok, Err, IfOk, OnErr}
 use Rattle.cb_member.specs.declared.no_memory.NoMemory.{NoMemory}
 use Rattle.cb_types.specs.declared.config.Config.{Config}
+use Rattle.cb_types.specs.declared.handle.Handle.{Handle}
 use Rattle.cb_types.specs.declared.handle.SetId.{SetId}
 use Rattle.cb_types.specs.declared.job.Job.{Job}
 use Rattle.cb_types.specs.declared.job.Job.TheVariants as jobs
@@ -14,14 +15,12 @@ use Rattle.cb_world.specs.declared.event.Event.{Event}
 use Rattle.cb_world.specs.declared.shown.Shown.{Shown}
 use Rattle.cb_evict.specs.declared.gathering.Gathered.{Gathered}
 use Rattle.cb_evict.specs.declared.gathering.Gathered.TheVariants as gathered
-use Rattle.cb_evict.specs.Gathering.{gathered_order, gathered_reply}
 use Rattle.cb_evict.specs.InstallRule.{kept_behind}
 use Rattle.cb_swapin.specs.declared.fetching.Fetching.{Fetching}
 use Rattle.cb_swapin.specs.declared.fetching.Fetching.TheVariants as fetching
-use Rattle.cb_swapin.specs.FetchStep.{fetching_order, fetching_reply}
-use Rattle.cb_core.specs.Ordered.{StoppedWith, TurnedWith}
+use Rattle.cb_core.specs.Ordered.{StoppedWith, TurnedWith, fetch_answer, fetch_keeps}
+use Rattle.cb_core.specs.Ordered.{gather_answer, gather_keeps, land_keeps}
 use Rattle.cb_core.specs.OrderLeaves.{HandsOrder, fetch_hands, gather_hands}
-use Rattle.cb_core.specs.OrderParts.{landed_order}
 use Rattle.cb_core.specs.Parts.{Holding}
 use Rattle.cb_rule.specs.declared.view.View.{View}
 use Rattle.cb_record.specs.Parts.{Grows, Part}
@@ -59,41 +58,20 @@ order_run (asks.Install done) = Some (Encode done.now.order)
 order_run (asks.Fetch handle) = None
 order_run (asks.Land done) = Some (Decode done.now.order)
 
--- the reply of a gather and of a fetch, as it stands in the record
-abbrev pub gather_told : Result Gathered NoMemory → Result Reply NoMemory
-gather_told (Ok g) = Ok (gathered_reply g)
-gather_told (Err e) = Err e
-
-abbrev pub fetch_told : Result Fetching NoMemory → Result Reply NoMemory
-fetch_told (Ok g) = Ok (fetching_reply g)
-fetch_told (Err e) = Err e
-
--- so of each of the four
+-- the reply of each of the four, as it stands in the record
 abbrev pub told : Outcome → Result Reply NoMemory
-told (ends.Gather r) = gather_told r
+told (ends.Gather r) = gather_answer r
 told (ends.Install r) = Ok r
-told (ends.Fetch r) = fetch_told r
+told (ends.Fetch r) = fetch_answer r
 told (ends.Land r) = r
 
 -- What the pass keeps behind such a turn: a new order replaces the one before, an install and a
 -- landing that are done take it, and want of memory leaves it.
-abbrev pub behind_gather : Result Gathered NoMemory → Option Kept → Option Kept
-behind_gather (Ok g) order = gathered_order order g
-behind_gather (Err e) order = order
-
-abbrev pub behind_fetch : Result Fetching NoMemory → Option Kept → Option Kept
-behind_fetch (Ok g) order = fetching_order order g
-behind_fetch (Err e) order = order
-
-abbrev pub behind_landing : Result Reply NoMemory → Option Kept → Option Kept
-behind_landing (Ok r) order = landed_order order r
-behind_landing (Err e) order = order
-
 abbrev pub keeps_of : Outcome → Option Kept → Option Kept
-keeps_of (ends.Gather r) order = behind_gather r order
+keeps_of (ends.Gather r) order = gather_keeps order r
 keeps_of (ends.Install r) order = kept_behind r order
-keeps_of (ends.Fetch r) order = behind_fetch r order
-keeps_of (ends.Land r) order = behind_landing r order
+keeps_of (ends.Fetch r) order = fetch_keeps order r
+keeps_of (ends.Land r) order = land_keeps order r
 
 -- the order that is handed out
 abbrev pub handed_by : Outcome → Option Kept
@@ -124,7 +102,7 @@ IsNoWant r = (frames loose nodes : ℕ) → r ≡ answer.NoRoom frames loose nod
 
 -- an answer of each of the four jobs; a landing alone may find no room
 abbrev pub IsGathered : Outcome → Type 0
-IsGathered (ends.Gather r) = IsPlainGather r × IfOk (gather_told r) IsNoWant
+IsGathered (ends.Gather r) = IsPlainGather r × IfOk (gather_answer r) IsNoWant
 IsGathered o = ⊥
 
 abbrev pub IsInstalled : Outcome → Type 0
@@ -132,7 +110,7 @@ IsInstalled (ends.Install r) = IsNoWant r
 IsInstalled o = ⊥
 
 abbrev pub IsFetched : Outcome → Type 0
-IsFetched (ends.Fetch r) = IsPlainFetch r × IfOk (fetch_told r) IsNoWant
+IsFetched (ends.Fetch r) = IsPlainFetch r × IfOk (fetch_answer r) IsNoWant
 IsFetched o = ⊥
 
 abbrev pub IsLanded : Outcome → Type 0
@@ -167,6 +145,6 @@ fetched_of h r = None
 
 -- a turn of a fetch, and behind one that was answered Freed looks at its object: its freed entry is
 -- read where the record knows it
-abbrev pub FetchFinds : Config → ℕ → Job → Result Reply NoMemory → View → View → Type 0
-FetchFinds c h job r v w = (m : View) × TurnBy c job r v m
-    × ((d : Part) × Grows m d w × FindsKnown (fetched_of h r) m d)
+abbrev pub FetchFinds : Config → Handle → Result Reply NoMemory → View → View → Type 0
+FetchFinds c h r v w = (m : View) × TurnBy c (jobs.Fetch h) r v m
+    × ((d : Part) × Grows m d w × FindsKnown (fetched_of h.n r) m d)

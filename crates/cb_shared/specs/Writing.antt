@@ -1,5 +1,5 @@
 -- What a write in place is answered, and what it adds to the record of its pass.
-use Rattle.std.specs.Prelude.{◌≡◌, ◌≢◌, ℕ, ◌+◌, ◌-◌, ◌^◌, ◌<◌, ◌≤◌, List, [], ◌∷◌, length}
+use Rattle.std.specs.Prelude.{◌≡◌, ◌≢◌, ◌⊎◌, ℕ, ◌+◌, ◌-◌, ◌^◌, ◌<◌, ◌≤◌, List, [], ◌∷◌, length}
 use Rattle.cb_ptr.specs.declared.word.State.TheVariants as state
 use Rattle.cb_ptr.specs.Word.{state_of, len_of, pins_of}
 use Rattle.cb_world.specs.Write.{IsWrite}
@@ -117,6 +117,12 @@ WriteAt h saw at bytes Worn v w = IsWornAt h saw v w
 WriteAt h saw at bytes (Raced seen found) v w =
     (seen ≡ saw) × (found ≢ saw) × (w ≡ with_look h found v)
 WriteAt h saw at bytes _ v w = ⊥
+
+-- what a write comes to of an object whose word was found so: a reason not to claim it, and nothing
+-- is done, or that exchange
+abbrev pub WriteFrom : ℕ → ℕ → ℕ → List ℕ → WriteAnswer → View → View → Type 0
+WriteFrom h saw at bytes a v w = (IsWriteRefusal at (length bytes) saw a × (w ≡ v))
+    ⊎ (IsRoomFor at (length bytes) saw × (pins_of saw ≡ 0) × WriteAt h saw at bytes a v w)
 
 -- and what the write comes to of an object that is claimed at this version, with these words
 abbrev pub WriteClaimed : ℕ → ℕ → ℕ → List ℕ → ℕ → List ℕ → WriteAnswer → SeatAt → SeatAt → Type 0

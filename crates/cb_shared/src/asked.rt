@@ -1,10 +1,11 @@
 //! What a turn is asked for that hands an order out, or takes one, and what it answers.
 ghost use Rattle.std.specs.Prelude.{◌≡◌};
 ghost use Rattle.cb_swapin.specs.LandRule.{done_order};
+ghost use Rattle.cb_core.specs.Ordered.{fetch_answer};
 ghost use Rattle.cb_core.specs.OrderParts.{decode_in};
 ghost use Rattle.cb_shared.specs.declared.asked.Outcome.TheVariants as ends;
 ghost use Rattle.cb_shared.specs.Ordering.{IsFetched, IsGathered, IsInstalled, IsLanded};
-ghost use Rattle.cb_shared.specs.Ordering.{fetch_told, fetched_of, order_run};
+ghost use Rattle.cb_shared.specs.Ordering.{fetched_of, order_run};
 
 use cb_evict::Gathered;
 use cb_orders::{DecodeDone, EncodeDone};
@@ -92,7 +93,7 @@ impl Outcome {
 
 /// The object of a fetch that was answered Freed.
 pub(crate) fn fetched_of(h: Handle, fetching: &Result<Fetching, NoMemory>) -> Option<u32>
-    ensures { result ≡ fetched_of h.n (fetch_told fetching.now) }
+    ensures { result ≡ fetched_of h.n (fetch_answer fetching.now) }
 {
     match fetching {
         Ok(Fetching::Answer(reply)) => match reply {

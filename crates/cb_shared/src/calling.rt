@@ -1,6 +1,7 @@
 //! Reads, writes, makes and frees that try again until they are answered. Each try is a step or a
 //! turn of its own, and waits where others stand in its way; nothing else waits but the turns.
-ghost use Rattle.std.specs.Prelude.{◌≡◌, ◌≤◌, ℕ, true, false, length, None, Some, IfOk, OnErr};
+ghost use Rattle.std.specs.Prelude.{◌≡◌, ◌+◌, ◌<◌, ◌≤◌, ℕ, true, false, length, None, Some};
+ghost use Rattle.std.specs.Prelude.{IfOk, OnErr};
 ghost use Rattle.cb_types.specs.Config.{most_bytes};
 ghost use Rattle.cb_types.specs.declared.job.Job.TheVariants as jobs;
 ghost use Rattle.cb_types.specs.declared.reply.Reply.{Reply};
@@ -8,18 +9,20 @@ ghost use Rattle.cb_shared.specs.declared.answers.WriteAnswer.TheVariants as pla
 ghost use Rattle.cb_core.specs.Jobs.{IsJob, NeedsNoOrder};
 ghost use Rattle.cb_rule.specs.Steps.{Knows};
 ghost use Rattle.cb_shared.specs.Calls.{AtNone, AtThis, IsAnswerTo, IsCalled, IsLack, IsNoReply};
-ghost use Rattle.cb_shared.specs.Calls.{IsReadJob, IsWriteJobAt, LandsInside, ReadGives, ReadStops};
+ghost use Rattle.cb_shared.specs.Calls.{IsReadJob, IsWriteJob, ReadGives, ReadStops};
 ghost use Rattle.cb_shared.specs.Calls.{ReadTries, SaysAs, StopsBy, TellsOfIt, TellsWhatIs, TriesBy};
 ghost use Rattle.cb_shared.specs.Calls.{TurnGives, TurnStops, TurnTries, WriteAnswers, WriteStops};
 ghost use Rattle.cb_shared.specs.Calls.{WriteTries};
 ghost use Rattle.cb_record.specs.Parts.{Part, Grows};
-ghost use Rattle.cb_shared.specs.Fetching.{AreFetches, AreFetchesTo, GetsTurns, IsOneMore, IsOneOf};
+ghost use Rattle.cb_shared.specs.Fetching.{AreFetches, AreFetchesTo, AreWrites, AreWritesOn};
+ghost use Rattle.cb_shared.specs.Fetching.{GetsBoth, GetsTurns, GoAsWrite, GoesOnAsWrite};
+ghost use Rattle.cb_shared.specs.Fetching.{IsOneAtMost, IsOneMore, IsOneOf};
 ghost use Rattle.cb_shared.specs.Making.{MakesNew, TriesNew};
 ghost use Rattle.cb_shared.specs.Passes.{IsPassOf, record_of};
 ghost use Rattle.cb_shared.specs.Reading.{ReadFinds, looked};
 ghost use Rattle.cb_shared.specs.Turning.{KnowsOf};
 ghost use Rattle.cb_ptr.specs.declared.word.State.TheVariants as state;
-ghost use Rattle.cb_ptr.specs.Word.{state_of};
+ghost use Rattle.cb_ptr.specs.Word.{len_of, state_of};
 
 use crate::answers::WriteAnswer;
 use crate::handles::count_pins;
@@ -94,7 +97,7 @@ impl Shared {
             (record_of pass.old) (record_of pass.new)) }
         ensures error { OnErr result (WriteStops self.now.config h.n at bytes.now
             (record_of pass.old) (record_of pass.new)) }
-        ensures lands { LandsInside h.n at (length bytes.now) (record_of pass.old)
+        ensures jobs { GetsBoth (AreWrites h.n at bytes.now) (record_of pass.old)
             (record_of pass.new) }
     {
         let mut patience = Patience::new();
@@ -302,10 +305,13 @@ impl Shared {
             (record_of pass.old) (record_of pass.new)) }
         ensures error { OnErr result (WriteStops self.now.config h.n at bytes.now
             (record_of pass.old) (record_of pass.new)) }
-        ensures lands { LandsInside h.n at (length bytes.now) (record_of pass.old)
+        ensures jobs { GetsBoth (AreWrites h.n at bytes.now) (record_of pass.old)
             (record_of pass.new) }
+        ensures on { IfOk result (λ o. o ≡ None → GetsBoth (AreWritesOn h.n at bytes.now)
+            (record_of pass.old) (record_of pass.new)) }
     {
-        let (word, answer) = self.write_seen(pass, h, at, bytes);
+        let word = self.look(pass, h);
+        let answer = self.write_from(pass, h, word, at, bytes);
         if is_away(answer) {
             return self.write_far(rt, alloc, pass, h, at, bytes, word, patience);
         }
@@ -334,9 +340,15 @@ impl Shared {
         requires knows { Knows h.n (record_of pass.old) }
         ensures of { IsPassOf self.now pass.new }
         ensures write { IfOk result (λ o. TriesBy self.now.config AtNone
-            (IsWriteJobAt h.n at bytes.now word) o (record_of pass.old) (record_of pass.new)) }
-        ensures error { OnErr result (StopsBy AtNone (IsWriteJobAt h.n at bytes.now word)
-            (record_of pass.old) (record_of pass.new)) }
+            (IsWriteJob h.n at bytes.now) o (record_of pass.old) (record_of pass.new)) }
+        ensures error { OnErr result (StopsBy self.now.config AtNone
+            (IsWriteJob h.n at bytes.now) (record_of pass.old) (record_of pass.new)) }
+        ensures jobs { GetsTurns (GoAsWrite h.n (jobs.Write h at bytes.now)
+            (at + length bytes.now ≤ len_of word) (len_of word < at + length bytes.now))
+            (record_of pass.old) (record_of pass.new) }
+        ensures on { IfOk result (λ o. o ≡ None → GetsTurns (GoesOnAsWrite h.n
+            (jobs.Write h at bytes.now) (at + length bytes.now ≤ len_of word)
+            (len_of word < at + length bytes.now)) (record_of pass.old) (record_of pass.new)) }
     {
         match self.find_way(rt, pass, h, patience)? {
             Way::Made(order) => {
@@ -368,6 +380,10 @@ impl Shared {
         ensures turn { IfOk result (λ o. TurnTries self.now.config
             (jobs.Write h at bytes.now) o (record_of pass.old) (record_of pass.new)) }
         ensures error { OnErr result (TurnStops self.now.config (jobs.Write h at bytes.now)
+            (record_of pass.old) (record_of pass.new)) }
+        ensures one { GetsTurns (IsOneAtMost (jobs.Write h at bytes.now)) (record_of pass.old)
+            (record_of pass.new) }
+        ensures on { IfOk result (λ o. GetsTurns (IsOneOf (jobs.Write h at bytes.now))
             (record_of pass.old) (record_of pass.new)) }
     {
         let job = Job::Write {

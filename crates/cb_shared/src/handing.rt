@@ -9,11 +9,12 @@ ghost use Rattle.cb_types.specs.declared.reply.Reply.TheVariants as answer;
 ghost use Rattle.cb_evict.specs.declared.gathering.Gathered.TheVariants as gathered;
 ghost use Rattle.cb_evict.specs.InstallRule.{kept_behind};
 ghost use Rattle.cb_core.specs.OrderLeaves.{fetch_hands, gather_hands};
+ghost use Rattle.cb_core.specs.Ordered.{fetch_answer, fetch_keeps, gather_answer, gather_keeps};
+ghost use Rattle.cb_core.specs.Ordered.{land_keeps};
 ghost use Rattle.cb_swapin.specs.declared.fetching.Fetching.TheVariants as fetching;
 ghost use Rattle.cb_shared.specs.Ordering.{CanRun, FetchFinds, IsAnswered, IsPlainFetch};
-ghost use Rattle.cb_shared.specs.Ordering.{IsPlainGather, MayAsk, behind_fetch, behind_gather};
-ghost use Rattle.cb_shared.specs.Ordering.{behind_landing, fetch_told, gather_told, handed_by};
-ghost use Rattle.cb_shared.specs.Ordering.{job_of, keeps_of, told};
+ghost use Rattle.cb_shared.specs.Ordering.{IsPlainGather, MayAsk, handed_by, job_of, keeps_of};
+ghost use Rattle.cb_shared.specs.Ordering.{told};
 ghost use Rattle.cb_shared.specs.Passes.{IsAtRest, IsPassOf, record_of};
 ghost use Rattle.cb_shared.specs.Seats.{IsOf, record_at};
 ghost use Rattle.cb_shared.specs.Trying.{tries_of};
@@ -48,10 +49,10 @@ impl Shared {
     ) -> Result<Gathered, NoMemory>
         requires of { IsPassOf self.now pass.old }
         ensures of { IsPassOf self.now pass.new }
-        ensures turn { TurnBy self.now.config jobs.Gather (gather_told result) (record_of pass.old)
+        ensures turn { TurnBy self.now.config jobs.Gather (gather_answer result) (record_of pass.old)
             (record_of pass.new) }
         ensures keeps { (record_of pass.new).order
-            ≡ behind_gather result (record_of pass.old).order }
+            ≡ gather_keeps (record_of pass.old).order result }
         ensures handed { IfOk result (λ g. (o : EncodeOrder) → g ≡ gathered.Order o
             → (record_of pass.new).order ≡ Some (Encode o)) }
         ensures plain { IsPlainGather result }
@@ -93,10 +94,10 @@ impl Shared {
         requires of { IsPassOf self.now pass.old }
         requires handle { h.n < self.now.config.handles }
         ensures of { IsPassOf self.now pass.new }
-        ensures turn { FetchFinds self.now.config h.n (jobs.Fetch h) (fetch_told result)
+        ensures turn { FetchFinds self.now.config h (fetch_answer result)
             (record_of pass.old) (record_of pass.new) }
         ensures keeps { (record_of pass.new).order
-            ≡ behind_fetch result (record_of pass.old).order }
+            ≡ fetch_keeps (record_of pass.old).order result }
         ensures handed { IfOk result (λ g. (o : DecodeOrder) → g ≡ fetching.Order o
             → (record_of pass.new).order ≡ Some (Decode o)) }
         ensures plain { IsPlainFetch result }
@@ -119,10 +120,10 @@ impl Shared {
         requires of { IsPassOf self.now pass.old }
         requires handle { h.n < self.now.config.handles }
         ensures of { IsPassOf self.now pass.new }
-        ensures turn { TurnBy self.now.config (jobs.Fetch h) (fetch_told result)
+        ensures turn { TurnBy self.now.config (jobs.Fetch h) (fetch_answer result)
             (record_of pass.old) (record_of pass.new) }
         ensures keeps { (record_of pass.new).order
-            ≡ behind_fetch result (record_of pass.old).order }
+            ≡ fetch_keeps (record_of pass.old).order result }
         ensures plain { IsPlainFetch result }
         ensures runs { CanRun (fetch_hands result) }
     {
@@ -146,7 +147,7 @@ impl Shared {
         ensures turn { TurnBy self.now.config jobs.Land result (record_of pass.old)
             (record_of pass.new) }
         ensures keeps { (record_of pass.new).order
-            ≡ behind_landing result (record_of pass.old).order }
+            ≡ land_keeps (record_of pass.old).order result }
         ensures no_frame { IfOk result (λ reply. reply ≡ answer.NoFrame → ⊥) }
     {
         let _alloc = alloc;

@@ -53,8 +53,8 @@ impl Shared {
         ensures of { IsPassOf self.now pass.new }
         ensures brings { IfOk result (λ o. TriesBy self.now.config AtNone (Brings h.n) o
             (record_of pass.old) (record_of pass.new)) }
-        ensures error { OnErr result (StopsBy AtNone (Brings h.n) (record_of pass.old)
-            (record_of pass.new)) }
+        ensures error { OnErr result (StopsBy self.now.config AtNone (Brings h.n)
+            (record_of pass.old) (record_of pass.new)) }
         ensures jobs { GetsTurns (AreFetches h.n false) (record_of pass.old) (record_of pass.new) }
         ensures brought { IfOk result (λ o. o ≡ None → GetsTurns (AreBringingTo h.n
             patience.old.brought patience.new.brought) (record_of pass.old) (record_of pass.new)) }

@@ -7,12 +7,12 @@ ghost use Rattle.cb_mutate.specs.Merged.{IsWordMerged};
 ghost use Rattle.cb_rule.specs.declared.view.Held.{Held};
 ghost use Rattle.cb_rule.specs.Steps.{Knows};
 ghost use Rattle.cb_shared.specs.declared.answers.WriteAnswer.{WriteAnswer};
-ghost use Rattle.cb_shared.specs.declared.answers.WriteAnswer.TheVariants as answers;
 ghost use Rattle.cb_shared.specs.Claims.{HoldsOnly, IsFreshClaim, IsWithin, with_memory, with_only};
+ghost use Rattle.cb_shared.specs.Glances.{Glances};
 ghost use Rattle.cb_shared.specs.Passes.{IsAtRest, IsPassOf, record_of};
 ghost use Rattle.cb_shared.specs.Seats.{IsOf, Moves, record_at};
-ghost use Rattle.cb_shared.specs.Writing.{FoundFarAs, IsRoomFor, IsWriteRefusal, WriteAt};
-ghost use Rattle.cb_shared.specs.Writing.{WriteClaimed, WriteGives};
+ghost use Rattle.cb_shared.specs.Writing.{IsRoomFor, IsWriteRefusal, WriteAt, WriteClaimed};
+ghost use Rattle.cb_shared.specs.Writing.{WriteFrom, WriteGives};
 
 use crate::answers::WriteAnswer;
 use crate::board::{SeatAt, Top};
@@ -37,33 +37,42 @@ impl Shared {
         ensures write { WriteGives h.n at bytes.now result
             (record_of pass.old) (record_of pass.new) }
     {
-        self.write_seen(pass, h, at, bytes).1
+        let saw = self.look(pass, h);
+        self.write_from(pass, h, saw, at, bytes)
     }
 
-    /// So, with the word that its look found in front.
-    pub(crate) fn write_seen(
-        &self,
-        pass: &mut Pass,
-        h: Handle,
-        at: u32,
-        bytes: &[u8],
-    ) -> (u64, WriteAnswer)
+    /// The pointer word of an object that the pass knows, by one load.
+    pub(crate) fn look(&self, pass: &mut Pass, h: Handle) -> u64
         requires of { IsPassOf self.now pass.old }
         requires knows { Knows h.n (record_of pass.old) }
         ensures of { IsPassOf self.now pass.new }
-        ensures write { WriteGives h.n at bytes.now result.1
-            (record_of pass.old) (record_of pass.new) }
-        ensures far { result.1 ≡ answers.NotHere → FoundFarAs h.n result.0 (record_of pass.old)
+        ensures look { Glances h.n result pass.old.seat pass.new.seat }
+    {
+        glance(&self.board.shared, &mut pass.seat, &self.config, h.n)
+    }
+
+    /// The write of an object whose word was found so: why it can't be claimed, and else the claim
+    /// and the write.
+    pub(crate) fn write_from(
+        &self,
+        pass: &mut Pass,
+        h: Handle,
+        saw: u64,
+        at: u32,
+        bytes: &[u8],
+    ) -> WriteAnswer
+        requires of { IsPassOf self.now pass.old }
+        requires knows { Knows h.n (record_of pass.old) }
+        ensures of { IsPassOf self.now pass.new }
+        ensures write { WriteFrom h.n saw at bytes.now result (record_of pass.old)
             (record_of pass.new) }
     {
-        let top = &self.board.shared;
-        let saw = glance(top, &mut pass.seat, &self.config, h.n);
         match refuse_write(saw, at, bytes.len()) {
-            Some(answer) => (saw, answer),
-            None => (
-                saw,
-                write_at(top, &mut pass.seat, &self.config, h.n, saw, at, bytes),
-            ),
+            Some(answer) => answer,
+            None => {
+                let top = &self.board.shared;
+                write_at(top, &mut pass.seat, &self.config, h.n, saw, at, bytes)
+            }
         }
     }
 }

@@ -3,7 +3,6 @@ use Rattle.std.proofs.Common.{Result}
 use Rattle.cb_member.specs.declared.no_memory.NoMemory.{NoMemory}
 use Rattle.cb_types.specs.declared.handle.Handle.{Handle}
 use Rattle.cb_types.specs.declared.job.Job.{Job}
-use Rattle.cb_types.specs.declared.job.Job.TheVariants.{Fetch}
 use Rattle.cb_types.specs.declared.reply.Reply.{Reply}
 use Rattle.cb_shared.specs.declared.pass.Pass.{Pass}
 use Rattle.cb_shared.specs.declared.runtime.Shared.{Shared}
@@ -23,9 +22,8 @@ turned_caller s h job r p q caller of turn = record {
 
 pub fetched_caller : (s : Shared) (h far : Handle) (r : Result Reply NoMemory) (p q : Pass)
     → IsCaller s h p → IsPassOf s q
-    → FetchFinds s.config far.n (Fetch far) r (record_of p) (record_of q) → IsCaller s h q
+    → FetchFinds s.config far r (record_of p) (record_of q) → IsCaller s h q
 fetched_caller s h far r p q caller of turn = record {
   of = of;
-  knows = fetch_keeps s.config far.n (Fetch far) r (record_of p) (record_of q) turn h.n
-      caller.knows;
+  knows = fetch_keeps s.config far r (record_of p) (record_of q) turn h.n caller.knows;
 }

@@ -4,7 +4,7 @@ ghost use Rattle.cb_types.specs.declared.job.Job.TheVariants as jobs;
 ghost use Rattle.cb_types.specs.declared.order.EncodeOrder.{EncodeOrder};
 ghost use Rattle.cb_evict.specs.declared.gathering.Gathered.TheVariants as gathered;
 ghost use Rattle.cb_core.specs.Jobs.{NeedsNoOrder};
-ghost use Rattle.cb_shared.specs.Ordering.{gather_told};
+ghost use Rattle.cb_core.specs.Ordered.{gather_answer};
 ghost use Rattle.cb_shared.specs.Passes.{IsPassOf};
 ghost use Rattle.cb_shared.specs.Turning.{answer_of};
 ghost use Rattle.cb_workers.specs.Bodies.{
@@ -146,7 +146,7 @@ fn take_order(
     answer: Result<Gathered, NoMemory>,
     order: &mut Option<EncodeOrder>,
 ) -> Result<Reply, NoMemory>
-    ensures told { result ≡ gather_told answer }
+    ensures told { result ≡ gather_answer answer }
     ensures handed { IfOk answer (λ g. (o : EncodeOrder) → g ≡ gathered.Order o
         → order.new ≡ Some o) }
 {

@@ -15,8 +15,9 @@ use Rattle.cb_evict.specs.InstallRule.{kept_behind}
 use Rattle.cb_swapin.specs.declared.fetching.Fetching.{Fetching}
 use Rattle.cb_swapin.specs.declared.fetching.Fetching.TheVariants as fetching
 use Rattle.cb_core.specs.OrderLeaves.{fetch_hands, gather_hands}
+use Rattle.cb_core.specs.Ordered.{land_keeps}
 use Rattle.cb_core.specs.OrderParts.{landed_order}
-use Rattle.cb_shared.specs.Ordering.{CanRun, behind_landing}
+use Rattle.cb_shared.specs.Ordering.{CanRun}
 
 pub gather_found : (r : Result Gathered NoMemory) (f : Result (Option EncodeOrder) NoMemory)
     (kept : Option Kept)
@@ -57,7 +58,7 @@ land_left (answer.Swapped frame) order refused = absurd (refused frame refl)
 land_left r order refused = refl
 
 pub landing_left : (r : Result Reply NoMemory) (order kept : Option Kept) (k : Kept)
-    → order ≡ Some k → kept ≡ behind_landing r order
+    → order ≡ Some k → kept ≡ land_keeps order r
     → IfOk r (λ reply. ((frame : ℕ) → reply ≡ answer.Swapped frame → ⊥) → kept ≡ Some k)
 landing_left (Ok r) order kept k had is = λ refused. is ∙ land_left r order refused ∙ had
 landing_left (Err e) order kept k had is = tt

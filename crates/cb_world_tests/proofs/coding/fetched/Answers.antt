@@ -1,5 +1,4 @@
-use Rattle.cb_types.specs.declared.job.Job.TheVariants.{Fetch}
-use Rattle.cb_shared.specs.Ordering.{fetch_told}
+use Rattle.cb_core.specs.Ordered.{fetch_answer}
 use Rattle.cb_shared.specs.Passes.{record_of}
 use Rattle.cb_shared.proofs.Laws.{fetch_keeps}
 use Rattle.cb_world_tests.proofs.Calling.{caller_keeps, known_in_range}
@@ -14,8 +13,7 @@ fetch-answer-requires-clause-handle g c = known_in_range c.args.shared.now c.arg
 pub returns-clause-caller : goal.returns-clause-caller
 returns-clause-caller g c = caller_keeps c.args.shared.now c.args.objects.now c.args.pass.now
     c.fetch-answer.new.pass c.requires.caller c.fetch-answer.ensures.of
-    (fetch_keeps c.args.shared.now.config c.args.h.n (Fetch c.args.h)
-    (fetch_told c.fetch-answer.result) _ _ c.fetch-answer.ensures.turn)
+    (fetch_keeps c.args.shared.now.config c.args.h (fetch_answer c.fetch-answer.result) _ _ c.fetch-answer.ensures.turn)
 
 pub returns-clause-kept : goal.returns-clause-kept
 returns-clause-kept g c = fetch_found c.fetch-answer.result c.decode_in.result

@@ -6,10 +6,10 @@ use Rattle.cb_shared.specs.declared.ways.Way.{Way}
 use Rattle.cb_shared.specs.Calls.{AtNone, Brings, OfThis, TriesBy}
 use Rattle.cb_shared.specs.Passes.{record_of}
 use Rattle.cb_shared.specs.Ways.{HasWay, way_told}
-use Rattle.cb_shared.proofs.CallSteps.{err_always}
-use Rattle.cb_shared.proofs.FarSteps.{brings_fetch, brings_land, brings_swap, stops_by_then}
-use Rattle.cb_shared.proofs.FarSteps.{tries_by_then, tries_by_wider, turn_stops}
-use Rattle.cb_shared.proofs.FarSteps.{turn_tries, vain_by_wider, vain_way}
+use Rattle.cb_shared.proofs.CallSteps.{err_always, stops_then}
+use Rattle.cb_shared.proofs.FarSteps.{brings_fetch, brings_land, brings_swap, tries_by_then}
+use Rattle.cb_shared.proofs.FarSteps.{tries_by_wider, turn_stops, turn_tries, vain_by_wider}
+use Rattle.cb_shared.proofs.FarSteps.{vain_way}
 use Rattle.cb_shared.proofs.Fetches.{fetch_first, found_first, found_told, landed_at_most}
 use Rattle.cb_shared.proofs.Fetches.{landed_more, swapped_more, swapped_one}
 use Rattle.cb_shared.proofs.runtime.Shared.bring.Goals as goal
@@ -76,7 +76,7 @@ pub returns-in-Made-clause-error : goal.returns-in-Made-clause-error
 returns-in-Made-clause-error g c = let h = c.args.h.n in let k = c.args.self.now.config in
     let v = record_of c.args.pass.now in let w = record_of c.find_way.new.pass in
     let u = record_of c.land_order.new.pass in on_err_weaker c.land_order.result
-    (λ x. stops_by_then (Brings h) v w u (vain_by_wider
+    (λ x. stops_then k AtNone (Brings h) v w u (vain_by_wider
     (OfThis (jobs.Fetch c.args.h)) (Brings h) (brings_fetch h) AtNone v w
     (vain_way k (jobs.Fetch c.args.h) _ v w (ap way_told c.in-Made.is) c.in_ok-order.ensures.tries))
     (turn_stops AtNone (Brings h) jobs.Land (brings_land h) (λ j y. y) k w u x))
@@ -112,7 +112,7 @@ pub returns-in-Direct-clause-error : goal.returns-in-Direct-clause-error
 returns-in-Direct-clause-error g c = let h = c.args.h.n in let k = c.args.self.now.config in
     let v = record_of c.args.pass.now in let w = record_of c.find_way.new.pass in
     let u = record_of c.try_turn.new.pass in on_err_weaker c.try_turn.result
-    (λ x. stops_by_then (Brings h) v w u (vain_by_wider
+    (λ x. stops_then k AtNone (Brings h) v w u (vain_by_wider
     (OfThis (jobs.Fetch c.args.h)) (Brings h) (brings_fetch h) AtNone v w
     (vain_way k (jobs.Fetch c.args.h) _ v w (ap way_told c.in-Direct.is) c.in_ok-order.ensures.tries))
     (turn_stops AtNone (Brings h) (jobs.Swap c.args.h) (brings_swap h) (λ j y. y) k w u x))

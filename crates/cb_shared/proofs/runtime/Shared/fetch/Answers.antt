@@ -1,7 +1,7 @@
 use Rattle.std.proofs.Common.{ℕ, ◌∙◌, Option, subst, sym}
 use Rattle.cb_types.specs.declared.order.Kept.{Kept}
 use Rattle.cb_record.specs.Parts.{Grows, Part}
-use Rattle.cb_shared.specs.Ordering.{fetch_told}
+use Rattle.cb_core.specs.Ordered.{fetch_answer}
 use Rattle.cb_shared.specs.Passes.{record_of}
 use Rattle.cb_shared.specs.Seeking.{FindsKnown}
 use Rattle.cb_shared.specs.UnderLock.{IsBelow}
@@ -11,7 +11,7 @@ use Rattle.cb_shared.proofs.runtime.Shared.fetch.Goals as goal
 pub find_swapped-requires-clause-handle : goal.find_swapped-requires-clause-handle
 find_swapped-requires-clause-handle g c = subst (IsBelow c.args.self.now.config)
     (sym c.fetched_of.ensures) (fetched_below c.args.self.now.config c.args.h.n
-    (fetch_told c.fetch_within-fetching.result) c.requires.handle)
+    (fetch_answer c.fetch_within-fetching.result) c.requires.handle)
 
 pub returns-clause-turn : goal.returns-clause-turn
 returns-clause-turn g c = (

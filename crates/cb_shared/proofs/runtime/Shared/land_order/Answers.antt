@@ -4,7 +4,7 @@ use Rattle.std.proofs.lemmas.Result.{IfOk-from_err}
 use Rattle.cb_types.specs.declared.job.Job.TheVariants.{Land}
 use Rattle.cb_types.specs.declared.order.DecodeOrder.{DecodeOrder}
 use Rattle.cb_types.specs.declared.order.Kept.TheVariants.{Decode}
-use Rattle.cb_shared.specs.Calls.{AtNone, IsForWant, IsUnanswered, OfThis}
+use Rattle.cb_shared.specs.Calls.{AtNone, OfThis}
 use Rattle.cb_shared.specs.Passes.{record_of}
 use Rattle.cb_shared.proofs.CallSteps.{err_always, stops_at_once, turn_ends, turn_in_vain}
 use Rattle.cb_shared.proofs.CallSteps.{turn_without}
@@ -26,7 +26,7 @@ returns-in_err-reply-in-Ok-clause-turn g c = IfOk-from_err _ _ c.from_residual.e
 pub returns-in_err-reply-in-Ok-clause-error : goal.returns-in_err-reply-in-Ok-clause-error
 returns-in_err-reply-in-Ok-clause-error g c = err_always c.from_residual.result _
     (turn_without c.args.self.now.config Land c.in_err-reply-in-Ok.field-0.0 (record_of c.args.pass.now)
-    (record_of c.land.new.pass) tt c.in_err-reply-in-Ok.ensures.turn)
+    (record_of c.land.new.pass) c.in_err-reply-in-Ok.ensures.turn)
 
 pub returns-in_err-reply-in-Ok-clause-one : goal.returns-in_err-reply-in-Ok-clause-one
 returns-in_err-reply-in-Ok-clause-one g c = at_most_one Land (record_of c.args.pass.now)
@@ -74,8 +74,8 @@ pub returns-clause-of : goal.returns-clause-of
 returns-clause-of g c = c.requires.of
 
 pub returns-clause-error : goal.returns-clause-error
-returns-clause-error g c = stops_at_once AtNone (IsUnanswered (OfThis Land))
-    (IsForWant (OfThis Land)) (record_of c.args.pass.now)
+returns-clause-error g c =
+    stops_at_once c.args.self.now.config AtNone (OfThis Land) (record_of c.args.pass.now)
 
 pub returns-clause-one : goal.returns-clause-one
 returns-clause-one g c = ([], refl, inl refl)

@@ -2,7 +2,7 @@ use Rattle.std.proofs.Common.{◌≤◌, List, ℕ, length, sym, subst}
 use Rattle.std.specs.Result.{IfOk, OnErr}
 use Rattle.cb_types.specs.Config.{most_bytes}
 use Rattle.cb_types.specs.declared.job.Job.TheVariants as jobs
-use Rattle.cb_shared.specs.Calls.{AtNone, IsForWant, IsUnanswered, OfThis, TurnGives, TurnStops}
+use Rattle.cb_shared.specs.Calls.{AtNone, OfThis, TurnGives, TurnStops}
 use Rattle.cb_shared.specs.Making.{MakesNew}
 use Rattle.cb_shared.specs.Passes.{record_of}
 use Rattle.cb_shared.proofs.CallSteps.{err_always, stops_at_once}
@@ -10,8 +10,8 @@ use Rattle.cb_shared.proofs.runtime.Shared.make.Goals as goal
 
 pub returns-in_err-copy_of-clause-error : goal.returns-in_err-copy_of-clause-error
 returns-in_err-copy_of-clause-error g c = err_always c.from_residual.result _
-    (stops_at_once AtNone (IsUnanswered (OfThis (jobs.Make c.args.bytes.now)))
-    (IsForWant (OfThis (jobs.Make c.args.bytes.now))) (record_of c.args.pass.now))
+    (stops_at_once c.args.self.now.config AtNone (OfThis (jobs.Make c.args.bytes.now))
+    (record_of c.args.pass.now))
 
 pub turn_until-requires-clause-job : goal.turn_until-requires-clause-job
 turn_until-requires-clause-job g c =

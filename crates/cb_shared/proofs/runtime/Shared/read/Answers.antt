@@ -1,6 +1,6 @@
 use Rattle.std.proofs.Common.{Some, false, refl}
 use Rattle.std.proofs.lemmas.Result.{IfOk-from_err}
-use Rattle.cb_shared.specs.Calls.{AtThis, IsForWant, IsReadJob, IsUnanswered}
+use Rattle.cb_shared.specs.Calls.{AtThis, IsReadJob, IsUnanswered}
 use Rattle.cb_shared.specs.Passes.{record_of}
 use Rattle.cb_shared.proofs.CallSteps.{err_always, known_still, read_again, read_at_last, so_far}
 use Rattle.cb_shared.proofs.CallSteps.{stops_then}
@@ -26,8 +26,8 @@ try_read-requires-clause-knows g c = known_still (AtThis c.args.h.n)
 
 pub returns-in_err-reply-clause-error : goal.returns-in_err-reply-clause-error
 returns-in_err-reply-clause-error g c = err_always c.from_residual.result _
-    (stops_then (AtThis c.args.h.n) (IsUnanswered (IsReadJob c.args.h.n))
-    (IsForWant (IsReadJob c.args.h.n)) (record_of c.args.pass.now) (record_of c.loop.pass)
+    (stops_then c.args.self.now.config (AtThis c.args.h.n) (IsReadJob c.args.h.n)
+    (record_of c.args.pass.now) (record_of c.loop.pass)
     (record_of c.try_read.new.pass) c.loop.invariant.1 c.in_err-reply.ensures.error)
 
 pub returns-in-Some-2-clause-read : goal.returns-in-Some-2-clause-read

@@ -49,7 +49,7 @@ returns-else-has_brought-clause-read g c = IfOk-weaker c.bring.result _ _
 pub returns-else-has_brought-clause-error : goal.returns-else-has_brought-clause-error
 returns-else-has_brought-clause-error g c = on_err_weaker c.bring.result
     (λ x. stops_by_wider (Brings c.args.h.n) (IsReadJob c.args.h.n) (read_brings c.args.h.n)
-    (AtThis c.args.h.n) (record_of c.args.pass.now) (record_of c.bring.new.pass) x)
+    c.args.self.now.config (AtThis c.args.h.n) (record_of c.args.pass.now) (record_of c.bring.new.pass) x)
     c.bring.ensures.error
 
 pub returns-else-has_brought-clause-jobs : goal.returns-else-has_brought-clause-jobs

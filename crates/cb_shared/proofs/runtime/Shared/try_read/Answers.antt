@@ -39,7 +39,7 @@ returns-in-NotHere-clause-read g c = IfOk-weaker c.read_far.result _ _
 
 pub returns-in-NotHere-clause-error : goal.returns-in-NotHere-clause-error
 returns-in-NotHere-clause-error g c = on_err_weaker c.read_far.result
-    (λ x. far_stops c.args.h.n (IsReadJob c.args.h.n) (record_of c.args.pass.now)
+    (λ x. far_stops c.args.self.now.config c.args.h.n (IsReadJob c.args.h.n) (record_of c.args.pass.now)
     (record_of c.read_beside.new.pass) (record_of c.read_far.new.pass) (found_far c.args.h.n
     c.in_ok-version.field-0 (record_of c.args.pass.now) (record_of c.read_beside.new.pass)
     c.in-NotHere.is c.in_ok-version.ensures.read) x) c.read_far.ensures.error

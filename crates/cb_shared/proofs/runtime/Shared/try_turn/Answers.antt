@@ -11,7 +11,7 @@ turn_within-requires-clause-alone g c = c.requires.alone
 pub returns-in_err-reply-clause-error : goal.returns-in_err-reply-clause-error
 returns-in_err-reply-clause-error g c = err_always c.from_residual.result _
     (turn_without c.args.self.now.config c.args.job.now c.in_err-reply.field-0.0
-    (record_of c.args.pass.now) (record_of c.turn_within.new.pass) c.requires.called
+    (record_of c.args.pass.now) (record_of c.turn_within.new.pass)
     c.in_err-reply.ensures.turn)
 
 pub returns-then-is_answer-clause-turn : goal.returns-then-is_answer-clause-turn

@@ -1,5 +1,5 @@
 use Rattle.std.proofs.lemmas.Result.{IfOk-from_err}
-use Rattle.cb_shared.specs.Calls.{IsForWant, IsUnanswered, LooksOf, OfThis}
+use Rattle.cb_shared.specs.Calls.{IsUnanswered, LooksOf, OfThis}
 use Rattle.cb_shared.specs.Passes.{record_of}
 use Rattle.cb_shared.specs.Turning.{object_of}
 use Rattle.cb_shared.proofs.CallSteps.{err_always, known_still, new_at_last, so_far, stops_then}
@@ -23,8 +23,8 @@ try_turn-requires-clause-knows g c = known_still (LooksOf c.args.job.now)
 
 pub returns-in_err-reply-clause-error : goal.returns-in_err-reply-clause-error
 returns-in_err-reply-clause-error g c = err_always c.from_residual.result _
-    (stops_then (LooksOf c.args.job.now) (IsUnanswered (OfThis c.args.job.now))
-    (IsForWant (OfThis c.args.job.now)) (record_of c.args.pass.now) (record_of c.loop.pass)
+    (stops_then c.args.self.now.config (LooksOf c.args.job.now) (OfThis c.args.job.now)
+    (record_of c.args.pass.now) (record_of c.loop.pass)
     (record_of c.try_turn.new.pass) c.loop.invariant.1 c.in_err-reply.ensures.error)
 
 pub returns-in-Some-2-clause-turn : goal.returns-in-Some-2-clause-turn

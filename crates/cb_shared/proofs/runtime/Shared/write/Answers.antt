@@ -1,10 +1,10 @@
-use Rattle.std.proofs.Common.{Some, length}
+use Rattle.std.proofs.Common.{Some}
 use Rattle.std.proofs.lemmas.Result.{IfOk-from_err}
-use Rattle.cb_shared.specs.Calls.{AtThis, IsForWant, IsUnanswered, IsWriteJob}
+use Rattle.cb_shared.specs.Calls.{AtThis, IsUnanswered, IsWriteJob}
 use Rattle.cb_shared.specs.Passes.{record_of}
 use Rattle.cb_shared.proofs.CallSteps.{err_always, known_still, so_far, stops_then}
-use Rattle.cb_shared.proofs.Landings.{lands_so_far, lands_then}
 use Rattle.cb_shared.proofs.WriteParts.{write_again, write_at_last}
+use Rattle.cb_shared.proofs.WriteTurns.{writes_on, writes_so_far, writes_then}
 use Rattle.cb_shared.proofs.runtime.Shared.write.Goals as goal
 
 pub loop-init : goal.loop-init
@@ -13,7 +13,7 @@ loop-init g c = (
   so_far (AtThis c.args.h.n) (IsUnanswered
       (IsWriteJob c.args.h.n c.args.at c.args.bytes.now))
       (record_of c.args.pass.now),
-  lands_so_far c.args.h.n c.args.at (length c.args.bytes.now) (record_of c.args.pass.now),
+  writes_so_far c.args.h.n c.args.at c.args.bytes.now (record_of c.args.pass.now),
 )
 
 pub try_write-requires-clause-of : goal.try_write-requires-clause-of
@@ -28,10 +28,8 @@ try_write-requires-clause-knows g c = known_still (AtThis c.args.h.n)
 
 pub returns-in_err-reply-clause-error : goal.returns-in_err-reply-clause-error
 returns-in_err-reply-clause-error g c = err_always c.from_residual.result _
-    (stops_then (AtThis c.args.h.n) (IsUnanswered
-    (IsWriteJob c.args.h.n c.args.at c.args.bytes.now))
-    (IsForWant (IsWriteJob c.args.h.n c.args.at c.args.bytes.now))
-    (record_of c.args.pass.now) (record_of c.loop.pass) (record_of c.try_write.new.pass)
+    (stops_then c.args.self.now.config (AtThis c.args.h.n)
+    (IsWriteJob c.args.h.n c.args.at c.args.bytes.now) (record_of c.args.pass.now) (record_of c.loop.pass) (record_of c.try_write.new.pass)
     c.loop.invariant.1 c.in_err-reply.ensures.error)
 
 pub returns-in-Some-2-clause-write : goal.returns-in-Some-2-clause-write
@@ -46,20 +44,20 @@ loop-preserved g c = (
   write_again c.args.self.now.config c.args.h.n c.args.at c.args.bytes.now c.in_ok-reply.field-0
       (record_of c.args.pass.now) (record_of c.loop.pass) (record_of c.try_write.new.pass)
       c.in_default.is c.loop.invariant.1 c.in_ok-reply.ensures.write,
-  lands_then c.args.h.n c.args.at (length c.args.bytes.now) (record_of c.args.pass.now)
+  writes_on c.args.h.n c.args.at c.args.bytes.now (record_of c.args.pass.now)
       (record_of c.loop.pass) (record_of c.try_write.new.pass) c.loop.invariant.2
-      c.in_ok-reply.ensures.lands,
+      (c.in_ok-reply.ensures.on c.in_default.is),
 )
 
-pub returns-in_err-reply-clause-lands : goal.returns-in_err-reply-clause-lands
-returns-in_err-reply-clause-lands g c = lands_then c.args.h.n c.args.at (length c.args.bytes.now)
+pub returns-in_err-reply-clause-jobs : goal.returns-in_err-reply-clause-jobs
+returns-in_err-reply-clause-jobs g c = writes_then c.args.h.n c.args.at c.args.bytes.now
     (record_of c.args.pass.now) (record_of c.loop.pass) (record_of c.try_write.new.pass)
-    c.loop.invariant.2 c.in_err-reply.ensures.lands
+    c.loop.invariant.2 c.in_err-reply.ensures.jobs
 
-pub returns-in-Some-2-clause-lands : goal.returns-in-Some-2-clause-lands
-returns-in-Some-2-clause-lands g c = lands_then c.args.h.n c.args.at (length c.args.bytes.now)
+pub returns-in-Some-2-clause-jobs : goal.returns-in-Some-2-clause-jobs
+returns-in-Some-2-clause-jobs g c = writes_then c.args.h.n c.args.at c.args.bytes.now
     (record_of c.args.pass.now) (record_of c.loop.pass) (record_of c.try_write.new.pass)
-    c.loop.invariant.2 c.in_ok-reply.ensures.lands
+    c.loop.invariant.2 c.in_ok-reply.ensures.jobs
 
 pub returns-in_err-reply-clause-of : goal.returns-in_err-reply-clause-of
 returns-in_err-reply-clause-of g c = c.in_err-reply.ensures.of

@@ -1,16 +1,17 @@
-use Rattle.std.proofs.Common.{Option, ap, refl, subst}
-use Rattle.std.proofs.lemmas.Result.{IfOk-from_err, IfOk-weaker, on_err_weaker}
+use Rattle.std.proofs.Common.{Option, ap, inl, inr, refl, subst}
+use Rattle.std.proofs.lemmas.Result.{IfOk-from_err, IfOk-weaker}
 use Rattle.cb_types.specs.declared.job.Job.TheVariants as jobs
 use Rattle.cb_types.specs.declared.reply.Reply.{Reply}
 use Rattle.cb_shared.specs.declared.ways.Way.{Way}
-use Rattle.cb_shared.specs.Calls.{AtNone, IsWriteJobAt, OfThis, TriesBy}
+use Rattle.cb_shared.specs.Calls.{AtNone, IsWriteJob, OfThis, TriesBy}
 use Rattle.cb_shared.specs.Passes.{record_of}
 use Rattle.cb_shared.specs.Ways.{HasWay, way_told}
 use Rattle.cb_shared.proofs.CallSteps.{err_always}
-use Rattle.cb_shared.proofs.FarSteps.{own_stops, own_tries, stops_by_then, tries_by_then}
-use Rattle.cb_shared.proofs.FarSteps.{tries_by_wider, turn_stops, turn_tries, vain_by_wider}
-use Rattle.cb_shared.proofs.FarSteps.{vain_way, way_knows, write_fetch, write_land}
+use Rattle.cb_shared.proofs.FarSteps.{tries_by_wider, turn_stops, way_knows, write_fetch}
+use Rattle.cb_shared.proofs.FarSteps.{write_stops, write_tries}
 use Rattle.cb_shared.proofs.Resting.{known_below}
+use Rattle.cb_shared.proofs.WriteTurns.{behind_at_most, behind_one, is_one, told_direct, told_made}
+use Rattle.cb_shared.proofs.WriteTurns.{write_first, write_told}
 use Rattle.cb_shared.proofs.runtime.Shared.write_far.Goals as goal
 
 pub find_way-requires-clause-handle : goal.find_way-requires-clause-handle
@@ -26,9 +27,16 @@ returns-in_err-order-clause-write g c = IfOk-from_err _ _ c.from_residual.ensure
 pub returns-in_err-order-clause-error : goal.returns-in_err-order-clause-error
 returns-in_err-order-clause-error g c = let h = c.args.h.n in let a = c.args.at in
     let b = c.args.bytes.now in err_always c.from_residual.result _
-    (turn_stops AtNone (IsWriteJobAt h a b c.args.word) (jobs.Fetch c.args.h) (write_fetch h a b c.args.word _ refl) (λ k x. x)
+    (turn_stops AtNone (IsWriteJob h a b) (jobs.Fetch c.args.h) (write_fetch h a b _ refl) (λ k x. x)
     c.args.self.now.config (record_of c.args.pass.now) (record_of c.find_way.new.pass)
     c.in_err-order.ensures.error)
+
+pub returns-in_err-order-clause-jobs : goal.returns-in_err-order-clause-jobs
+returns-in_err-order-clause-jobs g c = write_first c.args.h.n _ _ _ (record_of c.args.pass.now)
+    (record_of c.find_way.new.pass) c.in_err-order.ensures.one
+
+pub returns-in_err-order-clause-on : goal.returns-in_err-order-clause-on
+returns-in_err-order-clause-on g c = IfOk-from_err _ _ c.from_residual.ensures.0
 
 pub land_order-requires-clause-of : goal.land_order-requires-clause-of
 land_order-requires-clause-of g c = c.in_ok-order.ensures.of
@@ -62,57 +70,119 @@ pub returns-then-is_inside-clause-of : goal.returns-then-is_inside-clause-of
 returns-then-is_inside-clause-of g c = c.land_order.ensures.of
 
 pub returns-then-is_inside-clause-write : goal.returns-then-is_inside-clause-write
-returns-then-is_inside-clause-write g c = let h = c.args.h.n in let a = c.args.at in
-    let b = c.args.bytes.now in let k = c.args.self.now.config in
+returns-then-is_inside-clause-write g c = let h = c.args.h.n in let a = c.args.at in let b = c.args.bytes.now in
     let v = record_of c.args.pass.now in let w = record_of c.find_way.new.pass in
-    let u = record_of c.land_order.new.pass in IfOk-weaker c.land_order.result _ _
-    (λ o x. tries_by_then k AtNone (IsWriteJobAt h a b c.args.word) o v w u (vain_by_wider
-    (OfThis (jobs.Fetch c.args.h)) (IsWriteJobAt h a b c.args.word) (write_fetch h a b c.args.word) AtNone v w
-    (vain_way k (jobs.Fetch c.args.h) _ v w (ap way_told c.in-Made.is) c.in_ok-order.ensures.tries))
-    (turn_tries AtNone (IsWriteJobAt h a b c.args.word) jobs.Land (write_land h a b c.args.word (c.is_inside.ensures.yes c.if-is_inside.true)) (λ j y. y) k o w u (λ r. refl)
-    x)) c.land_order.ensures.turn
+    let u = record_of c.land_order.new.pass in
+    write_tries c.args.self.now.config h a b _ jobs.Land (inr (inr refl)) (λ k n. n)
+    (λ q. refl) c.land_order.result v w u (ap way_told c.in-Made.is) c.in_ok-order.ensures.tries
+    c.land_order.ensures.turn
 
 pub returns-then-is_inside-clause-error : goal.returns-then-is_inside-clause-error
-returns-then-is_inside-clause-error g c = let h = c.args.h.n in let a = c.args.at in
-    let b = c.args.bytes.now in let k = c.args.self.now.config in
+returns-then-is_inside-clause-error g c = let h = c.args.h.n in let a = c.args.at in let b = c.args.bytes.now in
     let v = record_of c.args.pass.now in let w = record_of c.find_way.new.pass in
-    let u = record_of c.land_order.new.pass in on_err_weaker c.land_order.result
-    (λ x. stops_by_then (IsWriteJobAt h a b c.args.word) v w u (vain_by_wider
-    (OfThis (jobs.Fetch c.args.h)) (IsWriteJobAt h a b c.args.word) (write_fetch h a b c.args.word) AtNone v w
-    (vain_way k (jobs.Fetch c.args.h) _ v w (ap way_told c.in-Made.is) c.in_ok-order.ensures.tries))
-    (turn_stops AtNone (IsWriteJobAt h a b c.args.word) jobs.Land (write_land h a b c.args.word (c.is_inside.ensures.yes c.if-is_inside.true)) (λ j y. y) k w u x))
+    let u = record_of c.land_order.new.pass in
+    write_stops c.args.self.now.config h a b _ jobs.Land (inr (inr refl)) (λ k n. n)
+    (λ q. refl) c.land_order.result v w u (ap way_told c.in-Made.is) c.in_ok-order.ensures.tries
     c.land_order.ensures.error
+
+pub returns-then-is_inside-clause-jobs : goal.returns-then-is_inside-clause-jobs
+returns-then-is_inside-clause-jobs g c = let h = c.args.h.n in let a = c.args.at in let b = c.args.bytes.now in
+    let v = record_of c.args.pass.now in let w = record_of c.find_way.new.pass in
+    let u = record_of c.land_order.new.pass in
+    behind_at_most h (jobs.Write c.args.h a b) _ _ jobs.Land _
+    (inl (refl, c.is_inside.ensures.yes c.if-is_inside.true)) (λ r. refl) v w u (told_made h c.in_ok-order.field-0 c.in-Made.order
+    c.args.patience.now.brought c.find_way.new.patience.brought v w c.in-Made.is
+    c.in_ok-order.ensures.found)
+    c.land_order.ensures.one
+
+pub returns-then-is_inside-clause-on : goal.returns-then-is_inside-clause-on
+returns-then-is_inside-clause-on g c = let h = c.args.h.n in let a = c.args.at in let b = c.args.bytes.now in
+    let v = record_of c.args.pass.now in let w = record_of c.find_way.new.pass in
+    let u = record_of c.land_order.new.pass in
+    IfOk-weaker c.land_order.result _ _ (λ o x none. behind_one h (jobs.Write c.args.h a b) _ _ jobs.Land _
+    (inl (refl, c.is_inside.ensures.yes c.if-is_inside.true)) (λ r. refl) v w u (told_made h c.in_ok-order.field-0 c.in-Made.order
+    c.args.patience.now.brought c.find_way.new.patience.brought v w c.in-Made.is
+    c.in_ok-order.ensures.found)
+    (is_one jobs.Land c.find_way.new.patience.brought c.land_order.new.patience.brought w u (x none)))
+    c.land_order.ensures.brought
 
 pub returns-else-is_inside-clause-of : goal.returns-else-is_inside-clause-of
 returns-else-is_inside-clause-of g c = c.write_by_turn.ensures.of
 
 pub returns-else-is_inside-clause-write : goal.returns-else-is_inside-clause-write
-returns-else-is_inside-clause-write g c = own_tries c.args.self.now.config c.args.h.n c.args.at
-    c.args.bytes.now c.args.word _ c.write_by_turn.result (record_of c.args.pass.now)
-    (record_of c.find_way.new.pass) (record_of c.write_by_turn.new.pass) (ap way_told c.in-Made.is)
-    c.in_ok-order.ensures.tries c.write_by_turn.ensures.turn
+returns-else-is_inside-clause-write g c = let h = c.args.h.n in let a = c.args.at in let b = c.args.bytes.now in
+    let v = record_of c.args.pass.now in let w = record_of c.find_way.new.pass in
+    let u = record_of c.write_by_turn.new.pass in
+    write_tries c.args.self.now.config h a b _ (jobs.Write c.args.h a b) (inl refl) (λ k n. n)
+    (λ q. refl) c.write_by_turn.result v w u (ap way_told c.in-Made.is) c.in_ok-order.ensures.tries
+    c.write_by_turn.ensures.turn
 
 pub returns-else-is_inside-clause-error : goal.returns-else-is_inside-clause-error
-returns-else-is_inside-clause-error g c = own_stops c.args.self.now.config c.args.h.n c.args.at
-    c.args.bytes.now c.args.word _ c.write_by_turn.result (record_of c.args.pass.now)
-    (record_of c.find_way.new.pass) (record_of c.write_by_turn.new.pass) (ap way_told c.in-Made.is)
-    c.in_ok-order.ensures.tries c.write_by_turn.ensures.error
+returns-else-is_inside-clause-error g c = let h = c.args.h.n in let a = c.args.at in let b = c.args.bytes.now in
+    let v = record_of c.args.pass.now in let w = record_of c.find_way.new.pass in
+    let u = record_of c.write_by_turn.new.pass in
+    write_stops c.args.self.now.config h a b _ (jobs.Write c.args.h a b) (inl refl) (λ k n. n)
+    (λ q. refl) c.write_by_turn.result v w u (ap way_told c.in-Made.is) c.in_ok-order.ensures.tries
+    c.write_by_turn.ensures.error
+
+pub returns-else-is_inside-clause-jobs : goal.returns-else-is_inside-clause-jobs
+returns-else-is_inside-clause-jobs g c = let h = c.args.h.n in let a = c.args.at in let b = c.args.bytes.now in
+    let v = record_of c.args.pass.now in let w = record_of c.find_way.new.pass in
+    let u = record_of c.write_by_turn.new.pass in
+    behind_at_most h (jobs.Write c.args.h a b) _ _ (jobs.Write c.args.h a b) _
+    (inr (refl, c.is_inside.ensures.no c.if-is_inside.false)) (λ r. refl) v w u (told_made h c.in_ok-order.field-0 c.in-Made.order
+    c.args.patience.now.brought c.find_way.new.patience.brought v w c.in-Made.is
+    c.in_ok-order.ensures.found)
+    c.write_by_turn.ensures.one
+
+pub returns-else-is_inside-clause-on : goal.returns-else-is_inside-clause-on
+returns-else-is_inside-clause-on g c = let h = c.args.h.n in let a = c.args.at in let b = c.args.bytes.now in
+    let v = record_of c.args.pass.now in let w = record_of c.find_way.new.pass in
+    let u = record_of c.write_by_turn.new.pass in
+    IfOk-weaker c.write_by_turn.result _ _ (λ o x none. behind_one h (jobs.Write c.args.h a b) _ _ (jobs.Write c.args.h a b) _
+    (inr (refl, c.is_inside.ensures.no c.if-is_inside.false)) (λ r. refl) v w u (told_made h c.in_ok-order.field-0 c.in-Made.order
+    c.args.patience.now.brought c.find_way.new.patience.brought v w c.in-Made.is
+    c.in_ok-order.ensures.found) x)
+    c.write_by_turn.ensures.on
 
 pub returns-in-Direct-clause-of : goal.returns-in-Direct-clause-of
 returns-in-Direct-clause-of g c = c.write_by_turn-in-Direct.ensures.of
 
 pub returns-in-Direct-clause-write : goal.returns-in-Direct-clause-write
-returns-in-Direct-clause-write g c = own_tries c.args.self.now.config c.args.h.n c.args.at
-    c.args.bytes.now c.args.word _ c.write_by_turn-in-Direct.result (record_of c.args.pass.now)
-    (record_of c.find_way.new.pass) (record_of c.write_by_turn-in-Direct.new.pass)
-    (ap way_told c.in-Direct.is) c.in_ok-order.ensures.tries c.write_by_turn-in-Direct.ensures.turn
+returns-in-Direct-clause-write g c = let h = c.args.h.n in let a = c.args.at in let b = c.args.bytes.now in
+    let v = record_of c.args.pass.now in let w = record_of c.find_way.new.pass in
+    let u = record_of c.write_by_turn-in-Direct.new.pass in
+    write_tries c.args.self.now.config h a b _ (jobs.Write c.args.h a b) (inl refl) (λ k n. n)
+    (λ q. refl) c.write_by_turn-in-Direct.result v w u (ap way_told c.in-Direct.is) c.in_ok-order.ensures.tries
+    c.write_by_turn-in-Direct.ensures.turn
 
 pub returns-in-Direct-clause-error : goal.returns-in-Direct-clause-error
-returns-in-Direct-clause-error g c = own_stops c.args.self.now.config c.args.h.n c.args.at
-    c.args.bytes.now c.args.word _ c.write_by_turn-in-Direct.result (record_of c.args.pass.now)
-    (record_of c.find_way.new.pass) (record_of c.write_by_turn-in-Direct.new.pass)
-    (ap way_told c.in-Direct.is) c.in_ok-order.ensures.tries
+returns-in-Direct-clause-error g c = let h = c.args.h.n in let a = c.args.at in let b = c.args.bytes.now in
+    let v = record_of c.args.pass.now in let w = record_of c.find_way.new.pass in
+    let u = record_of c.write_by_turn-in-Direct.new.pass in
+    write_stops c.args.self.now.config h a b _ (jobs.Write c.args.h a b) (inl refl) (λ k n. n)
+    (λ q. refl) c.write_by_turn-in-Direct.result v w u (ap way_told c.in-Direct.is) c.in_ok-order.ensures.tries
     c.write_by_turn-in-Direct.ensures.error
+
+pub returns-in-Direct-clause-jobs : goal.returns-in-Direct-clause-jobs
+returns-in-Direct-clause-jobs g c = let h = c.args.h.n in let a = c.args.at in let b = c.args.bytes.now in
+    let v = record_of c.args.pass.now in let w = record_of c.find_way.new.pass in
+    let u = record_of c.write_by_turn-in-Direct.new.pass in
+    behind_at_most h (jobs.Write c.args.h a b) _ _ (jobs.Write c.args.h a b) _
+    refl (λ r. refl) v w u (told_direct h c.in_ok-order.field-0
+    c.args.patience.now.brought c.find_way.new.patience.brought v w c.in-Direct.is
+    c.in_ok-order.ensures.found)
+    c.write_by_turn-in-Direct.ensures.one
+
+pub returns-in-Direct-clause-on : goal.returns-in-Direct-clause-on
+returns-in-Direct-clause-on g c = let h = c.args.h.n in let a = c.args.at in let b = c.args.bytes.now in
+    let v = record_of c.args.pass.now in let w = record_of c.find_way.new.pass in
+    let u = record_of c.write_by_turn-in-Direct.new.pass in
+    IfOk-weaker c.write_by_turn-in-Direct.result _ _ (λ o x none. behind_one h (jobs.Write c.args.h a b) _ _ (jobs.Write c.args.h a b) _
+    refl (λ r. refl) v w u (told_direct h c.in_ok-order.field-0
+    c.args.patience.now.brought c.find_way.new.patience.brought v w c.in-Direct.is
+    c.in_ok-order.ensures.found) x)
+    c.write_by_turn-in-Direct.ensures.on
 
 pub returns-in-Told-clause-of : goal.returns-in-Told-clause-of
 returns-in-Told-clause-of g c = c.in_ok-order.ensures.of
@@ -121,6 +191,16 @@ pub returns-in-Told-clause-write : goal.returns-in-Told-clause-write
 returns-in-Told-clause-write g c = let h = c.args.h.n in let a = c.args.at in
     let b = c.args.bytes.now in let k = c.args.self.now.config in
     let v = record_of c.args.pass.now in let w = record_of c.find_way.new.pass in
-    tries_by_wider (OfThis (jobs.Fetch c.args.h)) (IsWriteJobAt h a b c.args.word) (write_fetch h a b c.args.word) k AtNone
+    tries_by_wider (OfThis (jobs.Fetch c.args.h)) (IsWriteJob h a b) (write_fetch h a b) k AtNone
     c.in-Told.told v w (subst (λ (o : Option Reply). TriesBy k AtNone (OfThis (jobs.Fetch c.args.h))
     o v w) (ap way_told c.in-Told.is) c.in_ok-order.ensures.tries)
+
+pub returns-in-Told-clause-jobs : goal.returns-in-Told-clause-jobs
+returns-in-Told-clause-jobs g c = write_first c.args.h.n _ _ _ (record_of c.args.pass.now)
+    (record_of c.find_way.new.pass) c.in_ok-order.ensures.one
+
+pub returns-in-Told-clause-on : goal.returns-in-Told-clause-on
+returns-in-Told-clause-on g c = λ none. write_told c.args.h.n _ _ _ c.in-Told.told
+    c.in_ok-order.field-0 c.args.patience.now.brought c.find_way.new.patience.brought
+    (record_of c.args.pass.now) (record_of c.find_way.new.pass) c.in-Told.is
+    c.in_ok-order.ensures.found

@@ -1,0 +1,264 @@
+-- The turns of a write have the job that its tries before ask for.
+use Rattle.std.proofs.Common.{◌≡◌, ℕ, ◌+◌, ◌<◌, ◌≤◌, List, [], ◌∷◌, ◌++◌, length, Option, None, Some, refl}
+use Rattle.std.proofs.Common.{Bool, append_assoc, sym, ap, ◌∙◌, subst, inl, inr}
+use Rattle.std.specs.Prelude.{◌⊎◌, false, IfOk, OnErr, Result, Ok, Err}
+use Rattle.cb_member.specs.declared.no_memory.NoMemory.{NoMemory}
+use Rattle.cb_types.specs.declared.config.Config.{Config}
+use Rattle.cb_types.specs.declared.job.Job.{Job}
+use Rattle.cb_types.specs.declared.job.Job.TheVariants as jobs
+use Rattle.cb_types.specs.declared.order.DecodeOrder.{DecodeOrder}
+use Rattle.cb_types.specs.declared.reply.Reply.{Reply}
+use Rattle.cb_types.specs.declared.reply.Reply.TheVariants as answer
+use Rattle.cb_ptr.specs.Word.{len_of}
+use Rattle.cb_rule.specs.declared.turn.Turn.{Turn}
+use Rattle.cb_rule.specs.declared.view.Look.{Look}
+use Rattle.cb_rule.specs.declared.view.View.{View}
+use Rattle.cb_rule.specs.Steps.{look_at}
+use Rattle.cb_record.specs.Lists.{HasOne}
+use Rattle.cb_record.specs.Parts.{Part}
+use Rattle.cb_record.proofs.Laws.{has_one_left, has_one_right}
+use Rattle.cb_shared.specs.declared.answers.WriteAnswer.{WriteAnswer}
+use Rattle.cb_shared.specs.declared.answers.WriteAnswer.TheVariants as place
+use Rattle.cb_shared.specs.declared.ways.Way.{Way}
+use Rattle.cb_shared.specs.declared.ways.Way.TheVariants as ways
+use Rattle.cb_shared.specs.Calls.{StopsBy, TriesBy, WriteFinds, the_handle}
+use Rattle.cb_shared.specs.Fetching.{AreDone, AreWrites, AreWritesOn, FoundInside, FoundPast}
+use Rattle.cb_shared.specs.Fetching.{GetsBoth, GetsTurns, GoAsWrite, GoesOnAsWrite, IsOneAtMost}
+use Rattle.cb_shared.specs.Fetching.{IsOneMore, IsOneOf, IsWriteFor, job_behind, job_behind_fetch}
+use Rattle.cb_shared.specs.Fetching.{job_behind_turn}
+use Rattle.cb_shared.specs.Ways.{IsFound, IsWayTold}
+use Rattle.cb_shared.specs.Writing.{FoundFarAs, WriteGives}
+use Rattle.cb_shared.proofs.CallSteps.{stops_idle}
+use Rattle.cb_shared.proofs.Fetches.{done_more, job_more, turns_then}
+use Rattle.cb_shared.proofs.WriteParts.{write_finds}
+
+pub is_one : (job : Job) (b m : Bool) (v w : View) → GetsTurns (IsOneMore job b m) v w
+    → GetsTurns (IsOneOf job) v w
+is_one job b m v w (ts, got, (one, after)) = (ts, got, one)
+
+-- one fetch that was told so
+abbrev pub IsFetchTold : ℕ → Option Reply → List Turn → Type 0
+IsFetchTold h told ts =
+    (t : Turn) × (ts ≡ t ∷ []) × (t.job ≡ jobs.Fetch (the_handle h)) × (t.reply ≡ told)
+
+pub told_as : (h : ℕ) (way : Way) (told : Option Reply) (b m : Bool) (v w : View)
+    → ((r : Option Reply) → IsWayTold way r → r ≡ told) → GetsTurns (IsFound h way b m) v w
+    → GetsTurns (IsFetchTold h told) v w
+told_as h way told b m v w only (ts, got, (t, one, of, reply, after)) =
+    (ts, got, (t, one, of, only t.reply reply))
+
+-- by the way: an order was handed out, or the row is not lost
+pub told_made : (h : ℕ) (way : Way) (o : DecodeOrder) (b m : Bool) (v w : View) → way ≡ ways.Made o
+    → GetsTurns (IsFound h way b m) v w
+    → GetsTurns (IsFetchTold h (Some (answer.Fetched (record { n = o.set }) o.position))) v w
+told_made h way o b m v w is x = told_as h way _ b m v w
+    (λ r y. subst (λ (z : Way). IsWayTold z r) is y) x
+
+pub told_direct : (h : ℕ) (way : Way) (b m : Bool) (v w : View) → way ≡ ways.Direct
+    → GetsTurns (IsFound h way b m) v w → GetsTurns (IsFetchTold h (Some answer.Direct)) v w
+told_direct h way b m v w is x = told_as h way _ b m v w
+    (λ r y. subst (λ (z : Way). IsWayTold z r) is y) x
+
+-- ---- one turn after the other
+module _ (own : Job) (inside past more over : Type 0) (f : inside → more) (g : past → over) where
+  write_wider : (read job : Job) → IsWriteFor own inside past read job
+      → IsWriteFor own more over read job
+  write_wider (jobs.Swap handle) job x = x
+  write_wider jobs.Land job (inl (is, a)) = inl (is, f a)
+  write_wider jobs.Land job (inr (is, b)) = inr (is, g b)
+  write_wider read job x = x
+
+  goes_wider : (h : ℕ) (ts : List Turn) → GoAsWrite h own inside past ts
+      → GoAsWrite h own more over ts
+  goes_wider h [] x = tt
+  goes_wider h (t ∷ ts) x = (write_wider (job_behind h ts) t.job x.0, goes_wider h ts x.1)
+
+module _ (h : ℕ) (own : Job) (inside past : Type 0) where
+  go_more : (us ts : List Turn) → AreDone h ts → GoAsWrite h own inside past us
+      → GoAsWrite h own inside past ts → GoAsWrite h own inside past (us ++ ts)
+  go_more [] ts done x y = y
+  go_more (u ∷ us) ts done x y = (
+    subst (λ (j : Job). IsWriteFor own inside past j u.job) (job_more h false us ts done) x.0,
+    go_more us ts done x.1 y,
+  )
+
+  -- ---- a fetch comes first
+  pub write_first : (v w : View) → GetsTurns (IsOneOf (jobs.Fetch (the_handle h))) v w
+      → GetsTurns (GoAsWrite h own inside past) v w
+  write_first v w (ts, got, (t, one, of)) =
+      (ts, got, subst (GoAsWrite h own inside past) (sym one) (of, tt))
+
+  pub write_told : (r : Option Reply) (way : Way) (b m : Bool) (v w : View) → way ≡ ways.Told r
+      → GetsTurns (IsFound h way b m) v w → GetsTurns (GoesOnAsWrite h own inside past) v w
+  write_told r way b m v w is (ts, got, (t, one, of, told, after)) = (
+    ts,
+    got,
+    (
+      subst (GoAsWrite h own inside past) (sym one) (of, tt),
+      subst (AreDone h) (sym one) (ap (λ (j : Job). job_behind_turn h j t.reply) of
+          ∙ subst (λ (z : Way). IsWayTold z t.reply) is told h),
+    ),
+  )
+
+  -- ---- and behind one that was told so a turn of this job
+  module _ (next : Job) (told : Option Reply)
+      (of : IsWriteFor own inside past (job_behind_fetch h told) next)
+      (last : (r : Option Reply) → job_behind_turn h next r ≡ jobs.Fetch (the_handle h)) where
+    second : (t s : Turn) → t.job ≡ jobs.Fetch (the_handle h) → t.reply ≡ told → s.job ≡ next
+        → GoAsWrite h own inside past (s ∷ t ∷ [])
+    second t s fetch reply is = (
+      subst (λ (j : Job). IsWriteFor own inside past j s.job)
+          (sym (λ i. job_behind_turn h (fetch i) (reply i)))
+          (subst (IsWriteFor own inside past (job_behind_fetch h told)) (sym is) of),
+      (fetch, tt),
+    )
+
+    pub behind_at_most : (v w u : View) → GetsTurns (IsFetchTold h told) v w
+        → GetsTurns (IsOneAtMost next) w u → GetsTurns (GoAsWrite h own inside past) v u
+    behind_at_most v w u (ts, got, (t, one, fetch, reply)) (us, more, inl is) = (
+      us ++ ts,
+      turns_then ts us v w u got more,
+      subst (GoAsWrite h own inside past) (sym (λ i. is i ++ one i)) (fetch, tt),
+    )
+    behind_at_most v w u (ts, got, (t, one, fetch, reply)) (us, more, inr (s, is, job)) = (
+      us ++ ts,
+      turns_then ts us v w u got more,
+      subst (GoAsWrite h own inside past) (sym (λ i. is i ++ one i)) (second t s fetch reply job),
+    )
+
+    pub behind_one : (v w u : View) → GetsTurns (IsFetchTold h told) v w
+        → GetsTurns (IsOneOf next) w u → GetsTurns (GoesOnAsWrite h own inside past) v u
+    behind_one v w u (ts, got, (t, one, fetch, reply)) (us, more, (s, is, job)) =
+        let all : us ++ ts ≡ s ∷ t ∷ [] = (λ i. is i ++ one i) in (
+          us ++ ts,
+          turns_then ts us v w u got more,
+          (
+            subst (GoAsWrite h own inside past) (sym all) (second t s fetch reply job),
+            subst (AreDone h) (sym all)
+                (ap (λ (j : Job). job_behind_turn h j s.reply) job ∙ last s.reply),
+          ),
+        )
+
+-- ---- the looks beside them
+module _ (h at : ℕ) (bytes : List ℕ) where
+  abbrev own : Job
+  own = jobs.Write (the_handle h) at bytes
+
+  abbrev Inside : List Look → Type 0
+  Inside ls = HasOne (FoundInside h at (length bytes)) ls
+
+  abbrev Past : List Look → Type 0
+  Past ls = HasOne (FoundPast h at (length bytes)) ls
+
+  -- behind a look that found it far with this word
+  module _ (word : ℕ) (ls : List Look) (v w u : View) (found : FoundFarAs h word v w)
+      (looks : u.looks ≡ ls ++ w.looks) where
+    abbrev all : List Look
+    all = ls ++ look_at h word ∷ []
+
+    looks_then : u.looks ≡ all ++ v.looks
+    looks_then = looks ∙ ap (λ (z : View). ls ++ z.looks) found.1
+        ∙ sym (append_assoc ls (look_at h word ∷ []) v.looks)
+
+    has_inside : at + length bytes ≤ len_of word → Inside all
+    has_inside l = has_one_right (FoundInside h at (length bytes)) ls (look_at h word ∷ [])
+        (inl (refl, found.0, l))
+
+    has_past : len_of word < at + length bytes → Past all
+    has_past l = has_one_right (FoundPast h at (length bytes)) ls (look_at h word ∷ [])
+        (inl (refl, found.0, l))
+
+    go_far : (ts : List Turn) → GoAsWrite h own (at + length bytes ≤ len_of word)
+        (len_of word < at + length bytes) ts → AreWrites h at bytes all ts
+    go_far ts x = goes_wider own _ _ _ _ has_inside has_past h ts x
+
+    pub far_writes : GetsTurns (GoAsWrite h own (at + length bytes ≤ len_of word)
+        (len_of word < at + length bytes)) w u → GetsBoth (AreWrites h at bytes) v u
+    far_writes (ts, got, x) =
+        (all, looks_then, (ts, got ∙ ap (λ (z : View). ts ++ z.turns) found.1, go_far ts x))
+
+    pub far_writes_on : GetsTurns (GoesOnAsWrite h own (at + length bytes ≤ len_of word)
+        (len_of word < at + length bytes)) w u → GetsBoth (AreWritesOn h at bytes) v u
+    far_writes_on (ts, got, (x, done)) = (
+      all,
+      looks_then,
+      (ts, got ∙ ap (λ (z : View). ts ++ z.turns) found.1, (go_far ts x, done)),
+    )
+
+  -- none so far, and those of a try behind them
+  pub writes_so_far : (v : View) → GetsBoth (AreWritesOn h at bytes) v v
+  writes_so_far v = ([], refl, ([], refl, (tt, refl)))
+
+  left_writes : (ms ls : List Look) (ts : List Turn) → AreWrites h at bytes ms ts
+      → AreWrites h at bytes (ms ++ ls) ts
+  left_writes ms ls ts x = goes_wider own _ _ _ _
+      (λ y. has_one_left (FoundInside h at (length bytes)) ms ls y)
+      (λ y. has_one_left (FoundPast h at (length bytes)) ms ls y) h ts x
+
+  right_writes : (ms ls : List Look) (ts : List Turn) → AreWrites h at bytes ls ts
+      → AreWrites h at bytes (ms ++ ls) ts
+  right_writes ms ls ts x = goes_wider own _ _ _ _
+      (λ y. has_one_right (FoundInside h at (length bytes)) ms ls y)
+      (λ y. has_one_right (FoundPast h at (length bytes)) ms ls y) h ts x
+
+  both_writes : (ms ls : List Look) (us ts : List Turn) → AreWritesOn h at bytes ls ts
+      → AreWrites h at bytes ms us → AreWrites h at bytes (ms ++ ls) (us ++ ts)
+  both_writes ms ls us ts (x, done) y = go_more h own (Inside (ms ++ ls)) (Past (ms ++ ls)) us ts done
+      (left_writes ms ls us y) (right_writes ms ls ts x)
+
+  pub writes_then : (v w u : View) → GetsBoth (AreWritesOn h at bytes) v w
+      → GetsBoth (AreWrites h at bytes) w u → GetsBoth (AreWrites h at bytes) v u
+  writes_then v w u (ls, saw, (ts, got, x)) (ms, see, (us, more, y)) = (
+    ms ++ ls,
+    see ∙ ap (λ (xs : List Look). ms ++ xs) saw ∙ sym (append_assoc ms ls v.looks),
+    (us ++ ts, turns_then ts us v w u got more, both_writes ms ls us ts x y),
+  )
+
+  pub writes_on : (v w u : View) → GetsBoth (AreWritesOn h at bytes) v w
+      → GetsBoth (AreWritesOn h at bytes) w u → GetsBoth (AreWritesOn h at bytes) v u
+  writes_on v w u (ls, saw, (ts, got, x)) (ms, see, (us, more, (y, then_done))) = (
+    ms ++ ls,
+    see ∙ ap (λ (xs : List Look). ms ++ xs) saw ∙ sym (append_assoc ms ls v.looks),
+    (
+      us ++ ts,
+      turns_then ts us v w u got more,
+      (both_writes ms ls us ts x y, done_more h us ts x.1 then_done),
+    ),
+  )
+
+  pub are_writes : (v w : View) → GetsBoth (AreWritesOn h at bytes) v w
+      → GetsBoth (AreWrites h at bytes) v w
+  are_writes v w (ls, saw, (ts, got, (x, done))) = (ls, saw, (ts, got, x))
+
+  -- a write in place makes no turn
+  wrote_no_turn : (a : WriteAnswer) (v : View) (d : Part) → WriteFinds h at bytes a v d → d.turns ≡ []
+  wrote_no_turn (place.Ok version) v d f = ap (λ (e : Part). e.turns) f.part
+  wrote_no_turn place.Freed v d f = ap (λ (e : Part). e.turns) f.4
+  wrote_no_turn place.NotHere v d f = ap (λ (e : Part). e.turns) f.2
+  wrote_no_turn place.Moving v d f = ap (λ (e : Part). e.turns) f.2
+  wrote_no_turn (place.Range len) v d f = ap (λ (e : Part). e.turns) f.2
+  wrote_no_turn (place.Pinned count) v d f = ap (λ (e : Part). e.turns) f.2
+  wrote_no_turn place.Worn v d f = ap (λ (e : Part). e.turns) f.part
+  wrote_no_turn (place.Raced saw found) v d f = ap (λ (e : Part). e.turns) f.1
+
+  pub wrote_writes : (a : WriteAnswer) (v w : View) → WriteGives h at bytes a v w
+      → GetsBoth (AreWritesOn h at bytes) v w
+  wrote_writes a v w x = let z = write_finds h at bytes a v w x in (
+    z.0.looks,
+    ap (λ (y : View). y.looks) z.1,
+    (
+      [],
+      ap (λ (y : View). y.turns) z.1
+          ∙ ap (λ (ts : List Turn). ts ++ v.turns) (wrote_no_turn a v z.0 z.2),
+      (tt, refl),
+    ),
+  )
+
+-- the looks of turns, also where there was no memory
+pub tried_looks : (c : Config) (on : ℕ → Type 0) (may : Job → Type 0)
+    (r : Result (Option Reply) NoMemory) (v w : View) → IfOk r (λ o. TriesBy c on may o v w)
+    → OnErr r (StopsBy c on may v w) → (ls : List Look) × (w.looks ≡ ls ++ v.looks)
+tried_looks c on may (Ok None) v w x y = (x.0.looks, ap (λ (z : View). z.looks) x.2)
+tried_looks c on may (Ok (Some o)) v w x y = (x.0.looks, ap (λ (z : View). z.looks) x.2)
+tried_looks c on may (Err e) v w x y = let idle = stops_idle c on may v w y in
+    (idle.0.looks, ap (λ (z : View). z.looks) idle.2)
