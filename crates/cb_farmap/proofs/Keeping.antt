@@ -1,5 +1,5 @@
 -- What a read and a write of the kept version leave.
-use Rattle.std.proofs.Common.{◌≡◌, ℕ, ◌+◌, ◌≤◌, List, length, sym, ap, ◌∙◌, subst, inl, Result, Ok, Err, IfOk, OnOk}
+use Rattle.std.proofs.Common.{◌≡◌, ℕ, ◌+◌, ◌≤◌, List, length, refl, sym, ap, ◌∙◌, subst, inl, None, Result, Ok, Err, IfOk, OnOk}
 use Rattle.cb_member.specs.declared.no_memory.NoMemory.{NoMemory as Want}
 use Rattle.cb_types.specs.declared.config.Config.{Config}
 use Rattle.cb_types.specs.declared.reply.Reply.{Reply}
@@ -53,6 +53,12 @@ bytes_told c k v w u read (Err e) gives is stands o tells = tt
 bytes_told c k v w u read (Ok bytes) gives is stands o tells = read_is c k bytes v w u
     (subst (λ (z : Result Reply Want). IfOk z (λ r. ReadGives c k.handle.n r v w)) tells gives)
     is stands o
+
+-- a write that was answered the version above the kept one is told to have succeeded
+pub next_tells : (k : KeptObject) (at : ℕ) (bytes : List ℕ) (wrote : Result Reply Want)
+    → wrote ≡ Ok (answer.Version (k.version + 1)) → Tells (AskWrite k at bytes) wrote None
+next_tells k at bytes wrote is =
+    subst (λ (z : Result Reply Want). Tells (AskWrite k at bytes) z None) (sym is) refl
 
 pub next_told : (c : Config) (k : KeptObject) (at : ℕ) (bytes : List ℕ) (v w u : View)
     (wrote : Result Reply Want) (told : Result (Unit {0}) Cannot)

@@ -260,6 +260,7 @@ fn number_in(bytes: Result<Bytes, Cannot>, j: usize) -> Result<u64, Cannot>
 }
 
 /// Writes a number in the place of the one with this index.
+#[inline(always)]
 fn write_number<R: Wait>(
     rt: &R,
     alloc: Global,
@@ -288,6 +289,7 @@ fn write_number<R: Wait>(
 }
 
 /// Makes an object of this number and zeros behind the others.
+#[inline(never)]
 fn make_number<R: Wait>(
     rt: &R,
     alloc: Global,

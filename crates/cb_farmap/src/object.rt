@@ -1,6 +1,7 @@
 //! The calls on one object that a value keeps. All calls of the runtime stand here: above, nothing
 //! sees a reply.
-ghost use Rattle.std.specs.Prelude.{◌≡◌, ℕ, List, ◌+◌, ◌-◌, ◌<◌, ◌≤◌, [], ◌∷◌, length, slice_set, take, Ok, IfOk, OnErr, OnOk};
+ghost use Rattle.std.specs.Prelude.{◌≡◌, ℕ, List, ◌+◌, ◌-◌, ◌<◌, ◌≤◌, true, false, [], ◌∷◌, length};
+ghost use Rattle.std.specs.Prelude.{slice_set, take, Some, Ok, IfOk, OnErr, OnOk};
 ghost use Rattle.cb_types.specs.declared.reply.Reply.TheVariants as answer;
 ghost use Rattle.cb_shared.specs.Passes.{IsPassOf, record_of};
 ghost use Rattle.cb_shared.specs.Recalls.{first_version_of};
@@ -63,6 +64,7 @@ fn bytes_read(kept: KeptObject, read: Result<Reply, NoMemory>) -> Result<Bytes, 
 /// Writes bytes into the object with this index at its kept version, and keeps its next one. Refused
 /// by any reply but a version; Foreign where that is another one; both keep nothing, and so does want
 /// of memory.
+#[inline(always)]
 pub(crate) fn write_kept<R: Wait>(
     rt: &R,
     alloc: Global,
@@ -89,24 +91,32 @@ pub(crate) fn write_kept<R: Wait>(
     ensures calm { IsSole (record_of pass.old) (object_at kept.old o)
         → IsLoose (record_of pass.old) (object_at kept.old o) → IsCalm (trouble result) }
 {
-    let wrote = shared.write(rt, alloc, pass, kept.at(o).handle, at, bytes);
+    let object = kept.at(o);
+    let wrote = shared.write(rt, alloc, pass, object.handle, at, bytes);
     shared.recall(pass);
-    keep_written(kept, o, wrote)
+    if keep_written(kept, o, &wrote) {
+        Ok(())
+    } else {
+        Err(unwritten(object, wrote))
+    }
 }
 
-/// Keeps the version one above the kept one of the object with this index, where that was written.
-/// What the runtime answered is looked at once and moved only where it is handed on.
-fn keep_written(kept: &mut Objects, o: usize, wrote: Result<Reply, NoMemory>) -> Result<(), Cannot>
+/// Keeps the version one above the kept one of the object with this index, where its write was
+/// answered that, and says whether it was.
+#[inline(always)]
+fn keep_written(kept: &mut Objects, o: usize, wrote: &Result<Reply, NoMemory>) -> bool
     requires there { o < length kept.old }
-    ensures tells { (at : ℕ) (bytes : List ℕ)
-        → Tells (AskWrite (object_at kept.old o) at bytes) wrote (trouble result) }
-    ensures done { OnOk result
-        (kept.new ≡ slice_set kept.old o (with_next (object_at kept.old o))) }
-    ensures stays { OnErr result (kept.new ≡ kept.old) }
+    ensures yes { result ≡ true
+        → (wrote.now ≡ Ok (answer.Version ((object_at kept.old o).version + 1)))
+        × (kept.new ≡ slice_set kept.old o (with_next (object_at kept.old o))) }
+    ensures no { result ≡ false
+        → (wrote.now ≡ Ok (answer.Version ((object_at kept.old o).version + 1)) → ⊥)
+        × (kept.new ≡ kept.old) }
 {
     let object = kept.at(o);
     match wrote {
         Ok(Reply::Version { version }) => {
+            let version = *version;
             if version > object.version && version - object.version == 1 {
                 kept.set(
                     o,
@@ -115,17 +125,31 @@ fn keep_written(kept: &mut Objects, o: usize, wrote: Result<Reply, NoMemory>) ->
                         version,
                     },
                 );
-                Ok(())
+                true
             } else {
-                Err(Cannot::Foreign {
-                    handle: object.handle,
-                    kept: object.version,
-                    found: version.saturating_sub(1),
-                })
+                false
             }
         }
-        Ok(reply) => Err(Cannot::Refused { reply }),
-        Err(_) => Err(Cannot::NoMemory),
+        Ok(_) => false,
+        Err(_) => false,
+    }
+}
+
+/// Why a write of an object was not answered the version above its kept one.
+#[inline(always)]
+fn unwritten(object: KeptObject, wrote: Result<Reply, NoMemory>) -> Cannot
+    requires other { wrote ≡ Ok (answer.Version (object.version + 1)) → ⊥ }
+    ensures tells { (at : ℕ) (bytes : List ℕ)
+        → Tells (AskWrite object at bytes) wrote (Some result) }
+{
+    match wrote {
+        Ok(Reply::Version { version }) => Cannot::Foreign {
+            handle: object.handle,
+            kept: object.version,
+            found: version.saturating_sub(1),
+        },
+        Ok(reply) => Cannot::Refused { reply },
+        Err(_) => Cannot::NoMemory,
     }
 }
 
