@@ -60,7 +60,8 @@ use Rattle.cb_core.proofs.RulesLeave.{IsPlain, SameCensus, StandsAs, StaysPlain,
 
 -- a refusal of an eviction tells which of the two there was too little of
 too_few : (c : Config) (far new : FarState) (why : Lack) (loose nodes : ℕ) (es : List Event)
-    → IsConfiguredCode c far.code → CountsRule far new (Refused why loose nodes) es → (loose < c.k) ⊎ (nodes < c.k + c.r)
+    → IsConfiguredCode c far.code → CountsRule far new (Refused why loose nodes) es
+    → (loose < c.k) ⊎ (nodes < c.k + c.r)
 too_few c far new lack.Spans loose nodes es code x = by x.rule.answered
   where
     by : HasFewSpans far new (answer.NoSpans loose) x.rule.loose
@@ -107,7 +108,8 @@ line_plain asked (answer.NoRoom f l n) x lost room = absurd (room f l n x)
 line_plain asked r x lost room = refl
 
 -- ---- a part of a job
--- what a part keeps, whatever it tells: the handles made, the members and the pair, and what is counted
+-- what a part keeps, whatever it tells: the handles made, the members and the pair, and what is
+-- counted
 record Keeps (c : Config) (far new : FarState) : Type 0 where
   census : SameCensus far new
   counts : IsAccepted c → IsConfigured c far → KeepsCounts far new
@@ -192,8 +194,8 @@ module _ (c : Config) (j : Job) where
   kept_by : (far new : FarState) (r : Reply) → made_by j (Some r) ≡ 0 → PartLeaves c j far new r
       → Keeps c far new
   kept_by far new r none x = record {
-    census = (λ i. (let e = x.made in let same : new.made ≡ far.made = omega (arith, e, none) in same i,
-        x.stands i));
+    census = let e = x.made in let same : new.made ≡ far.made = omega (arith, e, none) in
+        (λ i. (same i, x.stands i));
     counts = x.counts;
   }
 
@@ -371,8 +373,8 @@ stopped c j far new x =
     }
 
 -- a node that crashes or joins
-crash_leaves : (c : Config) (node : NodeId) (far new : FarState) (r : Reply) → CrashTurn node far r new
-    → JobLeaves c (job.Crash node) far new (Some r)
+crash_leaves : (c : Config) (node : NodeId) (far new : FarState) (r : Reply)
+    → CrashTurn node far r new → JobLeaves c (job.Crash node) far new (Some r)
 crash_leaves c node far new r x = by x
   where
     by : CrashTurn node far r new → JobLeaves c (job.Crash node) far new (Some r)
@@ -387,8 +389,8 @@ crash_leaves c node far new r x = by x
           ap (λ (q : Reply). epochs_in (job.Crash node) (Some q)) is,
         ))
 
-join_leaves : (c : Config) (node : NodeId) (far new : FarState) (r : Reply) → JoinTurn node far r new
-    → JobLeaves c (job.Join node) far new (Some r)
+join_leaves : (c : Config) (node : NodeId) (far new : FarState) (r : Reply)
+    → JoinTurn node far r new → JobLeaves c (job.Join node) far new (Some r)
 join_leaves c node far new r x = by x
   where
     by : JoinTurn node far r new → JobLeaves c (job.Join node) far new (Some r)
@@ -456,15 +458,16 @@ module _ {D : Type 0} (run : D → List Event → D → Type 0) (shows : D → S
 
     makes : (bytes : List ℕ) (a b : Hold) (r : Reply) → Makes run shows c bytes a r b
         → PartLeaves c (job.Make bytes) a.far b.far r
-    makes bytes a b r x = let z = make_leaves c.handles bytes a.far b.far r x.events x.rule in record {
-      made = z.made;
-      few = z.few;
-      stands = z.stands;
-      counts = λ ok is. counts_of c 1 a.far b.far
-          (make_stays c c.handles bytes a.far b.far r x.events x.rule is);
-      tells = λ ok fine. plain_tells c a.far b.far r (lack_off r z.plain);
-      unworn = λ writes. worn_off r z.plain;
-    }
+    makes bytes a b r x = let z = make_leaves c.handles bytes a.far b.far r x.events x.rule in
+        record {
+          made = z.made;
+          few = z.few;
+          stands = z.stands;
+          counts = λ ok is. counts_of c 1 a.far b.far
+              (make_stays c c.handles bytes a.far b.far r x.events x.rule is);
+          tells = λ ok fine. plain_tells c a.far b.far r (lack_off r z.plain);
+          unworn = λ writes. worn_off r z.plain;
+        }
 
     -- ---- the parts of a job that makes no handle
     module _ (j : Job) (none : (r : Reply) → made_by j (Some r) ≡ 0) where
@@ -477,9 +480,10 @@ module _ {D : Type 0} (run : D → List Event → D → Type 0) (shows : D → S
       finds : (h : ℕ) (a b : Hold) (r : Reply) → FindsWhere run shows h a r b
           → PartLeaves c j a.far b.far r
       finds h a b r x =
-          let plain = answered (λ w. r ≡ answer.Stays) (state_of x.rule.1.word) x.rule.1.word h x.events r
-          (λ e. off r answer.Stays refl e) x.rule.1.answer in
-          same_leaves c j a.far b.far r (none r) x.rule.0 (lack_off r plain) (λ writes. worn_off r plain)
+          let plain = answered (λ w. r ≡ answer.Stays) (state_of x.rule.1.word) x.rule.1.word h
+          x.events r (λ e. off r answer.Stays refl e) x.rule.1.answer in
+          same_leaves c j a.far b.far r (none r) x.rule.0 (lack_off r plain)
+          (λ writes. worn_off r plain)
 
       comes_in : (h : ℕ) (a b : Hold) (r : Reply) → ComesIn run shows c h a r b
           → PartLeaves c j a.far b.far r
@@ -510,8 +514,8 @@ module _ {D : Type 0} (run : D → List Event → D → Type 0) (shows : D → S
         → WhereItIs (WritesObject run shows handle.n at bytes)
         (Declines run shows handle.n at (length bytes)) (Brings run shows c handle.n) a r b
         → PartLeaves c (job.Write handle at bytes) a.far b.far r
-    writes handle at bytes a b r (near x never) = same_leaves c (job.Write handle at bytes) a.far b.far r refl
-        x.rule.0 (write_plain handle.n at bytes r x.events x.rule.1) (λ none. absurd none)
+    writes handle at bytes a b r (near x never) =
+        same_leaves c (job.Write handle at bytes) a.far b.far r refl x.rule.0 (write_plain handle.n at bytes r x.events x.rule.1) (λ none. absurd none)
     writes handle at bytes a b r (declined m x look) =
         leaves_behind c (job.Write handle at bytes) a.far m.far b.far r x.rule.0
         (same_leaves c (job.Write handle at bytes) m.far b.far r refl look.0
@@ -540,7 +544,8 @@ module _ {D : Type 0} (run : D → List Event → D → Type 0) (shows : D → S
     does_with (job.Fetch handle) order keeps a b r (was_near x never same) =
         many c (job.Fetch handle) a.far b.far r (λ old new e. e)
         (finds (job.Fetch handle) (λ q. refl) handle.n a b r x)
-    does_with (job.Fetch handle) order keeps a b r (was_away m g x (home, at, ran, step) told same) =
+    does_with (job.Fetch handle) order keeps a b r
+        (was_away m g x (home, at, ran, step) told same) =
         many c (job.Fetch handle) a.far b.far r (λ old new e. e)
         (subst (PartLeaves c (job.Fetch handle) a.far b.far) (sym told)
         (leaves_behind c (job.Fetch handle) a.far m.far b.far (fetching_reply g) x.rule.0
@@ -566,7 +571,8 @@ module _ {D : Type 0} (run : D → List Event → D → Type 0) (shows : D → S
       once : (handle : Handle) (a b : Hold) (r : Reply)
           → OnceHere (ComesIn run shows c handle.n) (reads handle.n) a r b
           → PartLeaves c (job.Read handle) a.far b.far r
-      once handle a b r (away come never) = comes_in (job.Read handle) (λ q. refl) handle.n a b r come
+      once handle a b r (away come never) =
+          comes_in (job.Read handle) (λ q. refl) handle.n a b r come
       once handle a b r (here m place come there call) = let x = read handle.n m b r call in
           leaves_then c (job.Read handle) a.far m.far b.far place r refl refl
           (comes_in (job.Read handle) (λ q. refl) handle.n a m place come) x.0 (lack_off r x.1)
@@ -616,28 +622,28 @@ module _ {D : Type 0} (run : D → List Event → D → Type 0) (shows : D → S
       does job.Pair a b r x = let z = begin_laws.leaves a.far b.far r x.1 in
           one_call c job.Pair a.far b.far r refl (λ ok is s sound. counts_of c _ a.far b.far
           (begin_laws.stays c s a.far b.far r sound x.1 is)) z.made z.members
-          (begin_pair a.far b.far r x.1) (line_plain line.Pair r (begin_laws.answers a.far b.far r x.1)
-          (λ id l y. y) (λ f l n y. y)) (λ writes. absurd writes)
+          (begin_pair a.far b.far r x.1)
+          (line_plain line.Pair r (begin_laws.answers a.far b.far r x.1) (λ id l y. y) (λ f l n y. y)) (λ writes. absurd writes)
       does job.Patch a b r x = let z = patch_laws.leaves a.far b.far r x.1 in
           one_call c job.Patch a.far b.far r refl (λ ok is s sound. counts_of c _ a.far b.far
           (patch_laws.stays c s a.far b.far r sound x.1 is)) z.made z.members
-          (patch_pair a.far b.far r x.1) (line_plain line.Patch r (patch_laws.answers a.far b.far r x.1)
-          (λ id l y. y) (λ f l n y. y)) (λ writes. absurd writes)
+          (patch_pair a.far b.far r x.1)
+          (line_plain line.Patch r (patch_laws.answers a.far b.far r x.1) (λ id l y. y) (λ f l n y. y)) (λ writes. absurd writes)
       does job.Merge a b r x = let z = merge_laws.leaves a.far b.far r x.1 in
           one_call c job.Merge a.far b.far r refl (λ ok is s sound. counts_of c _ a.far b.far
           (merge_laws.stays c s a.far b.far r sound x.1 is)) z.made z.members
-          (merge_pair a.far b.far r x.1) (line_plain line.Merge r (merge_laws.answers a.far b.far r x.1)
-          (λ id l y. y) (λ f l n y. y)) (λ writes. absurd writes)
+          (merge_pair a.far b.far r x.1)
+          (line_plain line.Merge r (merge_laws.answers a.far b.far r x.1) (λ id l y. y) (λ f l n y. y)) (λ writes. absurd writes)
       does job.Part a b r x = let z = part_laws.leaves a.far b.far r x.1 in
           one_call c job.Part a.far b.far r refl (λ ok is s sound. counts_of c _ a.far b.far
           (part_laws.stays c s a.far b.far r sound x.1 is)) z.made z.members
-          (part_pair a.far b.far r x.1) (line_plain line.Part r (part_laws.answers a.far b.far r x.1)
-          (λ id l y. y) (λ f l n y. y)) (λ writes. absurd writes)
+          (part_pair a.far b.far r x.1)
+          (line_plain line.Part r (part_laws.answers a.far b.far r x.1) (λ id l y. y) (λ f l n y. y)) (λ writes. absurd writes)
       does job.Compact a b r x = let z = now_laws.leaves a.far b.far r x.1 in
           one_call c job.Compact a.far b.far r refl (λ ok is s sound. counts_of c _ a.far b.far
           (now_laws.stays c s a.far b.far r sound x.1 is)) z.made z.members
-          (now_pair a.far b.far r x.1) (line_plain line.Compact r (now_laws.answers a.far b.far r x.1)
-          (λ id l y. y) (λ f l n y. y)) (λ writes. compact_unworn a.far b.far r x.1)
+          (now_pair a.far b.far r x.1)
+          (line_plain line.Compact r (now_laws.answers a.far b.far r x.1) (λ id l y. y) (λ f l n y. y)) (λ writes. compact_unworn a.far b.far r x.1)
       does job.Rebuild a b r x = plainly c job.Rebuild a.far b.far r refl
           (λ ok is s sound. counts_of c 16 a.far b.far
           (rebuild_stays c s a.far b.far r sound x.1 is)) (λ old new e. e)
@@ -701,8 +707,8 @@ module _ {D : Type 0} (run : D → List Event → D → Type 0) (shows : D → S
         → TurnedWith run shows c j order a r keeps b → LeavesFar c j a.far b.far (Some r)
     ordered_leaves j order keeps a b r (with_worn end is same stays ran) =
         refused_leaves c j a.far b.far r end is stays
-    ordered_leaves j order keeps a b r (with_done few x) = counted_leaves c j a.far b.far (Some r) few
-        (does_with j order keeps (once_counted a j) b r x)
+    ordered_leaves j order keeps a b r (with_done few x) =
+        counted_leaves c j a.far b.far (Some r) few (does_with j order keeps (once_counted a j) b r x)
 
     pub ordered_stopped_leaves : (j : Job) (order : Option Kept) (a b : Hold)
         → StoppedWith run shows c j order a b → LeavesFar c j a.far b.far None

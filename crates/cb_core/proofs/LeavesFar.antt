@@ -33,7 +33,8 @@ use Rattle.cb_core.proofs.Counting.{counted_sound}
 use Rattle.cb_core.proofs.PairGoes.{AreSetsApart, PairGoes, evicted_apart, pair_stays}
 use Rattle.cb_core.proofs.RulesLeave.{TellsNoLack, Unworn, is_worn, made_by}
 
--- all that some shards on different nodes have lost, more than a set of the configuration has parities
+-- all that some shards on different nodes have lost, more than a set of the configuration has
+-- parities
 pub record AreManyLost (c : Config) (m : Membership) (losses : List Loss) : Type 0 where
   pub shards : List Shard
   pub all : losses ≡ lost m shards
@@ -54,7 +55,8 @@ TellsWant c far new (answer.NoRoom frames loose nodes) =
     IsShortOfRoom c (room_count new.nodes new.members) frames loose nodes
 TellsWant c far new r = Unit {0}
 
-pub plain_tells : (c : Config) (far new : FarState) (r : Reply) → TellsNoLack r → TellsWant c far new r
+pub plain_tells : (c : Config) (far new : FarState) (r : Reply) → TellsNoLack r
+    → TellsWant c far new r
 plain_tells c far new (answer.Unavailable set losses) plain = absurd (false≢true (sym plain))
 plain_tells c far new (answer.NoRoom frames loose nodes) plain = absurd (false≢true (sym plain))
 plain_tells c far new r plain = tt
@@ -67,8 +69,8 @@ tells_behind c far mid new (answer.Unavailable set losses) same y =
 tells_behind c far mid new (answer.NoRoom frames loose nodes) same y = y
 tells_behind c far mid new r same y = tt
 
--- a far state as it is configured, all of whose codes are the configured one, and whose sets stand on
--- different nodes
+-- a far state as it is configured, all of whose codes are the configured one, and whose sets stand
+-- on different nodes
 pub record IsFine (c : Config) (far : FarState) : Type 0 where
   pub configured : IsConfigured c far
   pub codes : HaveCodes (IsConfiguredCode c) far
@@ -171,10 +173,10 @@ pub record KeepsCounts (far new : FarState) : Type 0 where
   pub by_job : kinds new ≡ kinds far
   pub codes : KeepCodes far new
 
--- What a job leaves with this reply, or where it found no memory: a make that is answered Made makes
--- one handle more; a crash and a join that take place change the members; the pair goes on, or begins
--- with a set; no turn is counted, and no other code is made; and the reply tells of a lost set, of
--- want of room and of Worn so.
+-- What a job leaves with this reply, or where it found no memory: a make that is answered Made
+-- makes one handle more; a crash and a join that take place change the members; the pair goes on, or
+-- begins with a set; no turn is counted, and no other code is made; and the reply tells of a lost
+-- set, of want of room and of Worn so.
 pub record JobLeaves (c : Config) (j : Job) (far new : FarState) (r : Option Reply) : Type 0 where
   pub made : new.made ≡ far.made + made_by j r
   pub few : far.made ≤ c.handles → new.made ≤ c.handles
@@ -239,7 +241,8 @@ worn_none j = refl
 -- a turn that is refused leaves all
 pub refused_leaves : (c : Config) (j : Job) (far new : FarState) (r : Reply)
     → far.counts.turns ≡ 2 ^ 40 → r ≡ answer.Worn → new ≡ far → LeavesFar c j far new (Some r)
-refused_leaves c j far new r end is same = subst (λ (q : Reply). LeavesFar c j far new (Some q)) (sym is)
+refused_leaves c j far new r end is same =
+    subst (λ (q : Reply). LeavesFar c j far new (Some q)) (sym is)
     (let e : new.made ≡ far.made = ap (λ (f : FarState). f.made) same in
     let none = worn_none j in record {
       made = omega (arith, e, none);

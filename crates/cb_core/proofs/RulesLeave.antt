@@ -1,5 +1,5 @@
--- What each operation leaves of the handles made, the members and the pair that is joining, and what
--- its reply never tells of: a lost set, want of room, or that all turns are counted.
+-- What each operation leaves of the handles made, the members and the pair that is joining, and
+-- what its reply never tells of: a lost set, want of room, or that all turns are counted.
 use Rattle.std.proofs.Common.{◌≡◌, ◌⊎◌, ℕ, zero, suc, ◌+◌, ◌-◌, ◌^◌, ◌≤◌, ◌==◌, nat_lt, if◌then◌else◌, Bool, true, false, List, Option, None, Some, refl, sym, ap, ◌∙◌, subst, inl, inr, arith}
 use Rattle.std.proofs.lemmas.Option.{same_Some, none-some}
 use Rattle.cb_member.specs.Membership.{Membership}
@@ -196,8 +196,8 @@ make_leaves handles bytes far new (answer.Made h version) es x =
     }
 make_leaves handles bytes far new r es x = absurd x
 
-pub write_plain : (h at : ℕ) (bytes : List ℕ) (r : Reply) (es : List Event) → WriteRule h at bytes r es
-    → TellsNoLack r
+pub write_plain : (h at : ℕ) (bytes : List ℕ) (r : Reply) (es : List Event)
+    → WriteRule h at bytes r es → TellsNoLack r
 write_plain h at bytes r es a = by (state_of a.word) a.word a.answer
   where
     here : (w : ℕ) → WriteHere h at bytes es r w → TellsNoLack r
@@ -211,8 +211,8 @@ write_plain h at bytes r es a = by (state_of a.word) a.word a.answer
     by word.Far w x = lack_off r (absent word.Far h es r x)
     by word.Moving w x = lack_off r (absent word.Moving h es r x)
 
-pub free_plain : (h : ℕ) (far new : FarState) (r : Reply) (es : List Event) → FreeRule h far new r es
-    → TellsNoLack r
+pub free_plain : (h : ℕ) (far new : FarState) (r : Reply) (es : List Event)
+    → FreeRule h far new r es → TellsNoLack r
 free_plain h far new r es a = by (state_of a.reply.word) a.reply.word a.reply.answer
   where
     here : (w : ℕ) → FreeHere h es r w → TellsNoLack r
@@ -254,7 +254,8 @@ filter_plain frames h far new r es a = by (state_of a.word) a.word a.answer
 
     by : (q : State) (w : ℕ) → FilterAs q frames h w far new r es → StaysPlain far new r
     by word.Here w x = here w x
-    by word.Empty w ((v, told, e), same) = record { same = same_census far new same; plain = empty v e }
+    by word.Empty w ((v, told, e), same) =
+        record { same = same_census far new same; plain = empty v e }
     by word.Far w (e, same) = stays far new r answer.NotHere refl e same
     by word.Moving w (e, same) = stays far new r answer.Moving refl e same
 

@@ -38,7 +38,7 @@ pub data PinStep (seat h : ℕ) (w : WorldState) (r : Reply) (new : WorldState) 
       → PinStep seat h w r new
   refused : length (pins_of_seat w.seats seat) < 16 → ¬ (MayPin w h)
       → r ≡ pin_refusal (state_of (word_at w.desk h)) (stamp_at w.desk h)
-          (pins_of (word_at w.desk h))
+      (pins_of (word_at w.desk h))
       → new ≡ w → PinStep seat h w r new
   taken : length (pins_of_seat w.seats seat) < 16 → MayPin w h
       → r ≡ answer.Version (stamp_at w.desk h) → IsPinTaken seat h w new → PinStep seat h w r new

@@ -305,7 +305,7 @@ still_lacks = record {
 abbrev pub StillStops : Job → Holding Words → Holding Words → Type 0
 StillStops = StopsBy still_parts still_lacks
     (λ h. CallStops (StillRead h) (StillReadLacks h) NeverDeclined (StillBring h)
-        (StillBringLacks h))
+    (StillBringLacks h))
 
 -- a claim that found no memory changed nothing; every other step has its reply
 abbrev pub AtomicStops : Atomic → WorldState → WorldState → Type 0

@@ -75,8 +75,8 @@ fn gather_with<D: Desk>(
     requires counted { AreCounted far.old }
     requires sound { (s : Shown) × D.shows desk.old s × Sound s far.old }
     ensures turned { TurnsWith (λ d es e. D.run d es e) (λ d s. D.shows d s)
-        (D.settings desk.old) job.Gather order (record { desk = desk.old; far = far.old }) result.0
-        result.1
+        (D.settings desk.old) job.Gather order
+        (record { desk = desk.old; far = far.old }) result.0 result.1
         (record { desk = desk.new; far = far.new }) }
 {
     let gathered = gather(alloc, desk, far);
@@ -115,8 +115,8 @@ fn fetch_with<D: Desk>(
     requires counted { AreCounted far.old }
     requires sound { (s : Shown) × D.shows desk.old s × Sound s far.old }
     ensures turned { TurnsWith (λ d es e. D.run d es e) (λ d s. D.shows d s)
-        (D.settings desk.old) (job.Fetch h) order (record { desk = desk.old; far = far.old })
-        result.0 result.1
+        (D.settings desk.old) (job.Fetch h) order
+        (record { desk = desk.old; far = far.old }) result.0 result.1
         (record { desk = desk.new; far = far.new }) }
 {
     let fetched = fetch(alloc, desk, far, h);
@@ -249,8 +249,8 @@ fn land_with<D: Desk>(
     requires kept { (s : Shown) × D.shows desk.old s × Sound s far.old
         × KeepsOrder s far.old order }
     ensures turned { TurnsWith (λ d es e. D.run d es e) (λ d s. D.shows d s)
-        (D.settings desk.old) job.Land order (record { desk = desk.old; far = far.old }) result.0
-        result.1
+        (D.settings desk.old) job.Land order
+        (record { desk = desk.old; far = far.old }) result.0 result.1
         (record { desk = desk.new; far = far.new }) }
 {
     match order {
@@ -303,8 +303,8 @@ fn land_made<D: Desk>(
         × IsDecodeKept far.old done.order }
     ensures turned { TurnsWith (λ d es e. D.run d es e) (λ d s. D.shows d s)
         (D.settings desk.old) job.Land (Some (Decode done.order))
-        (record { desk = desk.old; far = far.old }) result.0
-        result.1 (record { desk = desk.new; far = far.new }) }
+        (record { desk = desk.old; far = far.old }) result.0 result.1
+        (record { desk = desk.new; far = far.new }) }
 {
     let ended = land(alloc, desk, far, Some(&done));
     behind_land(Some(Kept::Decode(done.into_order())), ended)
