@@ -140,7 +140,7 @@ pub tried_none : (h : ℕ) (v w : View) → w.turns ≡ v.turns → GetsTurns (A
 tried_none h v w same = ([], same, (tt, refl))
 
 -- ---- a pin makes no turn
-pub pin_turns : (h : ℕ) (a : PinAnswer) (v w : View) → PinGives h a v w → w.turns ≡ v.turns
+pin_turns : (h : ℕ) (a : PinAnswer) (v w : View) → PinGives h a v w → w.turns ≡ v.turns
 pin_turns h (found.Pinned pin) v w x = ap (λ (z : View). z.turns) x.left
 pin_turns h found.ScopeFull v w x = ap (λ (z : View). z.turns) x.1
 pin_turns h found.Freed v w x = ap (λ (z : View). z.turns) x.4
@@ -151,6 +151,10 @@ pin_turns h (found.Raced saw other) v w x = ap (λ (z : View). z.turns) x.1
 
 pub pin_none : (h : ℕ) (a : PinAnswer) (v w : View) → PinGives h a v w → GetsTurns (AreTried h) v w
 pin_none h a v w x = tried_none h v w (pin_turns h a v w x)
+
+pub pin_no_turn : (h : ℕ) (a : PinAnswer) (v w : View) → PinGives h a v w
+    → GetsTurns (AreBringing h) v w
+pin_no_turn h a v w x = ([], pin_turns h a v w x, tt)
 
 -- turns that bring the object in, behind a pin that found it far
 module _ (c : Config) (h : ℕ) (a : PinAnswer) (v m w : View) (pin : PinGives h a v m) where
@@ -168,7 +172,3 @@ module _ (c : Config) (h : ℕ) (a : PinAnswer) (v m w : View) (pin : PinGives h
   tries_behind b n (Err e) x y = tt
   tries_behind b n (Ok o) x y = λ none. tried_then h v m w (pin_none h a v m pin)
       (tries_in_order h b n m w (tries_to_bring c h o m w x) (y none))
-
-pub only_bringing : (h : ℕ) (v w : View) → GetsTurns (AreTried h) v w
-    → GetsTurns (AreBringing h) v w
-only_bringing h v w (ts, got, (are, done)) = (ts, got, are)

@@ -4,7 +4,7 @@ use Rattle.std.proofs.lemmas.Result.{IfOk-weaker}
 use Rattle.cb_rule.specs.declared.view.View.{View}
 use Rattle.cb_shared.proofs.Laws.{known_below}
 use Rattle.cb_lanes.proofs.PinsHeld.{held_count, held_more, held_same}
-use Rattle.cb_lanes.proofs.PinTurns.{brings_behind, only_bringing, pin_none, tries_behind}
+use Rattle.cb_lanes.proofs.PinTurns.{brings_behind, pin_no_turn, pin_none, tries_behind}
 use Rattle.cb_lanes.proofs.Stopping.{brings_not}
 use Rattle.cb_lanes.proofs.Trying.{bring_leaves, brought, is_hindered, pinned_once, was_far}
 use Rattle.cb_lanes.proofs.Trying.{was_freed, was_hindered, was_pinned}
@@ -62,25 +62,27 @@ returns-in-NotHere-clause-error g c = brings_not c.args.shared.now.config c.args
 
 pub returns-in-NotHere-clause-jobs : goal.returns-in-NotHere-clause-jobs
 returns-in-NotHere-clause-jobs g c = brings_behind c.args.shared.now.config c.args.h.n c.pin.result
-    _ _ _ c.pin.ensures.pin c.bring.result c.bring.ensures.brings c.bring.ensures.error
+    c.args.pass.now.seat.me.0 c.pin.new.pass.seat.me.0 c.bring.new.pass.seat.me.0
+    c.pin.ensures.pin c.bring.result c.bring.ensures.brings c.bring.ensures.error
     c.bring.ensures.jobs
 
 pub returns-in-NotHere-clause-again : goal.returns-in-NotHere-clause-again
 returns-in-NotHere-clause-again g c = tries_behind c.args.shared.now.config c.args.h.n c.pin.result
-    _ _ _ c.pin.ensures.pin c.args.patience.now.brought c.bring.new.patience.brought c.bring.result
+    c.args.pass.now.seat.me.0 c.pin.new.pass.seat.me.0 c.bring.new.pass.seat.me.0
+    c.pin.ensures.pin c.args.patience.now.brought c.bring.new.patience.brought c.bring.result
     c.bring.ensures.brings c.bring.ensures.brought
 
 pub returns-in-Pinned-clause-jobs : goal.returns-in-Pinned-clause-jobs
-returns-in-Pinned-clause-jobs g c = only_bringing c.args.h.n _ _
-    (pin_none c.args.h.n c.pin.result _ _ c.pin.ensures.pin)
+returns-in-Pinned-clause-jobs g c = pin_no_turn c.args.h.n c.pin.result
+    c.args.pass.now.seat.me.0 c.pin.new.pass.seat.me.0 c.pin.ensures.pin
 
 pub returns-in-Freed-clause-jobs : goal.returns-in-Freed-clause-jobs
-returns-in-Freed-clause-jobs g c = only_bringing c.args.h.n _ _
-    (pin_none c.args.h.n c.pin.result _ _ c.pin.ensures.pin)
+returns-in-Freed-clause-jobs g c = pin_no_turn c.args.h.n c.pin.result
+    c.args.pass.now.seat.me.0 c.pin.new.pass.seat.me.0 c.pin.ensures.pin
 
 pub returns-in-Moving-clause-jobs : goal.returns-in-Moving-clause-jobs
-returns-in-Moving-clause-jobs g c = only_bringing c.args.h.n _ _
-    (pin_none c.args.h.n c.pin.result _ _ c.pin.ensures.pin)
+returns-in-Moving-clause-jobs g c = pin_no_turn c.args.h.n c.pin.result
+    c.args.pass.now.seat.me.0 c.pin.new.pass.seat.me.0 c.pin.ensures.pin
 
 pub returns-in-Pinned-clause-again : goal.returns-in-Pinned-clause-again
 returns-in-Pinned-clause-again g c = λ none. absurd (none-some _ (sym none))
@@ -90,4 +92,5 @@ returns-in-Freed-clause-again g c = λ none. absurd (none-some _ (sym none))
 
 pub returns-in-Moving-clause-again : goal.returns-in-Moving-clause-again
 returns-in-Moving-clause-again g c =
-    λ none. pin_none c.args.h.n c.pin.result _ _ c.pin.ensures.pin
+    λ none. pin_none c.args.h.n c.pin.result c.args.pass.now.seat.me.0 c.pin.new.pass.seat.me.0
+    c.pin.ensures.pin
