@@ -23,7 +23,7 @@ use Rattle.cb_shared.specs.declared.answers.WriteAnswer.TheVariants as place
 use Rattle.cb_shared.specs.Calls.{AsksFor, AtThis, EndsAtLast, IsInVain, IsReadJob, IsWriteJob, ReadCallEnds, ReadGives, ReadsInPlace, SaysAs, TurnEnds, WriteAnswers, WriteCallEnds, WriteFinds, the_handle}
 use Rattle.cb_shared.specs.Reading.{IsReadHere}
 use Rattle.cb_shared.specs.Turning.{JobReads}
-use Rattle.cb_farmap.proofs.Jobs.{by_read, by_write, of_read, of_write}
+use Rattle.cb_shared.proofs.Laws.{by_read, by_write, of_read, of_write}
 use Rattle.cb_farmap.proofs.Lists.{has_back, has_front}
 
 -- ---- tries in vain, and what a call ends with

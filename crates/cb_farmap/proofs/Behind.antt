@@ -4,13 +4,14 @@ use Rattle.std.proofs.Common.{◌≡◌, ◌≢◌, ℕ, zero, suc, ◌+◌, ◌
 use Rattle.std.proofs.Math.Seq.{map-set_same}
 use Rattle.std.specs.List.{AllByRecursion, IsDistinct}
 use Rattle.cb_types.specs.declared.config.Config.{Config}
+use Rattle.cb_types.specs.declared.job.Job.{Job}
 use Rattle.cb_types.specs.declared.reply.Reply.{Reply}
 use Rattle.cb_world.specs.declared.entry.Entry.{Entry}
-use Rattle.cb_rule.specs.declared.turn.Turn.{Turn}
 use Rattle.cb_rule.specs.declared.view.View.{View}
 use Rattle.cb_rule.specs.Lists.{Has}
 use Rattle.cb_record.specs.Parts.{Part, grown}
-use Rattle.cb_shared.specs.Calls.{StopsInVain}
+use Rattle.cb_shared.specs.Calls.{StopsBy}
+use Rattle.cb_shared.proofs.Laws.{stops_idle}
 use Rattle.cb_farmap.specs.declared.kept.Cannot.{Cannot}
 use Rattle.cb_farmap.specs.declared.kept.Cannot.TheVariants as cannot
 use Rattle.cb_farmap.specs.declared.kept.KeptObject.{KeptObject}
@@ -58,27 +59,27 @@ call_on c first (AskMake bytes) r v w x = let g = x.0 in record {
   share = ap (λ (z : View). z.share) g.2;
 }
 
-stop_same : (on : ℕ → Type 0) (vain want : Turn → Type 0) (v w : View)
-    → StopsInVain on vain want v w → w.written ≡ v.written
-stop_same on vain want v w x = ap (λ (z : View). z.written) x.left
-    ∙ ap (λ (l : List Entry). l ++ x.between.written) (vain_written on want x.last x.lacks)
-    ∙ ap (λ (z : View). z.written) x.tries.2
-    ∙ ap (λ (l : List Entry). l ++ v.written) (vain_written on vain x.tries.0 x.tries.1)
+stop_same : (c : Config) (on : ℕ → Type 0) (may : Job → Type 0) (v w : View)
+    → StopsBy c on may v w → w.written ≡ v.written
+stop_same c on may v w x = let idle = stops_idle c on may v w x in
+    ap (λ (z : View). z.written) idle.2
+    ∙ ap (λ (l : List Entry). l ++ v.written)
+    (vain_written (λ h. Unit {0}) (λ t. Unit {0}) idle.0 idle.1)
 
-stop_on : (on : ℕ → Type 0) (vain want : Turn → Type 0) (v w : View)
-    → StopsInVain on vain want v w → GoesOn v w
-stop_on on vain want v w x = on_then v x.between w (on_grown v x.between x.tries.0 x.tries.2)
-    (on_grown x.between w x.last x.left)
+stop_on : (c : Config) (on : ℕ → Type 0) (may : Job → Type 0) (v w : View)
+    → StopsBy c on may v w → GoesOn v w
+stop_on c on may v w x =
+    let idle = stops_idle c on may v w x in on_grown v w idle.0 idle.2
 
 stops_on : (c : Config) (ask : Ask) (v w : View) → CallStops c ask v w → GoesOn v w
-stops_on c (AskRead k) v w x = stop_on _ _ _ v w x
-stops_on c (AskWrite k at bytes) v w x = stop_on _ _ _ v w x
-stops_on c (AskMake bytes) v w x = stop_on _ _ _ v w x
+stops_on c (AskRead k) v w x = stop_on c _ _ v w x
+stops_on c (AskWrite k at bytes) v w x = stop_on c _ _ v w x
+stops_on c (AskMake bytes) v w x = stop_on c _ _ v w x
 
 stops_same : (c : Config) (ask : Ask) (v w : View) → CallStops c ask v w → w.written ≡ v.written
-stops_same c (AskRead k) v w x = stop_same _ _ _ v w x
-stops_same c (AskWrite k at bytes) v w x = stop_same _ _ _ v w x
-stops_same c (AskMake bytes) v w x = stop_same _ _ _ v w x
+stops_same c (AskRead k) v w x = stop_same c _ _ v w x
+stops_same c (AskWrite k at bytes) v w x = stop_same c _ _ v w x
+stops_same c (AskMake bytes) v w x = stop_same c _ _ v w x
 
 fails_on : (c : Config) (first : ℕ) (ask : Ask) (e : Cannot) (v w : View)
     → Fails c first ask e v w → GoesOn v w

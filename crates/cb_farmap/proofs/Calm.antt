@@ -31,7 +31,7 @@ use Rattle.cb_farmap.specs.Objects.{IsObject}
 use Rattle.cb_farmap.proofs.Adds.{odd, read_written, vain_written, write_same}
 use Rattle.cb_farmap.proofs.Finds.{SawFreed, SawNewest, freed_read, freed_write, saw_read}
 use Rattle.cb_rule.proofs.Laws.{times-append}
-use Rattle.cb_farmap.proofs.Jobs.{by_read, by_write}
+use Rattle.cb_shared.proofs.Laws.{by_read, by_write}
 use Rattle.cb_farmap.proofs.Lists.{counted_there, each_there}
 use Rattle.cb_farmap.proofs.Objects.{found_there, wrote_itself}
 use Rattle.cb_farmap.proofs.Turns.{IsOfMake, make_told, range_told}

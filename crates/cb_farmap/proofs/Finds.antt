@@ -17,7 +17,7 @@ use Rattle.cb_shared.specs.Calls.{AtThis, ReadCallEnds, ReadGives, SaysAs, TurnE
 use Rattle.cb_shared.specs.Reading.{FindsGone, IsReadHere}
 use Rattle.cb_shared.specs.Turning.{FindsAtLast, FindsFreedAfter, JobReads, TurnAdds, made_by_turn, object_of, turn_part, with_own}
 use Rattle.cb_farmap.proofs.Adds.{vain_written}
-use Rattle.cb_farmap.proofs.Jobs.{by_read, by_write}
+use Rattle.cb_shared.proofs.Laws.{by_read, by_write}
 use Rattle.cb_farmap.proofs.Lists.{has_front}
 
 -- a state of the record with these entries and this share, by which the version was the newest

@@ -6,10 +6,9 @@ use Rattle.cb_types.specs.declared.config.Config.{Config}
 use Rattle.cb_types.specs.declared.job.Job.TheVariants as jobs
 use Rattle.cb_types.specs.declared.reply.Reply.{Reply}
 use Rattle.cb_rule.specs.declared.view.View.{View}
-use Rattle.cb_rule.specs.declared.turn.Turn.{Turn}
-use Rattle.cb_shared.specs.Calls.{AtNone, IsInVain, TurnGives, TurnStops}
+use Rattle.cb_shared.specs.Calls.{LooksOf, OfThis, TurnGives, TurnStops}
 use Rattle.cb_shared.specs.Making.{MakesNew}
-use Rattle.cb_record.specs.Parts.{grown, nothing_more}
+use Rattle.cb_shared.proofs.Laws.{stops_at_once}
 use Rattle.cb_farmap.specs.declared.kept.Cannot.{Cannot}
 use Rattle.cb_farmap.specs.declared.kept.Cannot.TheVariants as cannot
 use Rattle.cb_farmap.specs.Calls.{Ask, AskMake, CallGives, CallStops, Fails, Goes, Tells, trouble}
@@ -47,30 +46,11 @@ make_gives c first bytes (Ok x) v w gives new = (gives, new)
 make_gives c first bytes (Err e) v w gives new = tt
 
 -- one for which there was no place, so that no try was made
-still : (v : View) → v ≡ grown nothing_more v
-still v = let e : v.ever ≡ v.ever + 0 = omega arith in
-    ap (λ (n : ℕ). let z : View = record v { ever = n } in z) e
-
-in_vain : (vain : Turn → Type 0) → IsInVain AtNone vain nothing_more
-in_vain vain = record { looks = []; turns = []; at = tt; of = tt; idle = tt; part = refl }
-
-no_try : (c : Config) (bytes : List ℕ) (v : View) → TurnStops c (jobs.Make bytes) v v
-no_try c bytes v = record {
-  between = v;
-  last = nothing_more;
-  tries = (nothing_more, in_vain _, still v);
-  lacks = in_vain _;
-  one = few;
-  left = still v;
-}
-  where
-    few : 0 ≤ 1
-    few = omega arith
-
 pub no_place : (c : Config) (first : ℕ) (bytes : List ℕ) (v w : View) → w ≡ v
     → Goes c first (AskMake bytes ∷ []) (Some cannot.NoMemory) v w
 no_place c first bytes v w same =
-    inl (subst (TurnStops c (jobs.Make bytes) v) (sym same) (no_try c bytes v))
+    inl (subst (TurnStops c (jobs.Make bytes) v) (sym same)
+    (stops_at_once c (LooksOf (jobs.Make bytes)) (OfThis (jobs.Make bytes)) v))
 
 -- ---- what a `?` hands on
 -- there was no place

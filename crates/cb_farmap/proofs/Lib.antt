@@ -2,7 +2,6 @@ mod Lists
 mod Pieces
 mod Numbers
 mod Objects
-mod Jobs
 mod Adds
 mod Finds
 mod Turns

@@ -28,7 +28,7 @@ use Rattle.cb_farmap.specs.declared.kept.Cannot.{Cannot}
 use Rattle.cb_farmap.specs.declared.kept.Cannot.TheVariants as cannot
 use Rattle.cb_farmap.specs.declared.kept.KeptObject.{KeptObject}
 use Rattle.cb_farmap.proofs.Finds.{SawNewest, saw_before}
-use Rattle.cb_farmap.proofs.Jobs.{of_read, of_write}
+use Rattle.cb_shared.proofs.Laws.{of_read, of_write}
 use Rattle.cb_farmap.proofs.Lists.{each_there, has_back}
 use Rattle.cb_farmap.proofs.PlanTurns.{CallAdds, IsAskedBy, IsEntryOf, IsInPlace, IsSaidInPlace, IsToldBy, call_adds, each_both, each_weaker, entries_of, handle_of, made_both, made_of, version_told}
 

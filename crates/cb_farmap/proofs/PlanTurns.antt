@@ -23,7 +23,7 @@ use Rattle.cb_farmap.specs.Commands.{HasWritten, made_by_all, made_in}
 use Rattle.cb_farmap.specs.declared.kept.KeptObject.{KeptObject}
 use Rattle.cb_farmap.proofs.Adds.{read_written, vain_written, write_adds, write_same}
 use Rattle.cb_farmap.proofs.Finds.{SawNewest, saw_grown}
-use Rattle.cb_farmap.proofs.Jobs.{of_read, of_write}
+use Rattle.cb_shared.proofs.Laws.{of_read, of_write}
 
 -- ---- lists
 pub each_both : {A : Type 0} (P : A → Type 0) (xs ys : List A) → Each P xs → Each P ys → Each P (xs ++ ys)

@@ -128,8 +128,8 @@ pub record IsSet (i x : ℕ) (v : View) (a : FarArray) (w : View) (b : FarArray)
   pub list : list_of w b ≡ slice_set (list_of v a) i x
   pub left : b ≡ record a { kept = with_written a.kept i }
 
--- a number more: in a later version of an object, or, where all were full, in an object more, of which
--- the pass had written nothing
+-- a number more: in a later version of an object, or, where all were full, in an object more, of
+-- which the pass had written nothing
 pub record IsPushed (x : ℕ) (v : View) (a : FarArray) (w : View) (b : FarArray) : Type 0 where
   pub list : list_of w b ≡ list_of v a ++ x ∷ []
   pub len : b.len ≡ a.len + 1

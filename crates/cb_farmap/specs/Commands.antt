@@ -53,7 +53,8 @@ made_by_all turns = total made_in turns
 
 -- all turns of the record are one history
 abbrev pub HasOneHistory : Config → ℕ → View → Type 0
-HasOneHistory c first v = (count : ℕ) × (last : FarState) × IsOneHistory Did first c (v ∷ []) count last
+HasOneHistory c first v = (count : ℕ) × (last : FarState)
+    × IsOneHistory Did first c (v ∷ []) count last
 
 -- ---- one command
 
@@ -74,8 +75,9 @@ IsOutOfPlace j (answer.Range len) = Unit {0}
 IsOutOfPlace j (answer.Pinned count) = Unit {0}
 IsOutOfPlace j r = ⊥
 
--- The newest of the turns that a command added tells it: one that makes an object, where the command
--- needs one, or one on an object of the record. Its reply answers the call, and is none of these.
+-- The newest of the turns that a command added tells it: one that makes an object, where the
+-- command needs one, or one on an object of the record. Its reply answers the call, and is none of
+-- these.
 pub record IsToldByTurn (s : Plain) (a : FarCommand) (r : Reply) (w : View) (more : List Turn)
     : Type 0 where
   pub turn : Turn

@@ -22,10 +22,10 @@ reads_of (AskRead k ∷ plan) = k ∷ reads_of plan
 reads_of (AskWrite k at bytes ∷ plan) = reads_of plan
 reads_of (AskMake bytes ∷ plan) = reads_of plan
 
--- What each keeps to, whatever it is answered: the map stays one of the pass; the calls made are those
--- of the plan, and none where an answer is given for good; no object is read twice; and nothing is
--- told of other writers, of a freed object, of pins or of a range where nobody else has its objects,
--- which stays.
+-- What each keeps to, whatever it is answered: the map stays one of the pass; the calls made are
+-- those of the plan, and none where an answer is given for good; no object is read twice; and
+-- nothing is told of other writers, of a freed object, of pins or of a range where nobody else has
+-- its objects, which stays.
 pub record KeepsMap (c : Config) (first : ℕ) (plan : List Ask) (t : Option Cannot) (v : View)
     (a : FarMap) (w : View) (b : FarMap) : Type 0 where
   pub map : IsMapOf w b

@@ -31,8 +31,8 @@ pairs_of es buckets = map (pairs_in es) buckets
 abbrev pub map_of : View → FarMap → finite.FinMap nat_cmp ℕ
 map_of v a = map_of_pairs (pairs_of v.written a.buckets)
 
--- The pass has each object of the map at its kept version as written, none of them stands twice, each
--- key stands in its own bucket, and once, and the map has as many keys as are counted.
+-- The pass has each object of the map at its kept version as written, none of them stands twice,
+-- each key stands in its own bucket, and once, and the map has as many keys as are counted.
 pub record IsMapOf (v : View) (a : FarMap) : Type 0 where
   pub some : 1 ≤ length a.buckets
   pub each : AllByRecursion (IsBucket v.written) a.buckets

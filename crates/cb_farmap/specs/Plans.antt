@@ -10,7 +10,8 @@ use Rattle.cb_farmap.specs.Objects.{object_at}
 use Rattle.cb_farmap.specs.PairBytes.{object_bytes, pair_bytes}
 use Rattle.cb_farmap.specs.Pairs.{Pair, pair_of, place_of}
 
--- how many objects are read, by where the key stands: those that hold pairs, up to the one that has it
+-- how many objects are read, by where the key stands: those that hold pairs, up to the one that has
+-- it
 abbrev pub objects_to : ℕ → Option ℕ → ℕ
 objects_to count None = objects_for count 64
 objects_to count (Some place) = place / 64 + 1
@@ -48,8 +49,8 @@ put_plan es b p = look_plan es b p.0 ++ put_ask b p (place_of p.0 (pairs_in es b
 
 -- ---- a drop
 
--- what the last pair, which has this index, asks to be known where a key was found in a place: a read
--- where it stands in another object
+-- what the last pair, which has this index, asks to be known where a key was found in a place: a
+-- read where it stands in another object
 abbrev pub last_asks : List KeptObject → ℕ → ℕ → List Ask
 last_asks ks place last =
     if last / 64 == place / 64 then [] else AskRead (object_at ks (last / 64)) ∷ []

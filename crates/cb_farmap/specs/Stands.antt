@@ -20,8 +20,8 @@ use Rattle.cb_farmap.specs.Changes.{AreSole}
 use Rattle.cb_farmap.specs.Commands.{CommandGoes, made_by_all}
 use Rattle.cb_farmap.specs.Maps.{IsMapOf, kept_of, map_of}
 
--- The record after so many commands: no other pass has anything, and this one has no pin and no turn
--- under way; no object was written more often than there were commands; and the turns made the
+-- The record after so many commands: no other pass has anything, and this one has no pin and no
+-- turn under way; no object was written more often than there were commands; and the turns made the
 -- objects that the list and the map need at their fullest.
 pub record IsRecordAfter (n : ℕ) (s : Plain) (v : View) : Type 0 where
   pub whole : v.share ≡ 64
@@ -38,7 +38,8 @@ pub record IsArrayNow (s : Plain) (v : View) (a : FarArray) : Type 0 where
   pub going : a.stop ≡ None
   pub sole : AreSole v a.kept
 
--- The map is the map, each bucket with its pairs, and with the objects that it needs at its fullest.
+-- The map is the map, each bucket with its pairs, and with the objects that it needs at its
+-- fullest.
 pub record IsMapNow (s : Plain) (v : View) (m : FarMap) : Type 0 where
   pub map_is : IsMapOf v m
   pub pairs : map_of v m ≡ s.pairs

@@ -94,10 +94,10 @@ impl FarArray {
         }
     }
 
-    /// Puts a number in the place of the one with this index, by one write into its object, which is
-    /// not read. Refused by any reply of that write but a version, Foreign where that is another one
-    /// than the one above the kept version; both leave the numbers as they were, and so does want of
-    /// memory.
+    /// Puts a number in the place of the one with this index, by one write into its object, which
+    /// is not read. Refused by any reply of that write but a version, Foreign where that is another
+    /// one than the one above the kept version; both leave the numbers as they were, and so does
+    /// want of memory.
     pub fn set<R: Wait>(
         &mut self,
         rt: &R,
@@ -131,10 +131,10 @@ impl FarArray {
         }
     }
 
-    /// Puts a number behind the last one: by one write into its object, which is not read, or, where
-    /// all objects are full, by a make of one with this number. Takes the memory for the object's
-    /// place before the make. Refused by any other reply than the success of that call, Foreign as
-    /// in `set`; both leave the numbers as they were, and so does want of memory.
+    /// Puts a number behind the last one: by one write into its object, which is not read, or,
+    /// where all objects are full, by a make of one with this number. Takes the memory for the
+    /// object's place before the make. Refused by any other reply than the success of that call,
+    /// Foreign as in `set`; both leave the numbers as they were, and so does want of memory.
     pub fn push<R: Wait>(
         &mut self,
         rt: &R,
@@ -170,8 +170,9 @@ impl FarArray {
         }
     }
 
-    /// Takes the last number away and gives it, by one read of its object; None without a call where
-    /// there is none. Refused and Foreign as in `get`, and both leave the numbers as they were.
+    /// Takes the last number away and gives it, by one read of its object; None without a call
+    /// where there is none. Refused and Foreign as in `get`, and both leave the numbers as they
+    /// were.
     pub fn pop<R: Wait>(
         &mut self,
         rt: &R,

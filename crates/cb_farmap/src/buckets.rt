@@ -16,8 +16,8 @@ use std::alloc::Global;
 use std::marker::Model;
 use std::sync::Wait;
 
-/// Buckets, of which each key has one: that with its number modulo how many there are. Contracts see
-/// them as a list.
+/// Buckets, of which each key has one: that with its number modulo how many there are. Contracts
+/// see them as a list.
 #[derive(Drop)]
 pub struct Buckets {
     items: Vec<Bucket>,
@@ -63,7 +63,8 @@ impl Buckets {
             (look_plan (record_of pass.old).written (bucket_in self.now key) key) (trouble result)
             (record_of pass.old) (record_of pass.new) }
         ensures calm { AreSole (record_of pass.old) (bucket_in self.now key).kept
-            → AreLoose (record_of pass.old) (bucket_in self.now key).kept → IsCalm (trouble result) }
+            → AreLoose (record_of pass.old) (bucket_in self.now key).kept
+            → IsCalm (trouble result) }
     {
         let i = key % self.items.len() as u64;
         let bucket = &self.items[i as usize];
@@ -96,7 +97,8 @@ impl Buckets {
             (put_plan (record_of pass.old).written (bucket_in self.old key) (key, x))
             (trouble result) (record_of pass.old) (record_of pass.new) }
         ensures calm { AreSole (record_of pass.old) (bucket_in self.old key).kept
-            → AreLoose (record_of pass.old) (bucket_in self.old key).kept → IsCalm (trouble result) }
+            → AreLoose (record_of pass.old) (bucket_in self.old key).kept
+            → IsCalm (trouble result) }
     {
         let i = key % self.items.len() as u64;
         let bucket = &mut self.items[i as usize];
@@ -127,7 +129,8 @@ impl Buckets {
             (drop_plan (record_of pass.old).written (bucket_in self.old key) key)
             (trouble result) (record_of pass.old) (record_of pass.new) }
         ensures calm { AreSole (record_of pass.old) (bucket_in self.old key).kept
-            → AreLoose (record_of pass.old) (bucket_in self.old key).kept → IsCalm (trouble result) }
+            → AreLoose (record_of pass.old) (bucket_in self.old key).kept
+            → IsCalm (trouble result) }
     {
         let i = key % self.items.len() as u64;
         let bucket = &mut self.items[i as usize];

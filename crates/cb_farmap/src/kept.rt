@@ -80,8 +80,8 @@ impl From<Stop> for Cannot {
 }
 
 impl Cannot {
-    /// Why the value gives this answer for good from here on; None where the next call is made as if
-    /// this one had not been.
+    /// Why the value gives this answer for good from here on; None where the next call is made as
+    /// if this one had not been.
     pub(crate) fn stop(&self) -> Option<Stop>
         ensures { result ≡ stop_of self.now }
     {

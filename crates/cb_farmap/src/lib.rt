@@ -1,6 +1,6 @@
-//! An array and a hash map of numbers whose objects may lie far away. Each stands on one pass of the
-//! shared runtime: as long as nobody else writes its objects it is a plain list, or a plain map, and
-//! the first call that finds that somebody did says so.
+//! An array and a hash map of numbers whose objects may lie far away. Each stands on one pass of
+//! the shared runtime: as long as nobody else writes its objects it is a plain list, or a plain
+//! map, and the first call that finds that somebody did says so.
 #![tactic(auto)]
 
 mod array;

@@ -19,13 +19,13 @@ use cb_types::NoMemory;
 use std::alloc::Global;
 use std::sync::Wait;
 
-/// A map of numbers: each key belongs to one of a fixed number of buckets, the pairs of a bucket stand
-/// one behind the other in objects of 1,024 bytes, 64 pairs to an object, each the key and then its
-/// value, 8 bytes each with the lowest first. The map keeps of each object its handle and the version
-/// at which it wrote it last. All calls of one map are made on the one pass that made its objects,
-/// which may be split and joined meanwhile. An object that gets empty is kept, and filled again before
-/// one is made; none is freed. A bucket of n pairs costs up to n / 64 reads a call, so choose the
-/// number of buckets by the pairs that are expected.
+/// A map of numbers: each key belongs to one of a fixed number of buckets, the pairs of a bucket
+/// stand one behind the other in objects of 1,024 bytes, 64 pairs to an object, each the key and
+/// then its value, 8 bytes each with the lowest first. The map keeps of each object its handle and
+/// the version at which it wrote it last. All calls of one map are made on the one pass that made
+/// its objects, which may be split and joined meanwhile. An object that gets empty is kept, and
+/// filled again before one is made; none is freed. A bucket of n pairs costs up to n / 64 reads a
+/// call, so choose the number of buckets by the pairs that are expected.
 #[derive(Drop)]
 pub struct FarMap {
     buckets: Buckets,
@@ -34,7 +34,8 @@ pub struct FarMap {
 }
 
 impl FarMap {
-    /// An empty map with so many buckets. Takes memory for the buckets alone, and none in the runtime.
+    /// An empty map with so many buckets. Takes memory for the buckets alone, and none in the
+    /// runtime.
     pub fn new(alloc: Global, buckets: u32) -> Result<FarMap, NoMemory>
         requires some { 1 ≤ buckets }
         requires most { buckets ≤ 4096 }
@@ -60,8 +61,8 @@ impl FarMap {
 
     /// The value of a key, None where it has none: by reads of the objects of its bucket that hold
     /// pairs, in order, up to the one that has the key. Refused by any reply of such a read but the
-    /// bytes of the kept version, Foreign where they are those of another version. The first Foreign,
-    /// and the first Refused with Freed, is given again to every later call but `len`.
+    /// bytes of the kept version, Foreign where they are those of another version. The first
+    /// Foreign, and the first Refused with Freed, is given again to every later call but `len`.
     pub fn look<R: Wait>(
         &mut self,
         rt: &R,
@@ -88,13 +89,13 @@ impl FarMap {
         noted(&mut self.stop, value)
     }
 
-    /// Puts a value at a key and gives its old value, None where it had none: by the reads of `look`,
-    /// and then one write of the pair, in the place of the key or behind the bucket's last pair, or,
-    /// where the key is new and all objects of the bucket are full, a make of one with the pair. Takes
-    /// the memory for the object's place before the make. Refused by any other reply than the success
-    /// of such a call, Foreign by a read of another version than the kept one, or by a write that is
-    /// answered another one than the one above it; both leave the map as it was, and so does want of
-    /// memory.
+    /// Puts a value at a key and gives its old value, None where it had none: by the reads of
+    /// `look`, and then one write of the pair, in the place of the key or behind the bucket's last
+    /// pair, or, where the key is new and all objects of the bucket are full, a make of one with
+    /// the pair. Takes the memory for the object's place before the make. Refused by any other
+    /// reply than the success of such a call, Foreign by a read of another version than the kept
+    /// one, or by a write that is answered another one than the one above it; both leave the map as
+    /// it was, and so does want of memory.
     pub fn put<R: Wait>(
         &mut self,
         rt: &R,
@@ -125,9 +126,9 @@ impl FarMap {
     }
 
     /// Drops a key and gives its value, None where it had none: by the reads of `look`, and then,
-    /// where its pair is not the last of the bucket, one write that puts the last pair into its place,
-    /// behind a read of the last pair's object where that is another one. Refused and Foreign as in
-    /// `put`; both leave the map as it was, and so does want of memory.
+    /// where its pair is not the last of the bucket, one write that puts the last pair into its
+    /// place, behind a read of the last pair's object where that is another one. Refused and
+    /// Foreign as in `put`; both leave the map as it was, and so does want of memory.
     pub fn drop_key<R: Wait>(
         &mut self,
         rt: &R,

@@ -61,9 +61,9 @@ fn bytes_read(kept: KeptObject, read: Result<Reply, NoMemory>) -> Result<Bytes, 
     }
 }
 
-/// Writes bytes into the object with this index at its kept version, and keeps its next one. Refused
-/// by any reply but a version; Foreign where that is another one; both keep nothing, and so does want
-/// of memory.
+/// Writes bytes into the object with this index at its kept version, and keeps its next one.
+/// Refused by any reply but a version; Foreign where that is another one; both keep nothing, and so
+/// does want of memory.
 #[inline(always)]
 pub(crate) fn write_kept<R: Wait>(
     rt: &R,
