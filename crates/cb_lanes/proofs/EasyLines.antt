@@ -1,17 +1,13 @@
 -- What a script at ease keeps from line to line: no batch is leaving and no pair is joining, no
 -- node has crashed but those that its lines name, and no seat has an open write.
-use Rattle.std.proofs.Common.{◌≡◌, ℕ, true, false, List, replicate, Contains, Option, Some, refl}
+use Rattle.std.proofs.Common.{◌≡◌, ℕ, true, false, List, replicate, Contains, Option, refl}
 use Rattle.std.proofs.Common.{sym, ap, ◌∙◌, subst, inl, inr, eq-eqb}
 use Rattle.std.proofs.lemmas.Bool.{cases_lt, false≢true}
 use Rattle.std.proofs.lemmas.List.{get_or-replicate, get_or_past}
-use Rattle.std.proofs.lemmas.Option.{same_Some, none-some}
 use Rattle.cb_types.specs.declared.config.Config.{Config}
 use Rattle.cb_types.specs.declared.job.Job.{Job}
 use Rattle.cb_types.specs.declared.job.Job.TheVariants as job
 use Rattle.cb_types.specs.declared.request.Request.{Request}
-use Rattle.cb_types.specs.declared.request.Request.TheVariants.{Evict, Begin, Ship, Commit, Abort}
-use Rattle.cb_types.specs.declared.request.Request.TheVariants.{Pair, Patch, Merge, Part, Compact}
-use Rattle.cb_types.specs.declared.request.Request.TheVariants.{Rebuild, Crash, Join}
 use Rattle.cb_types.specs.declared.reply.Reply.{Reply}
 use Rattle.cb_script.specs.Roomy.{is_crash, is_step}
 use Rattle.cb_world.specs.declared.seats.Pin.{Pin as SeatPin}
@@ -23,9 +19,9 @@ use Rattle.cb_core.specs.Pinning.{PinStep, UnpinStep, given, not_pinned, refused
 use Rattle.cb_core.proofs.Laws.{CrashedAmong, IsIdle, IsWholeJob, NamesAmong, none_crashed, pin_far}
 use Rattle.cb_core.proofs.Laws.{turn_crashed, turn_idle, unpin_far}
 use Rattle.cb_lanes.specs.GivingBack.{Rests}
-use Rattle.cb_lanes.specs.LineGoes.{job_of}
 use Rattle.cb_lanes.specs.LineStep.{LineStep}
 use Rattle.cb_lanes.specs.declared.side.Side.{Side}
+use Rattle.cb_lanes.proofs.LineJobs.{by_line_job}
 use Rattle.cb_lanes.proofs.LineKeeps.{IsKeptByTurns, IsObjectJob, MayBe, line_kept, rests_kept}
 use Rattle.cb_lanes.proofs.Lone.{turn_seats}
 use Rattle.cb_lanes.proofs.LooseSpans.{NoClaims}
@@ -106,30 +102,19 @@ pub record IsEasyLine (nodes : List ℕ) (request : Request) : Type 0 where
   pub step : is_step request ≡ false
   pub crash : (n : ℕ) → is_crash n request ≡ true → Contains nodes n
 
+no_step : (T : Type 0) → true ≡ false → T
+no_step T e = absurd (false≢true (sym e))
+
 job_easy : (nodes : List ℕ) (request : Request) → IsEasyLine nodes request
     → MayBe (IsEasyJob nodes) request
-job_easy nodes request easy = by request easy.step easy.crash
-  where
-    is : (i j : Job) → IsEasyJob nodes i → Some i ≡ Some j → IsEasyJob nodes j
-    is i j x e = subst (IsEasyJob nodes) (same_Some i j e) x
-
-    by : (q : Request) → is_step q ≡ false → ((n : ℕ) → is_crash n q ≡ true → Contains nodes n)
-        → (j : Job) → job_of q ≡ Some j → IsEasyJob nodes j
-    by Evict step crash j e = is job.Evict j (record { whole = tt; named = tt }) e
-    by Compact step crash j e = is job.Compact j (record { whole = tt; named = tt }) e
-    by Rebuild step crash j e = is job.Rebuild j (record { whole = tt; named = tt }) e
-    by (Crash node) step crash j e = is (job.Crash node) j
-        (record { whole = tt; named = crash node.n (eq-eqb node.n node.n refl) }) e
-    by (Join node) step crash j e = is (job.Join node) j (record { whole = tt; named = tt }) e
-    by Begin step crash j e = absurd (false≢true (sym step))
-    by Ship step crash j e = absurd (false≢true (sym step))
-    by Commit step crash j e = absurd (false≢true (sym step))
-    by Abort step crash j e = absurd (false≢true (sym step))
-    by Pair step crash j e = absurd (false≢true (sym step))
-    by Patch step crash j e = absurd (false≢true (sym step))
-    by Merge step crash j e = absurd (false≢true (sym step))
-    by Part step crash j e = absurd (false≢true (sym step))
-    by q step crash j e = absurd (none-some j e)
+job_easy nodes request easy j e =
+    by_line_job (λ (q : Request) (i : Job). IsEasyLine nodes q → IsEasyJob nodes i)
+    (λ x. record { whole = tt; named = tt }) (λ x. no_step _ x.step) (λ x. no_step _ x.step)
+    (λ x. no_step _ x.step) (λ x. no_step _ x.step) (λ x. no_step _ x.step)
+    (λ x. no_step _ x.step) (λ x. no_step _ x.step) (λ x. no_step _ x.step)
+    (λ x. record { whole = tt; named = tt }) (λ x. record { whole = tt; named = tt })
+    (λ node x. record { whole = tt; named = x.crash node.n (eq-eqb node.n node.n refl) })
+    (λ node x. record { whole = tt; named = tt }) request j e easy
 
 pub job_whole : (nodes : List ℕ) (request : Request) → IsEasyLine nodes request
     → MayBe IsWholeJob request

@@ -1,6 +1,7 @@
 pub mod Lists
 pub mod NamesKept
 pub mod Recounting
+mod LineJobs
 pub mod LineKeeps
 pub mod LineCodes
 mod LineNarrow

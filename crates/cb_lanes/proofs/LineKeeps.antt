@@ -1,15 +1,11 @@
 -- What turns, pins and the ends of pins keep, lines keep too.
 use Rattle.std.proofs.Common.{◌≡◌, ℕ, zero, suc, List, [], ◌∷◌, map, Option, None, Some, refl, sym}
 use Rattle.std.proofs.Common.{subst}
-use Rattle.std.proofs.lemmas.Option.{none-some, same_Some}
 use Rattle.cb_types.specs.declared.job.Job.{Job}
 use Rattle.cb_types.specs.declared.job.Job.TheVariants as job
 use Rattle.cb_types.specs.declared.request.Request.{Request}
 use Rattle.cb_types.specs.declared.request.Request.TheVariants.{Make, Read, Write, Free, Pin, Peek}
-use Rattle.cb_types.specs.declared.request.Request.TheVariants.{Unpin, Filter, Leave, Evict, Begin}
-use Rattle.cb_types.specs.declared.request.Request.TheVariants.{Ship, Commit, Abort, Pair, Patch}
-use Rattle.cb_types.specs.declared.request.Request.TheVariants.{Merge, Part, Compact, Rebuild}
-use Rattle.cb_types.specs.declared.request.Request.TheVariants.{Crash, Join}
+use Rattle.cb_types.specs.declared.request.Request.TheVariants.{Unpin, Filter, Leave}
 use Rattle.cb_types.specs.declared.reply.Reply.{Reply}
 use Rattle.cb_world.specs.declared.seats.Pin.{Pin as SeatPin}
 use Rattle.cb_world.specs.World.{WorldState}
@@ -23,6 +19,7 @@ use Rattle.cb_lanes.specs.LineGoes.{job_of}
 use Rattle.cb_lanes.specs.LineStep.{LineStep, ObjectStep, OtherStep, TurnAt, PeekStep, not_pinned}
 use Rattle.cb_lanes.specs.LineStep.{shown, PinLine, at_once, stays_far, swapped_in}
 use Rattle.cb_lanes.specs.declared.side.Side.{Side}
+use Rattle.cb_lanes.proofs.LineJobs.{by_line_job}
 use Rattle.cb_lanes.proofs.Recounting.{IsRecounted, turn_beside}
 
 -- the job is one of a line on an object
@@ -45,62 +42,15 @@ object_alone (job.Swap handle) is = tt
 object_alone (job.Filter handle) is = tt
 object_alone j is = absurd is
 
--- the job is one of a line about no object
-abbrev IsLineJob : Job → Type 0
-IsLineJob (job.Make bytes) = ⊥
-IsLineJob (job.Read handle) = ⊥
-IsLineJob (job.Write handle at bytes) = ⊥
-IsLineJob (job.Free handle) = ⊥
-IsLineJob (job.Swap handle) = ⊥
-IsLineJob (job.Filter handle) = ⊥
-IsLineJob job.Gather = ⊥
-IsLineJob job.Install = ⊥
-IsLineJob (job.Fetch handle) = ⊥
-IsLineJob job.Land = ⊥
-IsLineJob j = Unit {0}
-
--- what holds of each such job holds of that of a line
-line_each : (P : Job → Type 0) → ((j : Job) → IsLineJob j → P j) → (request : Request) (j : Job)
-    → job_of request ≡ Some j → P j
-line_each P f request j e = by request e
-  where
-    is : (i : Job) → IsLineJob i → Some i ≡ Some j → P j
-    is i x e = subst P (same_Some i j e) (f i x)
-
-    by : (q : Request) → job_of q ≡ Some j → P j
-    by Evict e = is job.Evict tt e
-    by Begin e = is job.Begin tt e
-    by Ship e = is job.Ship tt e
-    by Commit e = is job.Commit tt e
-    by Abort e = is job.Abort tt e
-    by Pair e = is job.Pair tt e
-    by Patch e = is job.Patch tt e
-    by Merge e = is job.Merge tt e
-    by Part e = is job.Part tt e
-    by Compact e = is job.Compact tt e
-    by Rebuild e = is job.Rebuild tt e
-    by (Crash node) e = is (job.Crash node) tt e
-    by (Join node) e = is (job.Join node) tt e
-    by q e = absurd (none-some j e)
-
--- such a job hands no order out and takes none, and makes no object
+-- nor does one of a line about no object, and it makes none
 pub line_alone : (request : Request) (j : Job) → job_of request ≡ Some j → NeedsNoOrder j
-line_alone = line_each NeedsNoOrder alone
-  where
-    alone : (j : Job) → IsLineJob j → NeedsNoOrder j
-    alone job.Gather is = is
-    alone job.Install is = is
-    alone (job.Fetch handle) is = is
-    alone job.Land is = is
-    alone j is = tt
+line_alone = by_line_job (λ (q : Request) (i : Job). NeedsNoOrder i) tt tt tt tt tt tt tt tt tt tt tt
+    (λ node. tt) (λ node. tt)
 
 pub line_within : (most : ℕ) (request : Request) (j : Job) → job_of request ≡ Some j
     → MakesWithin most j
-line_within most = line_each (MakesWithin most) within
-  where
-    within : (j : Job) → IsLineJob j → MakesWithin most j
-    within (job.Make bytes) is = absurd is
-    within j is = tt
+line_within most = by_line_job (λ (q : Request) (i : Job). MakesWithin most i) tt tt tt tt tt tt tt
+    tt tt tt tt (λ node. tt) (λ node. tt)
 
 -- P is kept by each turn whose job may be, among them those on objects, by pins and their ends, and
 -- where rows given and keys drawn are counted otherwise

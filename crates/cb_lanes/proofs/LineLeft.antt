@@ -11,10 +11,7 @@ use Rattle.cb_types.specs.declared.job.Job.{Job}
 use Rattle.cb_types.specs.declared.job.Job.TheVariants as job
 use Rattle.cb_types.specs.declared.request.Request.{Request}
 use Rattle.cb_types.specs.declared.request.Request.TheVariants.{Make, Read, Write, Free, Pin, Peek}
-use Rattle.cb_types.specs.declared.request.Request.TheVariants.{Unpin, Filter, Leave, Evict, Begin}
-use Rattle.cb_types.specs.declared.request.Request.TheVariants.{Ship, Commit, Abort, Pair, Patch}
-use Rattle.cb_types.specs.declared.request.Request.TheVariants.{Merge, Part, Compact, Rebuild}
-use Rattle.cb_types.specs.declared.request.Request.TheVariants.{Crash, Join}
+use Rattle.cb_types.specs.declared.request.Request.TheVariants.{Unpin, Filter, Leave}
 use Rattle.cb_types.specs.declared.reply.Reply.{Reply}
 use Rattle.cb_types.specs.declared.reply.Reply.TheVariants as answer
 use Rattle.cb_types.specs.Table.{IsReplyOf}
@@ -45,6 +42,7 @@ use Rattle.cb_lanes.specs.LineStep.{shown, IsInReply, PinLine, at_once, stays_fa
 use Rattle.cb_lanes.specs.LineTells.{BringsObject, LineLeaves, LineTells}
 use Rattle.cb_lanes.proofs.FarPins.{far_not_here}
 use Rattle.cb_lanes.proofs.GivingBack.{pin_below}
+use Rattle.cb_lanes.proofs.LineJobs.{by_line_job}
 use Rattle.cb_lanes.proofs.Lone.{event_seats, lone_other, turn_alone}
 
 -- ---- unmoved
@@ -247,42 +245,13 @@ module _ (side : Side) (seat : ℕ) (w new : WorldState) (r : Reply) (sound : Is
   other_keeps handle request None ok ready x = object_keeps handle request ready x
 
   -- the job of a line about no object is one that may be asked for
-  some_job : (a j : Job) → Some a ≡ Some j → IsAsked w.desk.settings a → IsAsked w.desk.settings j
-  some_job a j e ok = subst (IsAsked w.desk.settings) (same a j e) ok
-    where
-      same : (a j : Job) → Some a ≡ Some j → a ≡ j
-      same a j e = cc
-
-  no_job : (j : Job) → None ≡ Some j → IsAsked w.desk.settings j
-  no_job j e = absurd (never j e)
-    where
-      never : (j : Job) → None ≡ Some j → ⊥
-      never j e = cc
-
   own_job : (request : Request) → IsRequest w.desk.settings.nodes request → (j : Job)
       → job_of request ≡ Some j → IsAsked w.desk.settings j
-  own_job (Crash node) is j e = some_job (job.Crash node) j e (is, tt)
-  own_job (Join node) is j e = some_job (job.Join node) j e (is, tt)
-  own_job (Make name bytes) is j e = no_job j e
-  own_job (Read name) is j e = no_job j e
-  own_job (Write name at bytes) is j e = no_job j e
-  own_job (Free name) is j e = no_job j e
-  own_job (Pin name) is j e = no_job j e
-  own_job (Peek name) is j e = no_job j e
-  own_job (Unpin name) is j e = no_job j e
-  own_job (Filter name) is j e = no_job j e
-  own_job Leave is j e = no_job j e
-  own_job Evict is j e = some_job job.Evict j e (tt, tt)
-  own_job Begin is j e = some_job job.Begin j e (tt, tt)
-  own_job Ship is j e = some_job job.Ship j e (tt, tt)
-  own_job Commit is j e = some_job job.Commit j e (tt, tt)
-  own_job Abort is j e = some_job job.Abort j e (tt, tt)
-  own_job Pair is j e = some_job job.Pair j e (tt, tt)
-  own_job Patch is j e = some_job job.Patch j e (tt, tt)
-  own_job Merge is j e = some_job job.Merge j e (tt, tt)
-  own_job Part is j e = some_job job.Part j e (tt, tt)
-  own_job Compact is j e = some_job job.Compact j e (tt, tt)
-  own_job Rebuild is j e = some_job job.Rebuild j e (tt, tt)
+  own_job request is j e = by_line_job
+      (λ (q : Request) (i : Job). IsRequest w.desk.settings.nodes q → IsAsked w.desk.settings i)
+      (λ x. (tt, tt)) (λ x. (tt, tt)) (λ x. (tt, tt)) (λ x. (tt, tt)) (λ x. (tt, tt))
+      (λ x. (tt, tt)) (λ x. (tt, tt)) (λ x. (tt, tt)) (λ x. (tt, tt)) (λ x. (tt, tt))
+      (λ x. (tt, tt)) (λ node x. (x, tt)) (λ node x. (x, tt)) request j e is
 
   line_keeps : (handle : Option ℕ) (request : Request) → IsRequest w.desk.settings.nodes request
       → Ready handle → LineStep side seat handle request w r new → KeepsPinned w new
