@@ -34,8 +34,8 @@ pub returns-in-None-clause-write : goal.returns-in-None-clause-write
 returns-in-None-clause-write c = let fit = c.refuse_write.ensures.room c.in-None.is in
     inr (fit.0, fit.1, c.write_at.ensures.write)
 
-pub invariant_of-pass-in-None : goal.invariant_of-pass-in-None
-invariant_of-pass-in-None c =
+pub invariant_of-pass : goal.invariant_of-pass
+invariant_of-pass c =
     let p = c.args.pass.now in let x = c.write_at.ensures in record {
       shares = p.shares ∙ sym x.share;
       carries = x.table.1 ∙ p.carries;
