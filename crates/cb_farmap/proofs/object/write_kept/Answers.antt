@@ -14,13 +14,16 @@ use Rattle.cb_farmap.proofs.object.write_kept.Goals as goal
 
 pub write-wrote-requires-clause-knows : goal.write-wrote-requires-clause-knows
 write-wrote-requires-clause-knows g c =
-    subst (λ (k : KeptObject). Knows k.handle.n (record_of c.args.pass.now)) (sym c.at-object.ensures)
-    (knows_it (record_of c.args.pass.now) (object_at c.args.kept.now c.args.o) c.requires.object)
+    subst (λ (k : KeptObject). Knows k.handle.n (record_of c.args.pass.now))
+    (sym c.at-object.ensures) (knows_it (record_of c.args.pass.now)
+    (object_at c.args.kept.now c.args.o) c.requires.object)
 
-pub unwritten-requires-clause-other : goal.unwritten-requires-clause-other
-unwritten-requires-clause-other g c = subst (λ (k : KeptObject). c.write-wrote.result
-    ≡ Ok (answer.Version (k.version + 1)) → ⊥) (sym c.at-object.ensures)
-    (c.keep_written.ensures.no c.if-keep_written.false).0
+pub unwritten-requires : goal.unwritten-requires
+unwritten-requires g c = record {
+  other = subst (λ (k : KeptObject). c.write-wrote.result
+      ≡ Ok (answer.Version (k.version + 1)) → ⊥) (sym c.at-object.ensures)
+      (c.keep_written.ensures.no c.if-keep_written.false).0;
+}
 
 pub returns-then-keep_written-clause-goes : goal.returns-then-keep_written-clause-goes
 returns-then-keep_written-clause-goes g c = goes_by c.args.shared.now.config
