@@ -42,6 +42,7 @@ impl Shared {
     }
 
     /// The pointer word of an object that the pass knows, by one load.
+    #[inline(always)]
     pub(crate) fn look(&self, pass: &mut Pass, h: Handle) -> u64
         requires of { IsPassOf self.now pass.old }
         requires knows { Knows h.n (record_of pass.old) }
@@ -53,6 +54,7 @@ impl Shared {
 
     /// The write of an object whose word was found so: why it can't be claimed, and else the claim
     /// and the write.
+    #[inline(always)]
     pub(crate) fn write_from(
         &self,
         pass: &mut Pass,
@@ -106,6 +108,7 @@ pub(crate) fn is_inside(word: u64, at: u32, count: usize) -> bool
 }
 
 /// The claim of an object at the word that was seen, and its write.
+#[inline(always)]
 fn write_at(
     top: &Top,
     seat: &mut SeatAt,
@@ -135,6 +138,7 @@ fn write_at(
 }
 
 /// The write of an object that the seat claims, and its settling.
+#[inline(always)]
 fn write_claimed(
     top: &Top,
     seat: &mut SeatAt,
@@ -170,6 +174,7 @@ fn write_claimed(
 
 /// Stores each word of a claimed object that these bytes reach, from the byte number `at` on. A
 /// word of which a part stays is loaded before.
+#[inline(always)]
 fn overwrite_own(top: &Top, seat: &mut SeatAt, config: &Config, place: u32, at: u32, bytes: &[u8])
     requires of { IsOf top.now.table_id top.now.key config.now seat.old }
     requires end { at + length bytes.now < 2 ^ 16 }
@@ -192,6 +197,7 @@ fn overwrite_own(top: &Top, seat: &mut SeatAt, config: &Config, place: u32, at: 
 /// The word of a claimed object whose first byte is the object's byte `first`, with these bytes. It
 /// is loaded where a part of it stays; where the bytes cover all of it there is one load of eight
 /// of them.
+#[inline(always)]
 fn merged_own(
     top: &Top,
     seat: &mut SeatAt,
