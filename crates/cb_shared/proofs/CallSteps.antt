@@ -1,5 +1,5 @@
 -- Tries of a call, one after another.
-use Rattle.std.proofs.Common.{◌≡◌, ◌≤◌, ℕ, length, lit≤, List, [], ◌∷◌, ◌++◌, None, Some}
+use Rattle.std.proofs.Common.{◌≡◌, ℕ, List, [], ◌∷◌, ◌++◌, None, Some}
 use Rattle.std.proofs.Common.{Bool, Option, Result, Ok, Err, sym, refl, ap, ◌∙◌, ◌⊎◌, ⊎_elim, subst}
 use Rattle.std.proofs.Common.{inl, inr}
 use Rattle.std.specs.Result.{OnErr}

@@ -1,7 +1,7 @@
 -- Worked turns that bring a far object in: what meets each definition, and what breaks one of its
 -- parts alone.
 use Rattle.std.proofs.Common.{◌≡◌, ℕ, zero, suc, ◌<◌, true, false, List, [], ◌∷◌, ◌++◌, length, get_or}
-use Rattle.std.proofs.Common.{Option, None, Some, Ok, Err, refl, sym, ap, ◌∙◌, subst, inl, inr, lit<, lit≤, arith}
+use Rattle.std.proofs.Common.{Option, None, Some, Ok, Err, refl, sym, ap, ◌∙◌, inl, inr, lit<, lit≤, arith}
 use Rattle.std.proofs.lemmas.Bool.{eqb-false, false≢true}
 use Rattle.cb_member.specs.declared.no_memory.NoMemory.{NoMemory}
 use Rattle.cb_types.specs.declared.job.Job.{Job}

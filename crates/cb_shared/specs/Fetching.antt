@@ -1,6 +1,6 @@
 -- The jobs by which a read brings a far object in, and those of a write.
-use Rattle.std.specs.Prelude.{◌≡◌, ◌⊎◌, ℕ, ◌+◌, ◌<◌, ◌≤◌, ◌||◌, Bool, true, false, List, [], ◌∷◌, ◌++◌}
-use Rattle.std.specs.Prelude.{length, Option, Some}
+use Rattle.std.specs.Prelude.{◌≡◌, ◌⊎◌, ℕ, ◌+◌, ◌<◌, ◌≤◌, ◌||◌, Bool, true, false, List, [], ◌∷◌}
+use Rattle.std.specs.Prelude.{◌++◌, length, Option, Some}
 use Rattle.cb_ptr.specs.declared.word.State.TheVariants as state
 use Rattle.cb_ptr.specs.Word.{len_of, state_of}
 use Rattle.cb_types.specs.declared.job.Job.{Job}
@@ -23,8 +23,8 @@ abbrev pub brought_in_by : Bool → List Turn → Bool
 brought_in_by before [] = before
 brought_in_by before (t ∷ ts) = brings t.reply || brought_in_by before ts
 
--- The job behind a fetch that was told so: rows that it handed out are landed; where the object's own
--- row is not lost it is swapped in; and else it is fetched again.
+-- The job behind a fetch that was told so: rows that it handed out are landed; where its own
+-- row is not lost the object is swapped in; and else it is fetched again.
 abbrev pub job_behind_fetch : ℕ → Option Reply → Job
 job_behind_fetch h (Some (answer.Fetched set position)) = jobs.Land
 job_behind_fetch h (Some answer.Direct) = jobs.Swap (record { n = h })
@@ -82,8 +82,8 @@ AreBringingTo h before after ts =
     AreFetches h false ts × (after ≡ brought_in_by before ts) × AreDone h ts
 
 -- The job of a write's next turn, where that of a read is this one: its own where a read swaps the
--- object in; where a read lands a row it does so too, if its bytes lie inside of the object, and takes
--- its own if they go past the end; and else the same.
+-- object in; where a read lands a row it does so too, if its bytes lie inside of the object, and
+-- takes its own if they go past the end; and else the same.
 abbrev pub IsWriteFor : Job → Type 0 → Type 0 → Job → Job → Type 0
 IsWriteFor own inside past (jobs.Swap handle) job = job ≡ own
 IsWriteFor own inside past jobs.Land job = ((job ≡ jobs.Land) × inside) ⊎ ((job ≡ own) × past)
@@ -99,8 +99,8 @@ GoAsWrite h own inside past (t ∷ ts) =
 abbrev pub GoesOnAsWrite : ℕ → Job → Type 0 → Type 0 → List Turn → Type 0
 GoesOnAsWrite h own inside past ts = GoAsWrite h own inside past ts × AreDone h ts
 
--- a look that found the object far, with so many bytes from the byte number `at` on inside of it; and
--- one with these past its end
+-- a look that found the object far, with so many bytes from the byte number `at` on inside of it;
+-- and one with these past its end
 abbrev pub FoundInside : ℕ → ℕ → ℕ → Look → Type 0
 FoundInside h at count l =
     (l.handle ≡ h) × (state_of l.word ≡ state.Far) × (at + count ≤ len_of l.word)

@@ -1,5 +1,5 @@
 -- Turns of jobs that hand an order out or take one.
-use Rattle.std.specs.Prelude.{◌≡◌, ℕ, ◌<◌, List, Option, None, Some, Result, Ok, Err, IfOk, OnErr}
+use Rattle.std.specs.Prelude.{◌≡◌, ℕ, ◌<◌, List, Option, None, Some, Result, Ok, IfOk, OnErr}
 use Rattle.cb_member.specs.declared.no_memory.NoMemory.{NoMemory}
 use Rattle.cb_types.specs.declared.config.Config.{Config}
 use Rattle.cb_types.specs.declared.handle.Handle.{Handle}

@@ -49,8 +49,8 @@ impl Shared {
     ) -> Result<Gathered, NoMemory>
         requires of { IsPassOf self.now pass.old }
         ensures of { IsPassOf self.now pass.new }
-        ensures turn { TurnBy self.now.config jobs.Gather (gather_answer result) (record_of pass.old)
-            (record_of pass.new) }
+        ensures turn { TurnBy self.now.config jobs.Gather (gather_answer result)
+            (record_of pass.old) (record_of pass.new) }
         ensures keeps { (record_of pass.new).order
             ≡ gather_keeps (record_of pass.old).order result }
         ensures handed { IfOk result (λ g. (o : EncodeOrder) → g ≡ gathered.Order o

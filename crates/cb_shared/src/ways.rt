@@ -6,7 +6,7 @@ ghost use Rattle.cb_types.specs.declared.order.Kept.TheVariants.{Decode};
 ghost use Rattle.cb_types.specs.declared.reply.Reply.TheVariants as answer;
 ghost use Rattle.cb_types.specs.Orders.{IsDecodable};
 ghost use Rattle.cb_shared.specs.Ways.{HasWay, IsFound, IsWayOf, way_told};
-ghost use Rattle.cb_shared.specs.Calls.{AtNone, Brings, IsLack, OfThis, StopsBy, TriesBy, TurnStops};
+ghost use Rattle.cb_shared.specs.Calls.{AtNone, Brings, OfThis, StopsBy, TriesBy, TurnStops};
 ghost use Rattle.cb_shared.specs.Calls.{TurnTries};
 ghost use Rattle.cb_shared.specs.Fetching.{AreBringingTo, AreFetches, GetsTurns};
 ghost use Rattle.cb_shared.specs.Fetching.{IsOneAtMost, IsOneMore, IsOneOf};
