@@ -32,11 +32,14 @@ read_plain (answer.NoRoom f l n) x = absurd x
 read_plain answer.Worn x = absurd x
 read_plain r x = refl
 
+pub pins_same : (h : ℕ) (a b : Holding Slate) (r : Reply) → ReadsByPin h a r b → b.far ≡ a.far
+pins_same h a b r x = ap (λ (z : Holding Slate). z.far) x.0
+
 pins_plain : (h : ℕ) (a b : Holding Slate) (r : Reply) → ReadsByPin h a r b
     → (b.far ≡ a.far) × IsPlain r
-pins_plain h a b r x = (ap (λ (z : Holding Slate). z.far) x.0, read_plain r x.1)
+pins_plain h a b r x = (pins_same h a b r x, read_plain r x.1)
 
-lacks_same : (h : ℕ) (a b : Holding Slate) → PinLacks h a b → b.far ≡ a.far
+pub lacks_same : (h : ℕ) (a b : Holding Slate) → PinLacks h a b → b.far ≡ a.far
 lacks_same h a b x = ap (λ (z : Holding Slate). z.far) x
 
 -- what it leaves, by its job

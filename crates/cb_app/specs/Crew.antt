@@ -130,7 +130,8 @@ pub record IsTaskReady (s : Shared) (lines : List Line) (names : List Named) (t 
 -- no version falls from the answers given before to these, or among these
 abbrev pub NeverFall : List Answer → List Answer → Type 0
 NeverFall given answers =
-    AllByRecursion (λ c. AllByRecursion (NeverFalls c) (calls_behind given answers)) (calls_of given)
+    AllByRecursion (λ c. AllByRecursion (NeverFalls c) (calls_behind given answers))
+        (calls_of given)
     × Rising (calls_behind given answers)
 
 -- what the answers told of versions stands in the record

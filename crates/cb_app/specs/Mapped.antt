@@ -27,7 +27,8 @@ pub record HasTurn (v : View) (asked : Job → Type 0) (reply : Reply) : Type 0 
   pub told : turn.reply ≡ Some reply
 
 -- Why a command is refused that finds the list and the map so: no object is left to be made, and
--- it needs one; or there is no room, and as many objects as frames were made; or the turns are worn.
+-- it needs one; or there is no room, and as many objects as frames were made; or the turns are
+-- worn.
 abbrev pub IsCause : Config → View → WorldState → Plain → FarCommand → Reply → Type 0
 IsCause c v w s a (Full n) =
     (n ≡ c.handles) × (needs_object s a ≡ true) × (objects s ≡ c.handles)

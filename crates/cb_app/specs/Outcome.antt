@@ -19,28 +19,32 @@ use Rattle.cb_app.specs.Modes.{Yields, Refuses, Accepts}
 use Rattle.cb_app.specs.Scripts.{IsSummed}
 
 -- The words name a command, and this is what it yields for the bytes that were taken.
-pub record IsDone (words : List (String Global)) (before after : Option (List ℕ)) (old new : Ending) (text : List ℕ) : Type 0 where
+pub record IsDone (words : List (String Global)) (before after : Option (List ℕ)) (old new : Ending)
+    (text : List ℕ) : Type 0 where
   pub command : Command
   pub words_are : Name words command
   pub bytes : List ℕ
   pub taken : AreBytesTaken before after bytes
   pub yields : Yields command bytes old new text
 
--- The words ask for a drawn script, whose lines are answered, and this is the summary of the answers.
--- Nothing was taken.
-pub record IsDrawn (words : List (String Global)) (before after : Option (List ℕ)) (new : Ending) (text : List ℕ) : Type 0 where
+-- The words ask for a drawn script, whose lines are answered, and this is the summary of the
+-- answers. Nothing was taken.
+pub record IsDrawn (words : List (String Global)) (before after : Option (List ℕ)) (new : Ending)
+    (text : List ℕ) : Type 0 where
   pub plan : Plan
   pub words_are : AskFor words plan
   pub nothing_taken : after ≡ before
   pub summed : IsSummed plan new text
 
 -- The words ask for nothing, and nothing was taken.
-pub record AreWordsRefused (words : List (String Global)) (before after : Option (List ℕ)) : Type 0 where
+pub record AreWordsRefused (words : List (String Global)) (before after : Option (List ℕ))
+    : Type 0 where
   pub words_are_not : NameNone words
   pub nothing_taken : after ≡ before
 
 -- The words name a command, and it refuses the bytes that were taken, by this text.
-pub record IsScriptRefused (words : List (String Global)) (before after : Option (List ℕ)) (text : List ℕ) : Type 0 where
+pub record IsScriptRefused (words : List (String Global)) (before after : Option (List ℕ))
+    (text : List ℕ) : Type 0 where
   pub command : Command
   pub words_are : Name words command
   pub bytes : List ℕ
@@ -48,7 +52,8 @@ pub record IsScriptRefused (words : List (String Global)) (before after : Option
   pub refused : Refuses command bytes text
 
 -- The text that is due, and the ending with it. `old` and `new` are the ending before and after.
-pub data IsDue (words : List (String Global)) (before after : Option (List ℕ)) (old new : Ending) (text : List ℕ) : Type 0 where
+pub data IsDue (words : List (String Global)) (before after : Option (List ℕ)) (old new : Ending)
+    (text : List ℕ) : Type 0 where
   WhereDone : IsDone words before after old new text → IsDue words before after old new text
   WhereDrawn : IsDrawn words before after new text → IsDue words before after old new text
   WhereWordsRefused : AreWordsRefused words before after → new ≡ old → text ≡ words_refused
@@ -64,15 +69,15 @@ RefusesScript words before after held_before held_after =
     (text : List ℕ) × IsScriptRefused words before after text × Appends held_before held_after text
 
 -- The bytes taken are done with, and the text that is due is put.
-abbrev pub TellsScript : List (String Global) → (before after held_before held_after : Option (List ℕ))
-    → (old new : Ending)
+abbrev pub TellsScript : List (String Global)
+    → (before after held_before held_after : Option (List ℕ)) → (old new : Ending)
     → Type 0
 TellsScript words before after held_before held_after old new =
     (text : List ℕ) × IsDone words before after old new text × Appends held_before held_after text
 
 -- A script was drawn, and the summary that is due is put.
-abbrev pub TellsSummary : List (String Global) → (before after held_before held_after : Option (List ℕ))
-    → (new : Ending)
+abbrev pub TellsSummary : List (String Global)
+    → (before after held_before held_after : Option (List ℕ)) → (new : Ending)
     → Type 0
 TellsSummary words before after held_before held_after new =
     (text : List ℕ) × IsDrawn words before after new text × Appends held_before held_after text
@@ -112,7 +117,8 @@ RoseOnWrite _ before after = after ≡ before
 
 -- Of an input that the source tells, what the command accepts is done with, and what it refuses is
 -- refused, unless the run fails.
-pub record IsDecided (command : Command) (before : Option (List ℕ)) (outcome : Result Due Failure) : Type 0 where
+pub record IsDecided (command : Command) (before : Option (List ℕ)) (outcome : Result Due Failure)
+    : Type 0 where
   pub accepted : (all : List ℕ) → before ≡ Some all → Accepts command (taken_of all)
       → (outcome ≡ Ok Done) ⊎ IsErr outcome
   pub refused : (all text : List ℕ) → before ≡ Some all → Refuses command (taken_of all) text

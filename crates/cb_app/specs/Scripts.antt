@@ -36,7 +36,8 @@ pub record IsAnswered (side : Side) (script : Script) (end : Ending) : Type 0 wh
   pub world : WorldState
   pub left : end.world ≡ Some world
   pub leads : LinesLead side [] (empty_world script.config) end.answers world
-  -- each world on that way is sound; and the lines have no other answers, and lead to no other world
+  -- each world on that way is sound; and the lines have no other answers, and lead to no other
+  -- world
   pub along : LinesLeadSoundly side [] (empty_world script.config) end.answers world
   pub fixes : AreOnlyAnswers side (empty_world script.config) end.answers world
   -- which is sound, and holds at each handle what the plain map has
@@ -84,4 +85,5 @@ pub record IsSummed (plan : Plan) (end : Ending) (text : List ℕ) : Type 0 wher
 
 -- the text tells a line and a reason for which this holds
 abbrev pub TellsFault : (ℕ → Reason → Type 0) → List ℕ → Type 0
-TellsFault holds text = (line : ℕ) × (reason : Reason) × holds line reason × (text ≡ fault_text line reason)
+TellsFault holds text = (line : ℕ) × (reason : Reason) × holds line reason
+    × (text ≡ fault_text line reason)

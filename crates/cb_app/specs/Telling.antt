@@ -45,8 +45,8 @@ abbrev pub TellsLost : Config → List Loss → Reply → Type 0
 TellsLost c losses (Unavailable set lost) = AreTooMany c.r losses lost
 TellsLost c losses reply = Unit {0}
 
--- where there is no room, so many frames there are, and for a set too few spans are loose or too few
--- nodes have room; an eviction tells which of the two it was
+-- where there is no room, so many frames there are, and for a set too few spans are loose or too
+-- few nodes have room; an eviction tells which of the two it was
 abbrev pub TellsRoom : Config → Reply → Type 0
 TellsRoom c (NoRoom frames loose nodes) =
     (frames ≡ c.frames) × ((loose < c.k) ⊎ (nodes < c.k + c.r))

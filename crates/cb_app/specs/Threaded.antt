@@ -51,16 +51,16 @@ pub record IsRun (script : Script) (end : ThreadsEnd) : Type 0 where
   -- and what they say beside the record is so: of the handles that there are, of lengths, of names
   pub upheld : AllByRecursion (Upholds 1 script.config.handles (calls_of end.answers)
       (sealed_record end.seal)) (calls_of end.answers)
-  -- so they are legal: those of a map whose operations took place one at a time, and to no lane, nor
-  -- from lane 0 to another, did a version fall
+  -- so they are legal: those of a map whose operations took place one at a time, and to no lane,
+  -- nor from lane 0 to another, did a version fall
   pub legal : IsLegal 1 script.config.handles end.answers
   -- and the world holds of each object the last entry of its history in them, or it is gone
   pub holds : HasHistoryEnds end.answers end.world
   -- what lines are answered follows from the scopes of their lanes: pin, peek, unpin and leave
   -- lines, and where a write, a free or a filter is held up by pins
   pub scopes : KeepScopes [] end.answers
-  -- and a lane's own lines are answered by these, by the plain map and by its scope alone, up to the
-  -- first one that is told of a want of room or of a loss
+  -- and a lane's own lines are answered by these, by the plain map and by its scope alone, up to
+  -- the first one that is told of a want of room or of a loss
   pub until : (lane : ℕ) → HasOwnLines script.lines lane
       → KeepAloneUntil script.lines lane fresh_lane end.answers
   -- the crashes that took place

@@ -178,8 +178,9 @@ fn deal_lane(
 fn deal_workers(shared: &Shared, pass: &mut Pass, tasks: &mut Vec<Task>) -> Result<(), NoMemory>
     requires of { IsPassOf shared.now pass.old }
     requires share { 49 ≤ (record_of pass.old).share }
-    ensures dealt { (lines : List Line) (v : View) → IsDealt shared.now lines 15 15 v tasks.old.items
-        pass.old → IfOk result (λ _. IsDealt shared.now lines 15 19 v tasks.new.items pass.new) }
+    ensures dealt { (lines : List Line) (v : View)
+        → IsDealt shared.now lines 15 15 v tasks.old.items pass.old
+        → IfOk result (λ _. IsDealt shared.now lines 15 19 v tasks.new.items pass.new) }
     ensures work { IfOk result (λ _. (w : Worker') → shared.now.config.turns
         ≤ total (turns_due w) tasks.new.items) }
 {

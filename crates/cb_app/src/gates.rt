@@ -1,5 +1,5 @@
-//! Tests of threads, by gates that hold a lane or note what they are told. A program can't be called
-//! from a crate of tests, so they stand here.
+//! Tests of threads, by gates that hold a lane or note what they are told. A program can't be
+//! called from a crate of tests, so they stand here.
 
 use crate::threads::run_threads;
 use cb_cli::answers_text;
@@ -59,7 +59,8 @@ impl Gate for HoldingGate {
     }
 }
 
-/// Lanes that leave the one object alone, beside workers, one of which has begun a batch at its end.
+/// Lanes that leave the one object alone, beside workers, one of which has begun a batch at its
+/// end.
 const NOTED: &[u8] = b"carbink 1 k=1 r=1 nodes=2 frames=8 room=64 handles=16 turns=2\n0 make s 00\n\
 1 leave\n2 leave\n1 leave\n15 leave\n";
 
