@@ -131,7 +131,7 @@ pub record IsTaskReady (s : Shared) (lines : List Line) (names : List Named) (t 
 abbrev pub NeverFall : List Answer → List Answer → Type 0
 NeverFall given answers =
     AllByRecursion (λ c. AllByRecursion (NeverFalls c) (calls_behind given answers))
-        (calls_of given)
+    (calls_of given)
     × Rising (calls_behind given answers)
 
 -- what the answers told of versions stands in the record
