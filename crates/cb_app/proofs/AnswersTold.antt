@@ -22,7 +22,7 @@ use Rattle.cb_script.specs.Form.{FitsMode}
 use Rattle.cb_script.specs.Phrase.{phrase_of}
 use Rattle.cb_script.specs.declared.script.Mode.TheVariants as modes
 use Rattle.cb_world.specs.Codes.{IsConfiguredCode}
-use Rattle.cb_world.specs.declared.event.Event.{Event}
+use Rattle.cb_world.specs.declared.access.Access.{Access}
 use Rattle.cb_world.specs.FarState.{FarState}
 use Rattle.cb_world.specs.Played.{played}
 use Rattle.cb_evict.specs.EvictRule.{EvictRule, HasBoth, HasFewNodes, HasFewSpans}
@@ -184,7 +184,7 @@ room_turn d (Some h) (line.Free name) f l n x = find_for _ (Some h) _ d.turns x
 room_turn d (Some h) q f l n x = find_for _ (Some h) _ d.turns x
 
 -- ---- the turn of an eviction
-evict_few : (c : Config) (far new : FarState) (r : Reply) (es : List Event)
+evict_few : (c : Config) (far new : FarState) (r : Reply) (es : List Access)
     → IsConfiguredCode c far.code → EvictRule far new r es → TellsRoom c r
 evict_few c far new r es code a = by a.answered
   where

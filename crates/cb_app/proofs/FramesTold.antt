@@ -14,7 +14,7 @@ use Rattle.cb_types.specs.declared.order.Kept.{Kept}
 use Rattle.cb_types.specs.declared.order.Kept.TheVariants.{Decode, Encode}
 use Rattle.cb_types.specs.declared.reply.Reply.{Reply}
 use Rattle.cb_types.specs.declared.reply.Reply.TheVariants as answer
-use Rattle.cb_world.specs.declared.event.Event.{Event}
+use Rattle.cb_world.specs.declared.access.Access.{Access}
 use Rattle.cb_world.specs.declared.shown.Shown.{Shown}
 use Rattle.cb_world.specs.FarState.{FarState}
 use Rattle.cb_mutate.specs.MakeRule.{MakeRule}
@@ -65,12 +65,12 @@ other_unless : (r : Reply) (far : FarState) → IsOther r → Unless r far
 other_unless r far other is = absurd (true≢false (sym is ∙ other))
 
 -- ---- one operation
-bring_other : {rows : SetState → ℕ} (id p : ℕ) (far new : FarState) (r : Reply) (es : List Event)
+bring_other : {rows : SetState → ℕ} (id p : ℕ) (far new : FarState) (r : Reply) (es : List Access)
     → BringsRule rows id p far new r es → IsOther r
 bring_other id p far new r es x = subst IsOther (sym x.reply)
     (by_answer IsOther far id x.set (λ broken. refl) (λ fine free. refl) (λ f fine free. refl))
 
-no_frame : {rows : SetState → ℕ} (id p : ℕ) (far new : FarState) (es : List Event)
+no_frame : {rows : SetState → ℕ} (id p : ℕ) (far new : FarState) (es : List Access)
     (x : BringsRule rows id p far new answer.NoFrame es) → least_run far.frames x.set.pages ≡ None
 no_frame id p far new es x = by_answer
     (λ (q : Reply). is_none q ≡ true → least_run far.frames x.set.pages ≡ None) far id x.set
@@ -82,13 +82,13 @@ no_frame id p far new es x = by_answer
     is_none r = false
 
 -- each set has one page
-no_span : {rows : SetState → ℕ} (id p : ℕ) (far new : FarState) (es : List Event) → IsNarrow far
+no_span : {rows : SetState → ℕ} (id p : ℕ) (far new : FarState) (es : List Access) → IsNarrow far
     → BringsRule rows id p far new answer.NoFrame es → IsShort far
 no_span id p far new es narrow x = subst (λ (pages : ℕ). least_run far.frames pages ≡ None)
     (narrow.sets id x.set x.there) (no_frame id p far new es x)
 
 -- so where a row that was made is landed
-landed_other : (order : Option Kept) (far new : FarState) (r : Reply) (es : List Event)
+landed_other : (order : Option Kept) (far new : FarState) (r : Reply) (es : List Access)
     → LandRule order far new r es → IsOther r
 landed_other None far new r es x = subst IsOther (sym x.reply) refl
 landed_other (Some (Encode o)) far new r es x = subst IsOther (sym x.reply) refl
@@ -96,7 +96,7 @@ landed_other (Some (Decode o)) far new r es (inl x) = subst IsOther (sym x.reply
 landed_other (Some (Decode o)) far new r es (inr x) =
     bring_other o.set o.position far new r es x.brings
 
-no_place : (order : Option Kept) (far new : FarState) (es : List Event) → IsNarrow far
+no_place : (order : Option Kept) (far new : FarState) (es : List Access) → IsNarrow far
     → LandRule order far new answer.NoFrame es → IsShort far
 no_place None far new es narrow x = absurd (let e = x.reply in cc)
 no_place (Some (Encode o)) far new es narrow x = absurd (let e = x.reply in cc)
@@ -114,7 +114,7 @@ no_run bytes class far short of none = subst (λ (pages : ℕ). least_run far.fr
     by (inl long) = absurd (short long)
     by (inr few) = few
 
-make_other : (handles : ℕ) (bytes : List ℕ) (far new : FarState) (r : Reply) (es : List Event)
+make_other : (handles : ℕ) (bytes : List ℕ) (far new : FarState) (r : Reply) (es : List Access)
     → MakeRule handles bytes far new r es → IsOther r
 make_other handles bytes far new (answer.Full n) es x = refl
 make_other handles bytes far new answer.NoFrame es x = refl
@@ -207,7 +207,7 @@ module _ (c : Config) where
   )
 
   -- ---- a turn
-  module _ (s : Shown) (es : List Event) (took gave : FarState) (frames loose nodes : ℕ) where
+  module _ (s : Shown) (es : List Access) (took gave : FarState) (frames loose nodes : ℕ) where
     abbrev DidSo : Job → Type 0
     DidSo j = DidAs c j (Some (answer.NoRoom frames loose nodes)) s es took gave
 

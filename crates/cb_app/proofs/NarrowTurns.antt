@@ -5,7 +5,7 @@ use Rattle.cb_types.specs.declared.config.Config.{Config}
 use Rattle.cb_types.specs.declared.job.Job.{Job}
 use Rattle.cb_types.specs.declared.order.Kept.{Kept}
 use Rattle.cb_types.specs.declared.reply.Reply.{Reply}
-use Rattle.cb_world.specs.declared.event.Event.{Event}
+use Rattle.cb_world.specs.declared.access.Access.{Access}
 use Rattle.cb_world.specs.declared.shown.Shown.{Shown}
 use Rattle.cb_world.specs.FarState.{FarState}
 use Rattle.cb_world.specs.Played.{played}
@@ -22,7 +22,7 @@ use Rattle.cb_app.proofs.TurnHistory.{at_gave, at_last, at_turn, lacks_same, pin
 
 -- one turn
 did_narrow : (c : Config) (j : Job) (order : Option Kept) (reply : Option Reply) (keeps : Option Kept)
-    (start : Shown) (es : List Event) (took gave : FarState) → IsConfigured c took
+    (start : Shown) (es : List Access) (took gave : FarState) → IsConfigured c took
     → (IsLongMadeIf j reply → ⊥) → DidBy c j order reply keeps start es took gave → IsNarrow took
     → IsNarrow gave
 did_narrow c j order (Some r) keeps start es took gave is short (inl (did, same)) =

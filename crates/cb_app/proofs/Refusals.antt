@@ -10,7 +10,7 @@ use Rattle.cb_types.specs.declared.reply.Reply.{Reply}
 use Rattle.cb_types.specs.declared.reply.Reply.TheVariants as answer
 use Rattle.cb_types.specs.declared.request.Request.TheVariants as line
 use Rattle.cb_types.specs.Table.{IsReplyOf}
-use Rattle.cb_world.specs.declared.event.Event.{Event}
+use Rattle.cb_world.specs.declared.access.Access.{Access}
 use Rattle.cb_world.specs.declared.shown.Shown.{Shown}
 use Rattle.cb_world.specs.FarState.{FarState}
 use Rattle.cb_core.specs.Jobs.{NeedsNoOrder}
@@ -73,7 +73,7 @@ here_again again r x is = by (subst (IsAnswer again) is x)
     by (inr y) = y
 
 -- so of a turn that makes an object, or is on one
-module _ (c : Config) (start : Shown) (es : List Event) (took gave : FarState) (v : View) where
+module _ (c : Config) (start : Shown) (es : List Access) (took gave : FarState) (v : View) where
   pub turn_want : (again : Bool) (j : Job) (r : Reply) → IsMake j ⊎ IsOnObject v j
       → IsAnswerTo again j r → (IsOutOfPlace j r → ⊥)
       → (NeedsNoOrder j → DidAs c j (Some r) start es took gave) → Want j r

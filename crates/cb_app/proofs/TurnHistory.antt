@@ -10,7 +10,7 @@ use Rattle.cb_types.specs.declared.reply.Reply.{Reply}
 use Rattle.cb_types.specs.declared.reply.Reply.TheVariants as answer
 use Rattle.cb_world.specs.Codes.{HaveCodes, IsConfiguredCode}
 use Rattle.cb_world.proofs.Laws.{empty_codes, have_codes}
-use Rattle.cb_world.specs.declared.event.Event.{Event}
+use Rattle.cb_world.specs.declared.access.Access.{Access}
 use Rattle.cb_world.specs.declared.shown.Shown.{Shown}
 use Rattle.cb_world.specs.Empty.{empty_far}
 use Rattle.cb_world.specs.FarState.{FarState}
@@ -44,7 +44,7 @@ lacks_same h a b x = ap (λ (z : Holding Slate). z.far) x
 
 -- what it leaves, by its job
 did_leaves : (c : Config) (j : Job) (order : Option Kept) (reply : Option Reply)
-    (keeps : Option Kept) (start : Shown) (es : List Event) (took gave : FarState)
+    (keeps : Option Kept) (start : Shown) (es : List Access) (took gave : FarState)
     → DidBy c j order reply keeps start es took gave → LeavesFar c j took gave reply
 did_leaves c j order (Some r) keeps start es took gave (inl (did, stays)) =
     turned_leaves slate_run slate_shows c ReadsByPin pins_plain PinLacks lacks_same j

@@ -12,8 +12,8 @@ use Rattle.cb_types.specs.declared.job.Job.{Job}
 use Rattle.cb_types.specs.declared.job.Job.TheVariants as job
 use Rattle.cb_types.specs.declared.reply.Reply.{Reply}
 use Rattle.cb_types.specs.declared.reply.Reply.TheVariants as answer
-use Rattle.cb_world.specs.declared.event.Event.{Event}
-use Rattle.cb_world.specs.declared.event.Event.TheVariants.{Looked, Claimed, Told, Loaded, Stored, Stamped, Settled}
+use Rattle.cb_world.specs.declared.access.Access.{Access}
+use Rattle.cb_world.specs.declared.access.Access.TheVariants.{Looked, Claimed, Told, Loaded, Stored, Stamped, Settled}
 use Rattle.cb_world.specs.declared.object.Object.{Object}
 use Rattle.cb_world.specs.declared.object.Object.TheVariants as is
 use Rattle.cb_world.specs.declared.shown.Shown.{Shown}
@@ -40,12 +40,12 @@ abbrev Hold : Type 0
 Hold = Holding Slate
 
 -- ---- what was found and told of an object before it was changed
-no_look : (h w : ℕ) (es : List Event) → NoLook h es → IsFound h w es → ⊥
+no_look : (h w : ℕ) (es : List Access) → NoLook h es → IsFound h w es → ⊥
 no_look h w [] none found = found
 no_look h w (e ∷ es) none (inl later) = no_look h w es none.1 later
 no_look h w (e ∷ es) none (inr last) = none.0 w last.0
 
-no_tell : (h n : ℕ) (es : List Event) → NoTell es → IsTold h n es → ⊥
+no_tell : (h n : ℕ) (es : List Access) → NoTell es → IsTold h n es → ⊥
 no_tell h n [] none told = told
 no_tell h n (Told k u ∷ es) none told = none
 no_tell h n (Looked k w ∷ es) none told = no_tell h n es none told
@@ -56,10 +56,10 @@ no_tell h n (Stamped k v ∷ es) none told = no_tell h n es none told
 no_tell h n (Settled k w ∷ es) none told = no_tell h n es none told
 
 -- each claim found a word that is Here
-abbrev pub ClaimsFoundHere : List Event → Type 0
+abbrev pub ClaimsFoundHere : List Access → Type 0
 ClaimsFoundHere es = (h w v : ℕ) (words : List ℕ) → Has (Claimed h w v words) es → state_of w ≡ state.Here
 
-claims_behind : (e : Event) (es : List Event) → ClaimsFoundHere (e ∷ es) → ClaimsFoundHere es
+claims_behind : (e : Access) (es : List Access) → ClaimsFoundHere (e ∷ es) → ClaimsFoundHere es
 claims_behind e es here h w v words has = here h w v words (inr has)
 
 -- the object is far, with this version
@@ -87,16 +87,16 @@ fits_far (is.Claimed len place v words) w f far =
     absurd (not_far state.Moving refl (sym far ∙ f.4))
 
 -- another object than the one that was claimed or settled is as it was
-else_far : (s : Shown) (e : Event) (h : ℕ) → object_at (after e s) h ≡ object_at s h
+else_far : (s : Shown) (e : Access) (h : ℕ) → object_at (after e s) h ≡ object_at s h
     → IsAwayAt (after e s) h → IsAwayAt s h
 else_far s e h same far = (far.0, far.1, far.2, sym same ∙ far.3)
 
-still_far : (s : Shown) (e : Event) (h : ℕ) → object_at (after e s) h ≡ object_at s h
+still_far : (s : Shown) (e : Access) (h : ℕ) → object_at (after e s) h ≡ object_at s h
     → IsAwayAt s h → IsAwayAt (after e s) h
 still_far s e h same far = (far.0, far.1, far.2, same ∙ far.3)
 
 -- an object whose word was found to be that of a far one was far before
-far_found : (s : Shown) (es : List Event) (h w : ℕ) → Agree s es → LooksFirst es → ClaimsFoundHere es
+far_found : (s : Shown) (es : List Access) (h w : ℕ) → Agree s es → LooksFirst es → ClaimsFoundHere es
     → IsFound h w es → state_of w ≡ state.Far → IsAwayAt s h
 far_found s [] h w agree first here found far = absurd found
 far_found s (Looked k x ∷ es) h w agree first here (inl later) far =
@@ -137,7 +137,7 @@ far_here : (len v place n : ℕ) (words : List ℕ) → is.Far len v words ≡ i
 far_here len v place n words e = absurd cc
 
 -- the version word that was told of it was known
-told_far : (s : Shown) (es : List Event) (h n : ℕ) → Agree s es → SettlesLast es → IsAwayAt s h
+told_far : (s : Shown) (es : List Access) (h n : ℕ) → Agree s es → SettlesLast es → IsAwayAt s h
     → IsTold h n es → n ≡ version_at s h
 told_far s [] h n agree last far told = absurd told
 told_far s (Looked k x ∷ es) h n agree last far told =
@@ -163,7 +163,7 @@ told_far s (Settled k x ∷ es) h n agree last far told = absurd (no_tell h n es
 
 -- ---- the object has its last version
 -- a claim among the events told it, or the object was far with it
-abbrev pub HadLast : ℕ → Shown → List Event → Type 0
+abbrev pub HadLast : ℕ → Shown → List Access → Type 0
 HadLast h start es = ((w : ℕ) × (words : List ℕ) × Has (Claimed h w (2 ^ 64 - 1) words) es)
     ⊎ ((len : ℕ) × (words : List ℕ) × (object_at start h ≡ is.Far len (2 ^ 64 - 1) words))
 
@@ -174,7 +174,7 @@ next_worn : (n : ℕ) → NextVersion n answer.Worn → n ≡ 2 ^ 64 - 1
 next_worn n (inl x) = x.0
 next_worn n (inr x) = absurd (worn_is (answer.Version (n + 1)) refl x.1)
 
-claim_of : (h v : ℕ) (words : List ℕ) (es : List Event) → IsTaken h v words es
+claim_of : (h v : ℕ) (words : List ℕ) (es : List Access) → IsTaken h v words es
     → (w : ℕ) × Has (Claimed h w v words) es
 claim_of h v words [] taken = absurd taken
 claim_of h v words (Claimed k w u xs ∷ es) (inl later) =
@@ -189,17 +189,17 @@ claim_of h v words (Stamped k u ∷ es) taken = let z = claim_of h v words es ta
 claim_of h v words (Settled k w ∷ es) taken = let z = claim_of h v words es taken in (z.0, inr z.1)
 
 -- a claim that told the last version, among more events
-last_claimed : (h n : ℕ) (words : List ℕ) (start : Shown) (before es all : List Event)
+last_claimed : (h n : ℕ) (words : List ℕ) (start : Shown) (before es all : List Access)
     → all ≡ before ++ es → n ≡ 2 ^ 64 - 1 → IsTaken h n words es → HadLast h start all
 last_claimed h n words start before es all whole is taken =
     let z = claim_of h n words es taken in inl (
       z.0,
       words,
-      subst (λ (l : List Event). Has (Claimed h z.0 (2 ^ 64 - 1) words) l) (sym whole)
+      subst (λ (l : List Access). Has (Claimed h z.0 (2 ^ 64 - 1) words) l) (sym whole)
           (has_right _ before es (subst (λ (v : ℕ). Has (Claimed h z.0 v words) es) is z.1)),
     )
 
-not_absent : (q : State) (h : ℕ) (es : List Event) → AbsentAs q h es answer.Worn → ⊥
+not_absent : (q : State) (h : ℕ) (es : List Access) → AbsentAs q h es answer.Worn → ⊥
 not_absent q h es x = worn_is answer.Worn (worn_off answer.Worn (absent q h es answer.Worn x)) refl
 
 write_worn : (h at : ℕ) (bytes : List ℕ) (start : Shown) (a b : Hold)
@@ -325,7 +325,7 @@ free_worn h a b sound here x = by (state_of x.rule.reply.word) refl x.rule.reply
     by state.Moving far y = absurd (not_absent state.Moving h x.events y)
 
 -- ---- the turn
-module _ (c : Config) (start : Shown) (es : List Event) (took gave : FarState)
+module _ (c : Config) (start : Shown) (es : List Access) (took gave : FarState)
     (sound : Sound start took) (here : ClaimsFoundHere es) where
   counted_sound : (j : Job) → Sound start (counted took j)
   counted_sound j = let far : FarState = counted took j in

@@ -19,7 +19,7 @@ use Rattle.cb_world.specs.JoinSteps.{with_step}
 use Rattle.cb_world.specs.Pairs.{with_no_pair}
 use Rattle.cb_world.specs.Sets.{set_in}
 use Rattle.cb_world.proofs.Laws.{node, row}
-use Rattle.cb_compact.specs.declared.looking.Look.TheVariants as look
+use Rattle.cb_compact.specs.declared.looking.PairStanding.TheVariants as look
 use Rattle.cb_compact.specs.Looking.{Looks}
 use Rattle.cb_compact.specs.MergeStep.{Merges, MergesOn}
 use Rattle.cb_compact.specs.Merging.{IsReadyToMerge}

@@ -3,12 +3,12 @@ use Rattle.std.specs.Prelude.{◌≡◌, None, Some}
 use Rattle.cb_set.specs.SetState.{SetState}
 use Rattle.cb_world.specs.Joining.{JoiningState}
 use Rattle.cb_world.specs.FarState.{FarState}
-use Rattle.cb_compact.specs.declared.looking.Look.{Look}
-use Rattle.cb_compact.specs.declared.looking.Look.TheVariants as look
+use Rattle.cb_compact.specs.declared.looking.PairStanding.{PairStanding}
+use Rattle.cb_compact.specs.declared.looking.PairStanding.TheVariants as look
 use Rattle.cb_compact.specs.PartStep.{IsChangedSet, IsFreshPair}
 
 -- no pair is joining, a set of it has changed, or both stand as they did at the begin
-abbrev pub Looks : FarState → Look → Type 0
+abbrev pub Looks : FarState → PairStanding → Type 0
 Looks far look.NoPair = far.joining ≡ None
 Looks far (look.Changed id) =
     (pair : JoiningState) × (far.joining ≡ Some pair) × IsChangedSet far pair id

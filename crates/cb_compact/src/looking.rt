@@ -10,7 +10,7 @@ use cb_world::Far;
 
 /// How the joining pair stands.
 #[derive(Clone, Copy)]
-pub(crate) enum Look {
+pub(crate) enum PairStanding {
     /// No pair is joining.
     NoPair,
     /// The set of this number, of the pair, has changed since the begin.
@@ -56,18 +56,18 @@ fn stands(far: &Far, id: u64, shards: &[Shard]) -> bool
 
 /// How the joining pair stands: where a set of it has changed since the begin, the first one that
 /// has. Looks at the shards of both sets.
-pub(crate) fn how_it_stands(far: &Far) -> Look
+pub(crate) fn how_it_stands(far: &Far) -> PairStanding
     requires sound { (s : Shown) × AwaySound s far.now }
     ensures { Looks far.now result }
 {
     let Some(pair) = &far.joining else {
-        return Look::NoPair;
+        return PairStanding::NoPair;
     };
     if !stands(far, pair.a, &pair.shards_a) {
-        return Look::Changed { id: pair.a };
+        return PairStanding::Changed { id: pair.a };
     }
     if !stands(far, pair.b, &pair.shards_b) {
-        return Look::Changed { id: pair.b };
+        return PairStanding::Changed { id: pair.b };
     }
-    Look::Fresh
+    PairStanding::Fresh
 }

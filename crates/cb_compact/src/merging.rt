@@ -16,7 +16,7 @@ ghost use Rattle.cb_compact.specs.MergeStep.{IsMerged, MergeStep, Merges, merged
 ghost use Rattle.cb_compact.specs.PatchStep.{undone};
 
 use crate::compaction::Compaction;
-use crate::looking::{Look, how_it_stands};
+use crate::looking::{PairStanding, how_it_stands};
 use crate::rehoming::rehome;
 use crate::stepping::next_position;
 use crate::steps::undone_steps;
@@ -24,7 +24,7 @@ use cb_member::Shard;
 use cb_node::Nodes;
 use cb_set::SpanSet;
 use cb_types::{NoMemory, Positions, Reply, SetId};
-use cb_world::{Desk, Far, Joining, KeptSet, Sets};
+use cb_world::{Desk, Far, Joining, KeptSet, Sets, drop_rows, next_number};
 use std::alloc::Global;
 
 /// The shards of the merged set: the new one at a position whose step was done, and else the old
@@ -148,16 +148,6 @@ fn count_live(set: &SpanSet, taken: &[u32]) -> u32
     count
 }
 
-/// Drops the rows of these shards.
-fn drop_rows(nodes: &mut Nodes, shards: &[Shard])
-    requires there { AreThere nodes.old shards.now }
-    ensures dropped { nodes.new ≡ all_dropped nodes.old shards.now }
-{
-    for shard in shards {
-        nodes.drop_row(shard.node, shard.key);
-    }
-}
-
 /// Drops the row of a shard beside which a new row stands.
 fn drop_replaced_row(nodes: &mut Nodes, step: Option<Shard>, old: Shard)
     requires there { old.node.n < length nodes.old.nodes }
@@ -267,13 +257,6 @@ fn replace_sets(far: &mut Far, id: u64)
     end_pair(far);
 }
 
-/// The number of the next set.
-fn next_set(far: &Far) -> u64
-    ensures { result ≡ far.now.counts.sets }
-{
-    far.counts.sets
-}
-
 impl Compaction {
     /// Makes one set of the joining pair, whose steps are all done.
     pub fn merge(far: &mut Far) -> Result<Reply, NoMemory>
@@ -285,7 +268,7 @@ impl Compaction {
         ensures error { OnErr result (far.new ≡ far.old) }
     {
         let moved = moved(far);
-        let id = next_set(far);
+        let id = next_number(far);
         keep_merged(far, id)?;
         replace_sets(far, id);
         Ok(Reply::Merged {
@@ -346,13 +329,13 @@ pub fn compact_commit<D: Desk>(desk: &mut D, far: &mut Far) -> Result<Reply, NoM
     ensures given { far.new.nodes.given ≡ far.old.nodes.given }
 {
     match how_it_stands(far) {
-        Look::NoPair => Ok(Reply::NoJoin),
-        Look::Changed { id } => {
+        PairStanding::NoPair => Ok(Reply::NoJoin),
+        PairStanding::Changed { id } => {
             Compaction::give_up(far);
             Ok(Reply::Changed {
                 set: SetId { n: id },
             })
         }
-        Look::Fresh => merge_on(far),
+        PairStanding::Fresh => merge_on(far),
     }
 }

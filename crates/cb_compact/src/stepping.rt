@@ -13,7 +13,7 @@ ghost use Rattle.cb_compact.specs.PatchStep.{AreDone, IsNext, PatchStep, TakesSt
 
 use crate::compaction::Compaction;
 use crate::deltas::put_merged;
-use crate::looking::{Look, how_it_stands};
+use crate::looking::{PairStanding, how_it_stands};
 use crate::steps::next_step;
 use cb_member::{NodeId, Shard};
 use cb_node::PutAnswer;
@@ -120,13 +120,13 @@ pub fn compact_step<D: Desk>(desk: &mut D, far: &mut Far) -> Result<Reply, NoMem
     ensures given { far.new.nodes.given ≡ far.old.nodes.given }
 {
     match how_it_stands(far) {
-        Look::NoPair => Ok(Reply::NoJoin),
-        Look::Changed { id } => {
+        PairStanding::NoPair => Ok(Reply::NoJoin),
+        PairStanding::Changed { id } => {
             Compaction::give_up(far);
             Ok(Reply::Changed {
                 set: SetId { n: id },
             })
         }
-        Look::Fresh => step_on(far),
+        PairStanding::Fresh => step_on(far),
     }
 }

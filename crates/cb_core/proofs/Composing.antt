@@ -6,7 +6,7 @@ use Rattle.cb_set.specs.SetState.{SetState}
 use Rattle.cb_types.specs.declared.config.Config.{Config}
 use Rattle.cb_types.specs.declared.reply.Reply.{Reply}
 use Rattle.cb_types.specs.declared.reply.Reply.TheVariants as answer
-use Rattle.cb_world.specs.declared.event.Event.{Event}
+use Rattle.cb_world.specs.declared.access.Access.{Access}
 use Rattle.cb_world.specs.declared.homes.Home.{Home}
 use Rattle.cb_world.specs.declared.shown.Shown.{Shown}
 use Rattle.cb_world.specs.FarState.{FarState}
@@ -28,10 +28,10 @@ use Rattle.cb_core.proofs.PartsFar.{live_home}
 abbrev pub IsSoundShown : (Shown → Type 0) → FarState → Type 0
 IsSoundShown shows far = (s : Shown) × shows s × Sound s far
 
-pub shown_after : (runs : List Event → Type 0) (shows then_shows : Shown → Type 0) (far new : FarState)
-    (rules : List Event → Type 0) (does : List Event → Shown → Shown → Type 0)
+pub shown_after : (runs : List Access → Type 0) (shows then_shows : Shown → Type 0) (far new : FarState)
+    (rules : List Access → Type 0) (does : List Access → Shown → Shown → Type 0)
     → Performs runs (λ s. shows s × Sound s far) rules (λ t. Sound t new) does
-    → ((es : List Event) (s : Shown) → runs es → shows s → then_shows (played es s))
+    → ((es : List Access) (s : Shown) → runs es → shows s → then_shows (played es s))
     → IsSoundShown shows far → IsSoundShown then_shows new
 shown_after runs shows then_shows far new rules does p follows k =
     (played p.events k.0, follows p.events k.0 p.ran k.1, p.sound_after k.0 (k.1, k.2))
@@ -65,7 +65,7 @@ any_err P (Ok q) p = tt
 any_err P (Err e) p = p
 
 -- ---- the reply that it was
-pub makes_as : {D : Type 0} (run : D → List Event → D → Type 0) (shows : D → Shown → Type 0)
+pub makes_as : {D : Type 0} (run : D → List Access → D → Type 0) (shows : D → Shown → Type 0)
     (c d : Config) (bytes : List ℕ) (a b : Holding D) (q r : Reply) → d ≡ c → q ≡ r
     → Makes run shows d bytes a q b → Makes run shows c bytes a r b
 makes_as run shows c d bytes a b q r same is x =
@@ -83,7 +83,7 @@ is_given s far new h home sound at x =
     let z = x set.0 set.1 in (home, set.0, z.0, at, set.1, z.1, z.2)
 
 -- a swap-in that lacks memory, from a sound world
-module _ {D : Type 0} (run : D → List Event → D → Type 0) (shows : D → Shown → Type 0) (h : ℕ)
+module _ {D : Type 0} (run : D → List Access → D → Type 0) (shows : D → Shown → Type 0) (h : ℕ)
     (home : Home) (a b : Holding D) (nothing : (x : D) → run x [] x)
     (k : IsSoundShown (λ s. shows a.desk s) a.far) (at : home_at a.far.homes h ≡ Some home) where
   pub swap_lacks : b.desk ≡ a.desk → ((set : SetState) → set_in a.far.sets home.set ≡ Some set
@@ -96,8 +96,8 @@ module _ {D : Type 0} (run : D → List Event → D → Type 0) (shows : D → S
 
 -- ---- a call on an object wherever it is
 -- a part that leaves the far state as it was
-pub far_kept : (runs : List Event → Type 0) (knows : Shown → Type 0) (rules : List Event → Type 0)
-    (sound : Shown → Type 0) (does : List Event → Shown → Shown → Type 0) (far new : FarState)
+pub far_kept : (runs : List Access → Type 0) (knows : Shown → Type 0) (rules : List Access → Type 0)
+    (sound : Shown → Type 0) (does : List Access → Shown → Shown → Type 0) (far new : FarState)
     → Performs runs knows rules sound does → new ≡ far
     → Performs runs knows (λ es. (new ≡ far) × rules es) sound does
 far_kept runs knows rules sound does far new p same = record {
@@ -110,9 +110,9 @@ far_kept runs knows rules sound does far new p same = record {
   effect = p.effect;
 }
 
-pub far_kept_if : (runs : List Event → Type 0) (knows : Shown → Type 0)
-    (rules : Reply → List Event → Type 0) (sound : Shown → Type 0)
-    (does : Reply → List Event → Shown → Shown → Type 0) (far new : FarState)
+pub far_kept_if : (runs : List Access → Type 0) (knows : Shown → Type 0)
+    (rules : Reply → List Access → Type 0) (sound : Shown → Type 0)
+    (does : Reply → List Access → Shown → Shown → Type 0) (far new : FarState)
     (result : Result Reply NoMemory) → IfOk result (λ r. Performs runs knows (rules r) sound (does r))
     → new ≡ far
     → IfOk result (λ r. Performs runs knows (λ es. (new ≡ far) × rules r es) sound (does r))
@@ -121,13 +121,13 @@ far_kept_if runs knows rules sound does far new result x same =
     (λ r. Performs runs knows (rules r) sound (does r)) result x
     (λ r p. far_kept runs knows (rules r) sound (does r) far new p same)
 
-pub brings_as : {D : Type 0} (run : D → List Event → D → Type 0) (shows : D → Shown → Type 0)
+pub brings_as : {D : Type 0} (run : D → List Access → D → Type 0) (shows : D → Shown → Type 0)
     (c d : Config) (h : ℕ) (a b : Holding D) (r : Reply) → d ≡ c → Brings run shows d h a r b
     → Brings run shows c h a r b
 brings_as run shows c d h a b r same x =
     subst (λ (e : Config). Brings run shows e h a r b) same x
 
-pub bring_lacks_as : {D : Type 0} (run : D → List Event → D → Type 0) (shows : D → Shown → Type 0)
+pub bring_lacks_as : {D : Type 0} (run : D → List Access → D → Type 0) (shows : D → Shown → Type 0)
     (c d : Config) (h : ℕ) (a b : Holding D) → d ≡ c → BringLacks run shows d h a b
     → BringLacks run shows c h a b
 bring_lacks_as run shows c d h a b same x =
@@ -172,12 +172,12 @@ comes_in call bringing a m b q result called away x = if_map (λ r. BringsIn cal
     (λ r. bringing m r b) result x
     (λ r y. was_far m (subst (λ (p : Reply). call a p m) away called) y)
 
-pub finds_as : {D : Type 0} (run : D → List Event → D → Type 0) (shows : D → Shown → Type 0) (h : ℕ)
+pub finds_as : {D : Type 0} (run : D → List Access → D → Type 0) (shows : D → Shown → Type 0) (h : ℕ)
     (a b : Holding D) (q r : Reply) → q ≡ r → FindsWhere run shows h a q b
     → FindsWhere run shows h a r b
 finds_as run shows h a b q r is x = subst (λ (p : Reply). FindsWhere run shows h a p b) is x
 
-pub brings_as_if : {D : Type 0} (run : D → List Event → D → Type 0) (shows : D → Shown → Type 0)
+pub brings_as_if : {D : Type 0} (run : D → List Access → D → Type 0) (shows : D → Shown → Type 0)
     (c d : Config) (h : ℕ) (a b : Holding D) (result : Result Reply NoMemory) → d ≡ c
     → IfOk result (λ r. Brings run shows d h a r b) → IfOk result (λ r. Brings run shows c h a r b)
 brings_as_if run shows c d h a b result same x =

@@ -6,7 +6,7 @@ use Rattle.cb_types.specs.declared.config.Config.{Config}
 use Rattle.cb_types.specs.declared.job.Job.{Job}
 use Rattle.cb_types.specs.declared.job.Job.TheVariants.{Make, Read, Write, Free, Swap, Filter, Evict, Begin, Ship, Commit, Abort, Pair, Patch, Merge, Part, Compact, Rebuild, Crash, Join, Gather, Install, Fetch, Land}
 use Rattle.cb_types.specs.declared.reply.Reply.{Reply}
-use Rattle.cb_world.specs.declared.event.Event.{Event}
+use Rattle.cb_world.specs.declared.access.Access.{Access}
 use Rattle.cb_world.specs.declared.shown.Shown.{Shown}
 use Rattle.cb_world.specs.FarState.{FarState}
 use Rattle.cb_world.specs.Sound.{Sound}
@@ -49,7 +49,7 @@ counted_sound s far mid job is sound = subst (Sound s) (sym is)
     (recounted_sound s far (with_turn far.counts (job_index job)).turns
     (with_turn far.counts (job_index job)).by_job far.nodes.given sound)
 
-module _ {D : Type 0} (run : D → List Event → D → Type 0) (shows : D → Shown → Type 0)
+module _ {D : Type 0} (run : D → List Access → D → Type 0) (shows : D → Shown → Type 0)
     (reads : ℕ → Holding D → Reply → Holding D → Type 0) (lacks : ℕ → Holding D → Holding D → Type 0)
     (c : Config) (job : Job) (a b : Holding D) (result : Result Reply NoMemory) where
   pub does_is : (j : Job) → job ≡ j → IfOk result (λ r. Does run shows reads c j a r b)
@@ -79,7 +79,7 @@ module _ {D : Type 0} (run : D → List Event → D → Type 0) (shows : D → S
       })
 
 -- an operation on the far state alone
-module _ {D : Type 0} (run : D → List Event → D → Type 0) (a b : Holding D)
+module _ {D : Type 0} (run : D → List Access → D → Type 0) (a b : Holding D)
     (result : Result Reply NoMemory) (same : b.desk ≡ a.desk) (none : run a.desk [] a.desk) where
   runs_none : run a.desk [] b.desk
   runs_none = subst (λ (d : D). run a.desk [] d) (sym same) none

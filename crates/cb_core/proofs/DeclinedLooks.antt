@@ -5,8 +5,8 @@ use Rattle.cb_ptr.specs.declared.word.State.TheVariants as state
 use Rattle.cb_ptr.specs.Word.{state_of, len_of, place_of}
 use Rattle.cb_types.specs.declared.reply.Reply.{Reply}
 use Rattle.cb_types.specs.declared.reply.Reply.TheVariants as answer
-use Rattle.cb_world.specs.declared.event.Event.{Event}
-use Rattle.cb_world.specs.declared.event.Event.TheVariants.{Looked, Told}
+use Rattle.cb_world.specs.declared.access.Access.{Access}
+use Rattle.cb_world.specs.declared.access.Access.TheVariants.{Looked, Told}
 use Rattle.cb_world.specs.declared.object.Object.{Object}
 use Rattle.cb_world.specs.declared.shown.Shown.{Shown}
 use Rattle.cb_world.specs.FarState.{FarState}
@@ -61,11 +61,11 @@ far_word shows h w (s, shown, away) agree =
     found_away (Looked h w ∷ []) s h w away (agree s shown) tt (inr ((refl, refl), tt))
 
 -- one that a write found far is known to be so behind it
-pub away_after : (runs : List Event → Type 0) (shows then_shows : Shown → Type 0)
+pub away_after : (runs : List Access → Type 0) (shows then_shows : Shown → Type 0)
     (far new : FarState) (h at : ℕ) (bytes : List ℕ) (r : Reply)
     → Performs runs (λ s. shows s × Sound s far) (WriteRule h at bytes r) (λ t. Sound t new)
     (WriteEffect h at bytes r) → r ≡ answer.NotHere
-    → ((es : List Event) (s : Shown) → runs es → shows s → then_shows (played es s))
+    → ((es : List Access) (s : Shown) → runs es → shows s → then_shows (played es s))
     → ((s : Shown) × shows s × Sound s far) → ((s : Shown) → shows s → IsFarNow s h)
     → (s : Shown) × then_shows s × IsFarNow s h
 away_after runs shows then_shows far new h at bytes r p is follows (s, shown, sound) away =
@@ -79,7 +79,7 @@ away_after runs shows then_shows far new h at bytes r p is follows (s, shown, so
     )
 
 -- ---- a look, and a look at the version word
-module _ {D : Type 0} (run : D → List Event → D → Type 0) (shows : D → Shown → Type 0) (h : ℕ)
+module _ {D : Type 0} (run : D → List Access → D → Type 0) (shows : D → Shown → Type 0) (h : ℕ)
     (x y : D) (far : FarState) where
   pub declines_gone : (at count : ℕ) → run x [] y → is_gone far h ≡ true
       → Declines run shows h at count (record { desk = x; far = far }) None
@@ -121,7 +121,7 @@ module _ {D : Type 0} (run : D → List Event → D → Type 0) (shows : D → S
     },
   )
 
-  pub finds_by : (es : List Event) (w : ℕ) (r : Reply) → run x (Looked h w ∷ es) y → AreReads h es
+  pub finds_by : (es : List Access) (w : ℕ) (r : Reply) → run x (Looked h w ∷ es) y → AreReads h es
       → Touches h (place_of w) (len_of w) es
       → AnsweredAs (state_of w) (λ v. r ≡ answer.Stays) w h (Looked h w ∷ es) r
       → FindsWhere run shows h (record { desk = x; far = far }) r (record { desk = y; far = far })
@@ -145,18 +145,18 @@ module _ {D : Type 0} (run : D → List Event → D → Type 0) (shows : D → S
   }
 
 -- ---- the answers of a look
-pub is_here : (w h : ℕ) (es : List Event) → state_of w ≡ state.Here
+pub is_here : (w h : ℕ) (es : List Access) → state_of w ≡ state.Here
     → AnsweredAs (state_of w) (λ v. answer.Stays ≡ answer.Stays) w h es answer.Stays
 is_here w h es e = subst (λ (q : State). AnsweredAs q (λ v. answer.Stays ≡ answer.Stays) w h es answer.Stays)
     (sym e) refl
 
-pub is_far : (w h : ℕ) (es : List Event) → state_of w ≡ state.Far
+pub is_far : (w h : ℕ) (es : List Access) → state_of w ≡ state.Far
     → AnsweredAs (state_of w) (λ v. answer.NotHere ≡ answer.Stays) w h es answer.NotHere
 is_far w h es e =
     subst (λ (q : State). AnsweredAs q (λ v. answer.NotHere ≡ answer.Stays) w h es answer.NotHere) (sym e)
     refl
 
-pub is_moving : (w h : ℕ) (es : List Event) → state_of w ≡ state.Moving
+pub is_moving : (w h : ℕ) (es : List Access) → state_of w ≡ state.Moving
     → AnsweredAs (state_of w) (λ v. answer.Moving ≡ answer.Stays) w h es answer.Moving
 is_moving w h es e =
     subst (λ (q : State). AnsweredAs q (λ v. answer.Moving ≡ answer.Stays) w h es answer.Moving) (sym e)

@@ -4,7 +4,7 @@ use Rattle.std.proofs.Common.{◌≡◌, ℕ, List, [], length, Option, sym, sub
 use Rattle.cb_types.specs.declared.config.Config.{Config}
 use Rattle.cb_types.specs.declared.reply.Reply.{Reply}
 use Rattle.cb_types.specs.declared.reply.Reply.TheVariants as answer
-use Rattle.cb_world.specs.declared.event.Event.{Event}
+use Rattle.cb_world.specs.declared.access.Access.{Access}
 use Rattle.cb_world.specs.FarState.{FarState}
 use Rattle.cb_world.specs.World.{IsConfigured}
 use Rattle.cb_mutate.specs.MakeRule.{NeedsNewSpan}
@@ -19,7 +19,7 @@ configured_as c d far new same is x = subst (λ (e : Config). IsConfigured e new
     (subst (λ (f : FarState). IsConfigured c f) (sym is) x)
 
 -- a make that lacked memory
-pub make_lacks : {D : Type 0} (run : D → List Event → D → Type 0) (c d : Config) (bytes : List ℕ)
+pub make_lacks : {D : Type 0} (run : D → List Access → D → Type 0) (c d : Config) (bytes : List ℕ)
     (a b : Holding D) → ((x : D) → run x [] x) → d ≡ c
     → (b.desk ≡ a.desk) × (b.far ≡ a.far) × NeedsNewSpan d.handles (length bytes) a.far
     → MakeLacks run c bytes a b

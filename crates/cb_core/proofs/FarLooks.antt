@@ -4,8 +4,8 @@ use native.Mathlib.Decide.{ℕ_discrete}
 use Rattle.cb_ptr.specs.declared.word.State.TheVariants as state
 use Rattle.cb_ptr.specs.Word.{state_of, len_of, place_of}
 use Rattle.cb_ptr.proofs.Laws.{far_word_is, len_of-below}
-use Rattle.cb_world.specs.declared.event.Event.{Event}
-use Rattle.cb_world.specs.declared.event.Event.TheVariants.{Looked, Claimed, Told, Loaded, Stored, Stamped, Settled}
+use Rattle.cb_world.specs.declared.access.Access.{Access}
+use Rattle.cb_world.specs.declared.access.Access.TheVariants.{Looked, Claimed, Told, Loaded, Stored, Stamped, Settled}
 use Rattle.cb_world.specs.declared.object.Object.{Object}
 use Rattle.cb_world.specs.declared.object.Object.TheVariants as is
 use Rattle.cb_world.specs.declared.shown.Shown.{Shown}
@@ -17,7 +17,7 @@ use Rattle.cb_world.specs.Shown.{Fits, never, object_at, version_at}
 abbrev pub IsFarNow : Shown → ℕ → Type 0
 IsFarNow s h = (len v : ℕ) × (words : List ℕ) × (object_at s h ≡ is.Far len v words)
 
-not_seen : (h w : ℕ) (es : List Event) → NoLook h es → IsFound h w es → ⊥
+not_seen : (h w : ℕ) (es : List Access) → NoLook h es → IsFound h w es → ⊥
 not_seen h w [] none found = found
 not_seen h w (e ∷ es) none (inl found) = not_seen h w es none.1 found
 not_seen h w (e ∷ es) none (inr found) = none.0 w found.0
@@ -45,7 +45,7 @@ another s h k o off (l, v, words, away) t same = (
 )
 
 -- an object that is settled is looked at no more
-apart : (s : Shown) (h w k u : ℕ) (es : List Event) → IsFarNow s h → NoLook k es → IsFound h w es
+apart : (s : Shown) (h w k u : ℕ) (es : List Access) → IsFarNow s h → NoLook k es → IsFound h w es
     → (IsFarNow (after (Settled k u) s) h → state_of w ≡ state.Far) → state_of w ≡ state.Far
 apart s h w k u es away none found then = by (ℕ_discrete k h)
   where
@@ -55,7 +55,7 @@ apart s h w k u es away none found then = by (ℕ_discrete k h)
         (settled_by (state_of u) u (version_at s k) (object_at s k)) off away
         (after (Settled k u) s) refl)
 
-pub found_away : (es : List Event) (s : Shown) (h w : ℕ) → IsFarNow s h → Agree s es → LooksFirst es
+pub found_away : (es : List Access) (s : Shown) (h w : ℕ) → IsFarNow s h → Agree s es → LooksFirst es
     → IsFound h w es → state_of w ≡ state.Far
 found_away [] s h w away agree first found = absurd found
 found_away (Looked k u ∷ es) s h w away agree first (inl found) =

@@ -4,7 +4,7 @@ use Rattle.cb_types.specs.declared.config.Config.{Config}
 use Rattle.cb_types.specs.declared.job.Job.TheVariants.{Install}
 use Rattle.cb_types.specs.declared.order.Kept.{Kept}
 use Rattle.cb_types.specs.declared.reply.Reply.{Reply}
-use Rattle.cb_world.specs.declared.event.Event.{Event}
+use Rattle.cb_world.specs.declared.access.Access.{Access}
 use Rattle.cb_world.specs.declared.shown.Shown.{Shown}
 use Rattle.cb_world.specs.Orders.{KeepsOrder}
 use Rattle.cb_world.specs.Sound.{Sound}
@@ -15,7 +15,7 @@ use Rattle.cb_core.specs.OrderLeaves.{InstallLeaves}
 use Rattle.cb_core.specs.Parts.{Holding}
 use Rattle.cb_core.specs.TurnLeaves.{TurnLeaves}
 
-module _ {D : Type 0} (run : D → List Event → D → Type 0) (shows : D → Shown → Type 0) (c : Config)
+module _ {D : Type 0} (run : D → List Access → D → Type 0) (shows : D → Shown → Type 0) (c : Config)
     (a b : Holding D) (ran : run a.desk [] b.desk) where
   pub install_at_desk : (r : Reply) (order keeps : Option Kept)
       → InstallTurn a.far r order keeps b.far → TurnedWith run shows c Install order a r keeps b

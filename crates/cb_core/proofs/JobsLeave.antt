@@ -18,7 +18,7 @@ use Rattle.cb_types.specs.declared.reply.Reply.TheVariants as answer
 use Rattle.cb_types.specs.declared.request.Request.{Request}
 use Rattle.cb_types.specs.declared.request.Request.TheVariants as line
 use Rattle.cb_types.specs.Table.{IsReplyOf}
-use Rattle.cb_world.specs.declared.event.Event.{Event}
+use Rattle.cb_world.specs.declared.access.Access.{Access}
 use Rattle.cb_world.specs.declared.shown.Shown.{Shown}
 use Rattle.cb_world.specs.Choices.{room_count}
 use Rattle.cb_world.specs.Codes.{IsConfiguredCode}
@@ -59,7 +59,7 @@ use Rattle.cb_core.proofs.PairGoes.{PairGoes, begin_pair, merge_pair, now_pair, 
 use Rattle.cb_core.proofs.RulesLeave.{IsPlain, SameCensus, StandsAs, StaysPlain, TellsNoLack, Unworn, abort_plain, answered, begin_plain, brings_census, brings_kinds, census, commit_plain, compact_unworn, declined_plain, evict_plain, fetch_told, filter_plain, free_far, free_plain, gather_plain, install_plain, joining_of, lack_off, made_by, made_of, make_leaves, members_of, off, rebuild_plain, same_census, ship_plain, stands_of, worn_off, write_plain}
 
 -- a refusal of an eviction tells which of the two there was too little of
-too_few : (c : Config) (far new : FarState) (why : Lack) (loose nodes : ℕ) (es : List Event)
+too_few : (c : Config) (far new : FarState) (why : Lack) (loose nodes : ℕ) (es : List Access)
     → IsConfiguredCode c far.code → CountsRule far new (Refused why loose nodes) es
     → (loose < c.k) ⊎ (nodes < c.k + c.r)
 too_few c far new lack.Spans loose nodes es code x = by x.rule.answered
@@ -85,7 +85,7 @@ too_few c far new lack.Nodes loose nodes es code x = by x.rule.answered
     by (inr (inr both)) = absurd (let e = both.reply in cc)
 
 -- and leaves the far state
-refused_same : (far new : FarState) (why : Lack) (loose nodes : ℕ) (es : List Event)
+refused_same : (far new : FarState) (why : Lack) (loose nodes : ℕ) (es : List Access)
     → EvictRule far new (reply_of (Refused why loose nodes)) es → new ≡ far
 refused_same far new why loose nodes es x = elim x.answered [
   | inl few ↦ few.state
@@ -219,7 +219,7 @@ module _ (c : Config) (j : Job) where
       (λ ok fine. plain_tells c far mid r plain) unworn)
 
   -- an eviction that made room
-  won_leaves : (far mid new : FarState) (r : Reply) (id : SetId) (es : List Event)
+  won_leaves : (far mid new : FarState) (r : Reply) (id : SetId) (es : List Access)
       → EvictRule far mid (answer.Set id) es → PartLeaves c j mid new r → PartLeaves c j far new r
   won_leaves far mid new r id es rule x =
       let keeps = (evict_plain c far mid (answer.Set id) es rule).same in
@@ -237,7 +237,7 @@ module _ (c : Config) (j : Job) where
       }
 
   -- the counts are those of the far state that is left: the refused eviction changed nothing
-  lost_leaves : (far new : FarState) (why : Lack) (loose nodes : ℕ) (r : Reply) (es : List Event)
+  lost_leaves : (far new : FarState) (why : Lack) (loose nodes : ℕ) (r : Reply) (es : List Access)
       → CountsRule far new (Refused why loose nodes) es → r ≡ answer.NoRoom c.frames loose nodes
       → PartLeaves c j far new r
   lost_leaves far new why loose nodes r es x is =
@@ -255,7 +255,7 @@ module _ (c : Config) (j : Job) where
 
   -- a position that is brought in
   brings_leaves : (rows : SetState → ℕ) (id p : ℕ) (far new : FarState) (r : Reply)
-      (es : List Event) → made_by j (Some r) ≡ 0 → BringsRule rows id p far new r es
+      (es : List Access) → made_by j (Some r) ≡ 0 → BringsRule rows id p far new r es
       → PartLeaves c j far new r
   brings_leaves rows id p far new r es none x = leaves far new r none (record {
     census = brings_census (rows x.set) far new id p x.set es r x.state;
@@ -271,7 +271,7 @@ module _ (c : Config) (j : Job) where
       (λ broken. refl) (λ whole free. refl) (λ f whole free. refl)))
 
   -- a landing is a swap-in that gives no row out, or is refused
-  land_leaves : (order : Option Kept) (far new : FarState) (r : Reply) (es : List Event)
+  land_leaves : (order : Option Kept) (far new : FarState) (r : Reply) (es : List Access)
       → made_by j (Some r) ≡ 0 → LandRule order far new r es → PartLeaves c j far new r
   land_leaves None far new r es none x =
       let plain = off r answer.NoOrder refl x.reply in
@@ -406,7 +406,7 @@ join_leaves c node far new r x = by x
         ))
 
 -- ---- over any desk, however an object is read that is here
-module _ {D : Type 0} (run : D → List Event → D → Type 0) (shows : D → Shown → Type 0) (c : Config)
+module _ {D : Type 0} (run : D → List Access → D → Type 0) (shows : D → Shown → Type 0) (c : Config)
   where
     abbrev Hold : Type 0
     Hold = Holding D

@@ -3,7 +3,7 @@ use Rattle.std.proofs.Common.{◌≡◌, ℕ, ◌+◌, ◌^◌, ◌<◌, ◌≤�
 use Rattle.std.specs.List.{sum_by}
 use Rattle.std.proofs.lemmas.List.Sums.{sum_by-set}
 use Rattle.cb_types.specs.declared.config.Config.{Config}
-use Rattle.cb_world.specs.declared.event.Event.{Event}
+use Rattle.cb_world.specs.declared.access.Access.{Access}
 use Rattle.cb_world.specs.declared.shown.Shown.{Shown}
 use Rattle.cb_world.specs.Counts.{with_turn}
 use Rattle.cb_world.specs.FarState.{FarState}
@@ -131,7 +131,7 @@ arrives_held c seats n a b S good stays keeps (step, hold) =
     (keeps_pinned a.desk b.desk seats pins good.pinned) (then.3 seats good.ongoing) then.4 (step, hold)
 
 -- who knows all before knows all after, and open writes and orders stay
-pub holds_on : {rules : List Event → Type 0} {does : List Event → Shown → Shown → Type 0}
+pub holds_on : {rules : List Access → Type 0} {does : List Access → Shown → Shown → Type 0}
     (a b : Holding Words) → PerformsStill a.desk b.desk a.far b.far rules does → FindsKept a b
     → ((s : Shown) → IsKnown a.desk a.far s → IsStepKnown b.desk a.far b.far s) → HoldOn a b
 holds_on {rules} {does} a b p orders after s k = let z = after s k in (
@@ -143,7 +143,7 @@ holds_on {rules} {does} a b p orders after s k = let z = after s k in (
 )
 
 -- so is an operation over the still desk, by its step
-pub arrives_step : {rules : List Event → Type 0} {does : List Event → Shown → Shown → Type 0}
+pub arrives_step : {rules : List Access → Type 0} {does : List Access → Shown → Shown → Type 0}
     (c : Config) (seats : List SeatState) (n : ℕ) (a b : Holding Words) (S : Type 0)
     → IsGood c seats a → StaysIf c n a.far b.far
     → PerformsStill a.desk b.desk a.far b.far rules does → FindsKept a b

@@ -7,7 +7,7 @@ use Rattle.cb_types.specs.declared.order.Kept.{Kept}
 use Rattle.cb_types.specs.declared.order.Kept.TheVariants.{Decode, Encode}
 use Rattle.cb_types.specs.declared.reply.Reply.{Reply}
 use Rattle.cb_types.specs.declared.reply.Reply.TheVariants as answer
-use Rattle.cb_world.specs.declared.event.Event.{Event}
+use Rattle.cb_world.specs.declared.access.Access.{Access}
 use Rattle.cb_world.specs.declared.shown.Shown.{Shown}
 use Rattle.cb_world.specs.FarState.{FarState}
 use Rattle.cb_world.specs.Orders.{KeepsOrder}
@@ -31,7 +31,7 @@ any_kept None far s t k = tt
 any_kept (Some d) far s t k = k
 
 -- a landing that finds no frame changes nothing
-pub land_crammed : (order : Option Kept) (far new : FarState) (r : Reply) (es : List Event)
+pub land_crammed : (order : Option Kept) (far new : FarState) (r : Reply) (es : List Access)
     → LandRule order far new r es → r ≡ answer.NoFrame → new ≡ far
 land_crammed None far new r es x none = x.same
 land_crammed (Some (Encode o)) far new r es x none = x.same
@@ -39,7 +39,7 @@ land_crammed (Some (Decode o)) far new r es (inl x) none = x.same
 land_crammed (Some (Decode o)) far new r es (inr x) none = (subst (λ (q : Reply).
     BringsFar 0 far new o.set o.position x.brings.set es q) none x.brings.state).0
 
-module _ {D : Type 0} (run : D → List Event → D → Type 0) (shows : D → Shown → Type 0)
+module _ {D : Type 0} (run : D → List Access → D → Type 0) (shows : D → Shown → Type 0)
     (settings : D → Config) (c : Config) where
   -- so many evictions were made, and the order is kept
   pub record IsLandingOn (done : Option (Bor DecodeDoneState)) (start here : Holding D) (made : ℕ)

@@ -14,7 +14,7 @@ use Rattle.cb_types.specs.declared.order.Kept.TheVariants.{Decode, Encode}
 use Rattle.cb_types.specs.declared.job.Job.TheVariants.{Land}
 use Rattle.cb_types.specs.declared.reply.Reply.{Reply}
 use Rattle.cb_types.specs.declared.reply.Reply.TheVariants as answer
-use Rattle.cb_world.specs.declared.event.Event.{Event}
+use Rattle.cb_world.specs.declared.access.Access.{Access}
 use Rattle.cb_world.specs.declared.shown.Shown.{Shown}
 use Rattle.cb_world.specs.FarState.{FarState}
 use Rattle.cb_world.specs.Played.{Agree, played}
@@ -125,7 +125,7 @@ outdated_says p far r gone is = fine (λ o l e z. false≢true (sym gone ∙ sub
     live_in far q.set q.position ≡ true) (sym (same_decode p o e)) z.0))
     (like r _ is (λ id l e. cc))
 
-land_says : (order : Option Kept) (far new : FarState) (r : Reply) (es : List Event)
+land_says : (order : Option Kept) (far new : FarState) (r : Reply) (es : List Access)
     → LandRule order far new r es → Says order far r
 land_says None far new r es x = none_says far r x.reply
 land_says (Some (Encode p)) far new r es x = encode_says p far r x.reply
@@ -134,7 +134,7 @@ land_says (Some (Decode p)) far new r es (inr x) =
     landed_says p far x.brings.set r x.live x.brings.there x.brings.reply
 
 -- ---- an eviction leaves the sets that there are, and the members
-set_stays : (far new : FarState) (r : Reply) (id : SetId) (es : List Event) → EvictRule far new r es
+set_stays : (far new : FarState) (r : Reply) (id : SetId) (es : List Access) → EvictRule far new r es
     → r ≡ answer.Set id → (k : ℕ) → k < far.counts.sets
     → (set_in new.sets k ≡ set_in far.sets k) × (new.members ≡ far.members)
 set_stays far new r id es rule set k below =
@@ -146,7 +146,7 @@ set_stays far new r id es rule set k below =
 
 -- where a landing found no frame, its order's set is there
 crammed_there : (order : Option Kept) (o : DecodeOrder) (far new : FarState) (r : Reply)
-    (es : List Event) → order ≡ Some (Decode o) → LandRule order far new r es → r ≡ answer.NoFrame
+    (es : List Access) → order ≡ Some (Decode o) → LandRule order far new r es → r ≡ answer.NoFrame
     → (set : SetState) × (set_in far.sets o.set ≡ Some set) × (live_in far o.set o.position ≡ true)
 crammed_there order o far new r es is rule full = by (subst (λ (k : Option Kept).
     LandRule k far new r es) is rule)
@@ -217,8 +217,8 @@ module _ (order : Option Kept) where
           (sym z.1.there ∙ ap (λ (q : DecodeOrder). set_in far.sets q.set) one ∙ y.there) in
           z.1.all ∙ ap (λ (k : SetState). lost far.members k.shards) set ∙ sym y.all
 
-module _ {D : Type 0} (run : D → List Event → D → Type 0) (shows : D → Shown → Type 0)
-    (follows : (d e : D) (es : List Event) (s : Shown) → run d es e → shows d s
+module _ {D : Type 0} (run : D → List Access → D → Type 0) (shows : D → Shown → Type 0)
+    (follows : (d e : D) (es : List Access) (s : Shown) → run d es e → shows d s
     → Agree s es × shows e (played es s)) (c : Config) (order : Option Kept) where
   abbrev Hold : Type 0
   Hold = Holding D

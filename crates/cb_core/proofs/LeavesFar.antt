@@ -15,7 +15,7 @@ use Rattle.cb_types.specs.declared.job.Job.{Job}
 use Rattle.cb_types.specs.declared.job.Job.TheVariants as job
 use Rattle.cb_types.specs.declared.reply.Reply.{Reply}
 use Rattle.cb_types.specs.declared.reply.Reply.TheVariants as answer
-use Rattle.cb_world.specs.declared.event.Event.{Event}
+use Rattle.cb_world.specs.declared.access.Access.{Access}
 use Rattle.cb_world.specs.declared.shown.Shown.{Shown}
 use Rattle.cb_world.specs.Choices.{room_count}
 use Rattle.cb_world.specs.Codes.{HaveCodes, IsConfiguredCode}
@@ -85,7 +85,7 @@ fine_counted c far j fine = record {
 }
 
 -- an eviction leaves it so
-pub fine_evicted : (c : Config) (far new : FarState) (id : SetId) (es : List Event) → IsAccepted c
+pub fine_evicted : (c : Config) (far new : FarState) (id : SetId) (es : List Access) → IsAccepted c
     → EvictRule far new (answer.Set id) es → IsFine c far → IsFine c new
 fine_evicted c far new id es accepted rule fine =
     let z = evict_stays c far new (answer.Set id) es accepted rule fine.configured in record {

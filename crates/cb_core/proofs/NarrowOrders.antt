@@ -8,7 +8,7 @@ use Rattle.cb_types.specs.declared.order.Kept.{Kept}
 use Rattle.cb_types.specs.declared.order.Kept.TheVariants.{Decode, Encode}
 use Rattle.cb_types.specs.declared.reply.Reply.{Reply}
 use Rattle.cb_types.specs.declared.reply.Reply.TheVariants as answer
-use Rattle.cb_world.specs.declared.event.Event.{Event}
+use Rattle.cb_world.specs.declared.access.Access.{Access}
 use Rattle.cb_world.specs.declared.shown.Shown.{Shown}
 use Rattle.cb_world.specs.FarState.{FarState}
 use Rattle.cb_world.specs.World.{IsConfigured}
@@ -30,7 +30,7 @@ use Rattle.cb_core.proofs.NarrowSteps.{install_narrow, swapped_narrow}
 use Rattle.cb_core.proofs.NarrowTurns.{begins_narrow, counted_narrow, evict_rule_narrow, narrow_configured}
 
 -- ---- the operations
-brings_narrow : (rows : SetState → ℕ) (id p : ℕ) (far new : FarState) (r : Reply) (es : List Event)
+brings_narrow : (rows : SetState → ℕ) (id p : ℕ) (far new : FarState) (r : Reply) (es : List Access)
     → BringsRule rows id p far new r es → KeepsNarrow far new
 brings_narrow rows id p far new r es x = by r x.state
   where
@@ -38,7 +38,7 @@ brings_narrow rows id p far new r es x = by r x.state
     by (answer.Swapped f) z = swapped_narrow far new id p x.set f (rows x.set) x.there z.0
     by q z = narrow_same far new z.0
 
-land_narrow : (order : Option Kept) (far new : FarState) (r : Reply) (es : List Event)
+land_narrow : (order : Option Kept) (far new : FarState) (r : Reply) (es : List Access)
     → LandRule order far new r es → KeepsNarrow far new
 land_narrow None far new r es x = narrow_same far new x.same
 land_narrow (Some (Encode o)) far new r es x = narrow_same far new x.same
@@ -55,7 +55,7 @@ rows_narrow id p far new g x = by g x.state
         subst (KeepsNarrow far) (sym z.state) (narrow_stays far _ refl refl refl refl)
     by (fetching.Answer r) z = narrow_same far new z.1
 
-module _ {D : Type 0} (run : D → List Event → D → Type 0) (shows : D → Shown → Type 0) (c : Config)
+module _ {D : Type 0} (run : D → List Access → D → Type 0) (shows : D → Shown → Type 0) (c : Config)
   where
     landing_narrow : (order : Option Kept) (left : ℕ) (a b : Holding D) (r : Reply)
         → WithRoom c.frames (Lands run shows order) (WinsRoom run shows c) left a r b

@@ -9,7 +9,7 @@ use Rattle.cb_types.specs.declared.job.Job.{Job}
 use Rattle.cb_types.specs.declared.job.Job.TheVariants.{Make, Free, Filter, Evict, Begin, Ship, Commit, Abort, Pair, Patch, Merge, Part, Compact, Rebuild, Crash, Join}
 use Rattle.cb_types.specs.declared.reply.Reply.{Reply}
 use Rattle.cb_types.specs.declared.reply.Reply.TheVariants as answer
-use Rattle.cb_world.specs.declared.event.Event.{Event}
+use Rattle.cb_world.specs.declared.access.Access.{Access}
 use Rattle.cb_world.specs.declared.shown.Shown.{Shown}
 use Rattle.cb_world.specs.FarState.{FarState}
 use Rattle.cb_world.specs.Plain.{Words}
@@ -94,7 +94,7 @@ module _ {D : Type 0} (p : JobParts D) where
   mild_stops l lacks job a b x = x
 
 -- ---- the operations by their rules
-make_rule_narrow : (handles : ℕ) (bytes : List ℕ) (far new : FarState) (r : Reply) (es : List Event)
+make_rule_narrow : (handles : ℕ) (bytes : List ℕ) (far new : FarState) (r : Reply) (es : List Access)
     → (IsLongMade (Make bytes) r → ⊥) → MakeRule handles bytes far new r es → KeepsNarrow far new
 make_rule_narrow handles bytes far new (answer.Full n) es mild x = narrow_same far new x.2.0
 make_rule_narrow handles bytes far new answer.NoFrame es mild x = narrow_same far new x.2.0
@@ -102,7 +102,7 @@ make_rule_narrow handles bytes far new (answer.Made h v) es mild x =
     made_narrow far new bytes x.1.class x.1.slot (λ long. mild (long, tt)) x.1.fits x.1.chosen x.1.state
 make_rule_narrow handles bytes far new r es mild x = absurd x
 
-free_rule_narrow : (h : ℕ) (far new : FarState) (r : Reply) (es : List Event)
+free_rule_narrow : (h : ℕ) (far new : FarState) (r : Reply) (es : List Access)
     → FreeRule h far new r es → KeepsNarrow far new
 free_rule_narrow h far new r es x = by r x.state
   where
@@ -110,7 +110,7 @@ free_rule_narrow h far new r es x = by r x.state
     by (answer.Version n) z = place_narrow (state_of x.reply.word) far new h z
     by q z = narrow_same far new z
 
-filter_rule_narrow : (frames h : ℕ) (far new : FarState) (r : Reply) (es : List Event)
+filter_rule_narrow : (frames h : ℕ) (far new : FarState) (r : Reply) (es : List Access)
     → FilterRule frames h far new r es → KeepsNarrow far new
 filter_rule_narrow frames h far new r es x = by (state_of x.word) x.answer
   where
@@ -124,7 +124,7 @@ filter_rule_narrow frames h far new r es x = by (state_of x.word) x.answer
     by state.Far z = narrow_same far new z.1
     by state.Moving z = narrow_same far new z.1
 
-swap_rule_narrow : (id p : ℕ) (far new : FarState) (r : Reply) (es : List Event)
+swap_rule_narrow : (id p : ℕ) (far new : FarState) (r : Reply) (es : List Access)
     → SwapRule id p far new r es → KeepsNarrow far new
 swap_rule_narrow id p far new r es x = by r x.state
   where
@@ -132,7 +132,7 @@ swap_rule_narrow id p far new r es x = by r x.state
     by (answer.Swapped f) z = swapped_narrow far new id p x.set f _ x.there z.0
     by q z = narrow_same far new z.0
 
-pub evict_rule_narrow : (far new : FarState) (r : Reply) (es : List Event) → EvictRule far new r es
+pub evict_rule_narrow : (far new : FarState) (r : Reply) (es : List Access) → EvictRule far new r es
     → KeepsNarrow far new
 evict_rule_narrow far new r es x = elim x.answered [
   | inl few ↦ narrow_same far new few.state
@@ -142,7 +142,7 @@ evict_rule_narrow far new r es x = elim x.answered [
 ]
 
 pub begins_narrow : (far new : FarState) (ready : Bool) (so : List (List ℕ) → Type 0) (r : Reply)
-    (es : List Event) → BeginsBy far new ready so r es → KeepsNarrow far new
+    (es : List Access) → BeginsBy far new ready so r es → KeepsNarrow far new
 begins_narrow far new ready so r es (inl z) = narrow_same far new z.state
 begins_narrow far new ready so r es (inr x) = elim x.answered [
   | inl few ↦ narrow_same far new few.state
@@ -151,7 +151,7 @@ begins_narrow far new ready so r es (inr x) = elim x.answered [
       begun_narrow far new x.loose both.pages e.pages e.words ready e.parities both.longest e.long e.state
 ]
 
-commit_rule_narrow : (far new : FarState) (r : Reply) (es : List Event) → CommitRule far new r es
+commit_rule_narrow : (far new : FarState) (r : Reply) (es : List Access) → CommitRule far new r es
     → KeepsNarrow far new
 commit_rule_narrow far new r es x = elim x.answered [
   | inl z ↦ narrow_same far new z.state
@@ -159,7 +159,7 @@ commit_rule_narrow far new r es x = elim x.answered [
   | inr (inr z) ↦ committed_narrow far new r z
 ]
 
-abort_rule_narrow : (far new : FarState) (r : Reply) (es : List Event) → AbortRule far new r es
+abort_rule_narrow : (far new : FarState) (r : Reply) (es : List Access) → AbortRule far new r es
     → KeepsNarrow far new
 abort_rule_narrow far new r es x = elim x.answered [
   | inl z ↦ narrow_same far new z.state
@@ -175,7 +175,7 @@ pub narrow_configured : (c : Config) (far new : FarState) → IsConfigured c far
     → IsNarrow far → IsNarrow new
 narrow_configured c far new is k = k.narrow is.codes.force.range.data_least
 
-module _ {D : Type 0} (run : D → List Event → D → Type 0) (shows : D → Shown → Type 0)
+module _ {D : Type 0} (run : D → List Access → D → Type 0) (shows : D → Shown → Type 0)
     (c : Config) (reads : ℕ → Holding D → Reply → Holding D → Type 0)
     (read : (h : ℕ) (a b : Holding D) (r : Reply) → reads h a r b → b.far ≡ a.far)
     (lacks : ℕ → Holding D → Holding D → Type 0)

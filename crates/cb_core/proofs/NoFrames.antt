@@ -12,7 +12,7 @@ use Rattle.cb_types.specs.declared.job.Job.{Job}
 use Rattle.cb_types.specs.declared.job.Job.TheVariants.{Make, Read, Write, Free, Swap, Filter, Evict, Begin, Ship, Commit, Abort}
 use Rattle.cb_types.specs.declared.reply.Reply.{Reply}
 use Rattle.cb_types.specs.declared.reply.Reply.TheVariants as answer
-use Rattle.cb_world.specs.declared.event.Event.{Event}
+use Rattle.cb_world.specs.declared.access.Access.{Access}
 use Rattle.cb_world.specs.declared.shown.Shown.{Shown}
 use Rattle.cb_world.specs.FarState.{FarState}
 use Rattle.cb_mutate.specs.Answered.{AbsentAs, AnsweredAs, EmptyAnswer}
@@ -59,7 +59,7 @@ pub whole : (r : Reply) → SaysNoLack r → (id : SetId) (l : List Loss) → r 
 whole r plain id l e = false≢true (sym plain ∙ ap says_lack e)
 
 -- ---- calls on objects
-absent : (q : State) (h : ℕ) (es : List Event) (r : Reply) → AbsentAs q h es r → SaysNoLack r
+absent : (q : State) (h : ℕ) (es : List Access) (r : Reply) → AbsentAs q h es r → SaysNoLack r
 absent word.Empty h es r (v, told, e) = by v e
   where
     by : (v : ℕ) → EmptyAnswer v r → SaysNoLack r
@@ -69,7 +69,7 @@ absent word.Far h es r e = off r answer.NotHere refl e
 absent word.Here h es r e = absurd e
 absent word.Moving h es r e = off r answer.Moving refl e
 
-pub answered : (here : ℕ → Type 0) (q : State) (w h : ℕ) (es : List Event) (r : Reply)
+pub answered : (here : ℕ → Type 0) (q : State) (w h : ℕ) (es : List Access) (r : Reply)
     → (here w → SaysNoLack r) → AnsweredAs q here w h es r → SaysNoLack r
 answered here word.Here w h es r f a = f a
 answered here word.Empty w h es r f a = absent word.Empty h es r a
@@ -80,7 +80,7 @@ next_plain : (v : ℕ) (r : Reply) → NextVersion v r → SaysNoLack r
 next_plain v r (inl (e, is)) = off r answer.Worn refl is
 next_plain v r (inr (l, is)) = off r (answer.Version (v + 1)) refl is
 
-pub read_plain : (h : ℕ) (r : Reply) (es : List Event) → ReadRule h r es → SaysNoLack r
+pub read_plain : (h : ℕ) (r : Reply) (es : List Access) → ReadRule h r es → SaysNoLack r
 read_plain h r es a =
     answered (ReadHere h es r) (state_of a.word) a.word h es r (by a.word) a.answer
   where
@@ -88,7 +88,7 @@ read_plain h r es a =
     by w (inl (none, (v, words, taken, is))) = off r _ refl is
     by w (inr (some, (v, words, told, count, loaded, is))) = off r _ refl is
 
-pub write_plain : (h at : ℕ) (bytes : List ℕ) (r : Reply) (es : List Event) → WriteRule h at bytes r es
+pub write_plain : (h at : ℕ) (bytes : List ℕ) (r : Reply) (es : List Access) → WriteRule h at bytes r es
     → SaysNoLack r
 write_plain h at bytes r es a =
     answered (WriteHere h at bytes es r) (state_of a.word) a.word h es r (by a.word) a.answer
@@ -98,7 +98,7 @@ write_plain h at bytes r es a =
     by w (inr (fits, inl (some, is))) = off r _ refl is
     by w (inr (fits, inr (none, (v, words, taken, next)))) = next_plain v r next
 
-pub free_plain : (h : ℕ) (far new : FarState) (r : Reply) (es : List Event) → FreeRule h far new r es
+pub free_plain : (h : ℕ) (far new : FarState) (r : Reply) (es : List Access) → FreeRule h far new r es
     → SaysNoLack r
 free_plain h far new r es a = by (state_of a.reply.word) a.reply.word a.reply.answer
   where
@@ -112,7 +112,7 @@ free_plain h far new r es a = by (state_of a.reply.word) a.reply.word a.reply.an
     by word.Empty w x = absent word.Empty h es r x
     by word.Moving w x = absent word.Moving h es r x
 
-pub filter_plain : (frames h : ℕ) (far new : FarState) (r : Reply) (es : List Event)
+pub filter_plain : (frames h : ℕ) (far new : FarState) (r : Reply) (es : List Access)
     → FilterRule frames h far new r es → SaysNoLack r
 filter_plain frames h far new r es a = by (state_of a.word) a.word a.answer
   where
@@ -133,7 +133,7 @@ filter_plain frames h far new r es a = by (state_of a.word) a.word a.answer
     by word.Moving w (e, same) = off r answer.Moving refl e
 
 -- ---- evictions
-pub evict_plain : (c : Config) (far new : FarState) (r : Reply) (es : List Event)
+pub evict_plain : (c : Config) (far new : FarState) (r : Reply) (es : List Access)
     → EvictRule far new r es → SaysNoLack r
 evict_plain c far new r es a = by a.answered
   where
@@ -143,7 +143,7 @@ evict_plain c far new r es a = by a.answered
     by (inr (inl x)) = off r _ refl x.reply
     by (inr (inr x)) = off r _ refl x.reply
 
-pub begin_plain : (c : Config) (far new : FarState) (r : Reply) (es : List Event)
+pub begin_plain : (c : Config) (far new : FarState) (r : Reply) (es : List Access)
     → BeginRule far new r es → SaysNoLack r
 begin_plain c far new r es (inl a) = off r _ refl a.reply
 begin_plain c far new r es (inr a) = by a.answered
@@ -154,7 +154,7 @@ begin_plain c far new r es (inr a) = by a.answered
     by (inr (inl x)) = off r _ refl x.reply
     by (inr (inr x)) = off r _ refl x.reply
 
-pub ship_plain : (far new : FarState) (r : Reply) (es : List Event) → ShipRule far new r es → SaysNoLack r
+pub ship_plain : (far new : FarState) (r : Reply) (es : List Access) → ShipRule far new r es → SaysNoLack r
 ship_plain far new r es a = elim a.ships [
   | inl x ↦ off r _ refl x.reply
   | inr (inl x) ↦ off r _ refl x.reply
@@ -162,7 +162,7 @@ ship_plain far new r es a = elim a.ships [
   | inr (inr (inr x)) ↦ off r _ refl x.reply
 ]
 
-pub commit_plain : (far new : FarState) (r : Reply) (es : List Event) → CommitRule far new r es → SaysNoLack r
+pub commit_plain : (far new : FarState) (r : Reply) (es : List Access) → CommitRule far new r es → SaysNoLack r
 commit_plain far new r es a = by a.answered
   where
     by : HasNoBatch far new r ⊎ (HasShort far new r ⊎ HasCommitted far new r) → SaysNoLack r
@@ -170,7 +170,7 @@ commit_plain far new r es a = by a.answered
     by (inr (inl x)) = off r _ refl x.reply
     by (inr (inr x)) = off r _ refl x.reply
 
-pub abort_plain : (far new : FarState) (r : Reply) (es : List Event) → AbortRule far new r es → SaysNoLack r
+pub abort_plain : (far new : FarState) (r : Reply) (es : List Access) → AbortRule far new r es → SaysNoLack r
 abort_plain far new r es a = by a.answered
   where
     by : HasNoBatch far new r ⊎ HasGivenUp far new r → SaysNoLack r
@@ -184,7 +184,7 @@ some_none r e = cc
 some_same : (a b : Reply) → Some a ≡ Some b → a ≡ b
 some_same a b e = cc
 
-pub declined_plain : (h at count : ℕ) (far : FarState) (r : Reply) (es : List Event)
+pub declined_plain : (h at count : ℕ) (far : FarState) (r : Reply) (es : List Access)
     → IsDeclined h at count far (Some r) es → SaysNoLack r
 declined_plain h at count far r es (inl (gone, none, nothing)) = absurd (some_none r none)
 declined_plain h at count far r es (inr (stays, (w, v, found, far_word, told, last, is))) =
@@ -229,7 +229,7 @@ once_never P E p e a b r (once_in m place o there call) = e m b r call
 
 -- ---- a job, and a turn
 -- a bringing in, and a read at the desk
-module _ {D : Type 0} (run : D → List Event → D → Type 0) (shows : D → Shown → Type 0) (c : Config)
+module _ {D : Type 0} (run : D → List Access → D → Type 0) (shows : D → Shown → Type 0) (c : Config)
   where
     pub comes_never : (h : ℕ) → AllNever (ComesIn run shows c h)
     comes_never h a b r come = brings_never _ _
@@ -239,7 +239,7 @@ module _ {D : Type 0} (run : D → List Event → D → Type 0) (shows : D → S
     pub reads_never : (h : ℕ) → AllNever (Reads run shows h)
     reads_never h a b r x = never r (read_plain h r x.events x.rule.1)
 
-module _ {D : Type 0} (run : D → List Event → D → Type 0) (shows : D → Shown → Type 0)
+module _ {D : Type 0} (run : D → List Access → D → Type 0) (shows : D → Shown → Type 0)
     (reads : ℕ → Holding D → Reply → Holding D → Type 0) (read : (h : ℕ) → AllNever (reads h))
     (c : Config) where
   pub does_never : (job : Job) (a b : Holding D) (r : Reply) → Does run shows reads c job a r b

@@ -10,7 +10,7 @@ use Rattle.cb_ptr.specs.Word.{state_of, len_of, place_of, pins_of}
 use Rattle.cb_ptr.proofs.Laws.{claimed_below}
 use Rattle.cb_world.specs.declared.object.Object.{Object}
 use Rattle.cb_world.specs.declared.object.Object.TheVariants as is
-use Rattle.cb_world.specs.declared.seats.Pin.{Pin}
+use Rattle.cb_world.specs.declared.seats.SeatPin.{SeatPin}
 use Rattle.cb_world.specs.declared.shown.Shown.{Shown}
 use Rattle.cb_world.specs.Grasped.{IsFree}
 use Rattle.cb_world.specs.FarState.{FarState}
@@ -37,7 +37,7 @@ pub kept_pinned : (desk : Words) (seats : List SeatState) (seat : ℕ) (new : Se
 kept_pinned desk seats seat new same within p = record {
   count = length-set seats seat new ∙ p.count;
   few = All-set (λ (x : SeatState). length x.pins ≤ 16) seats seat new
-      (subst (λ (l : List Pin). length l ≤ 16) (sym same)
+      (subst (λ (l : List SeatPin). length l ≤ 16) (sym same)
       (All-get_or (λ (x : SeatState). length x.pins ≤ 16) seats seat idle_seat within p.few)) p.few;
   counted = λ h below.
       let z = sum_by-set (λ (x : SeatState). pins_among h x.pins) seats seat new idle_seat within in
@@ -52,11 +52,11 @@ kept_pinned desk seats seat new same within p = record {
       p.versions;
 }
   where
-    Within : List Pin → Type 0
-    Within l = All (λ (pin : Pin). pin.handle < length desk.words) l
+    Within : List SeatPin → Type 0
+    Within l = All (λ (pin : SeatPin). pin.handle < length desk.words) l
 
-    Versioned : List Pin → Type 0
-    Versioned l = All (λ (pin : Pin). pin.version ≡ get_or desk.versions pin.handle 0) l
+    Versioned : List SeatPin → Type 0
+    Versioned l = All (λ (pin : SeatPin). pin.version ≡ get_or desk.versions pin.handle 0) l
 
 pub claims_pinned : (desk : Words) (seats : List SeatState) (seat : ℕ) (cs : List OpenWriteState)
     → seat < length seats → ArePinned desk seats → ArePinned desk (with_claims seats seat cs)

@@ -13,7 +13,7 @@ use Rattle.cb_types.specs.declared.order.DecodeOrder.{DecodeOrder}
 use Rattle.cb_types.specs.declared.order.EncodeOrder.{EncodeOrder}
 use Rattle.cb_types.specs.declared.reply.Reply.{Reply}
 use Rattle.cb_types.specs.declared.reply.Reply.TheVariants as answer
-use Rattle.cb_world.specs.declared.event.Event.{Event}
+use Rattle.cb_world.specs.declared.access.Access.{Access}
 use Rattle.cb_world.specs.declared.shown.Shown.{Shown}
 use Rattle.cb_world.specs.FarState.{FarState}
 use Rattle.cb_world.specs.Orders.{KeepsOrder}
@@ -98,7 +98,7 @@ pub was_landed : (q : Result Reply NoMemory) (order : Option Kept) (f : ℕ)
     → q ≡ Ok (answer.Swapped f) → land_keeps order q ≡ None
 was_landed q order f is = ap (λ (p : Result Reply NoMemory). land_keeps order p) is
 
-module _ {D : Type 0} (run : D → List Event → D → Type 0) (shows : D → Shown → Type 0) (c : Config)
+module _ {D : Type 0} (run : D → List Access → D → Type 0) (shows : D → Shown → Type 0) (c : Config)
     (a b : Holding D) where
   -- what the seat keeps behind the turn is what it kept, or nothing
   pub same_left : (order keeps : Option Kept) → IsSameOrNone order keeps
@@ -245,7 +245,7 @@ not_run_leaves c far new order (Err e) counts (few, state) configured =
     counted_left c far new order counts few state configured
 
 -- a landing whose order could not be run
-module _ {D : Type 0} (run : D → List Event → D → Type 0) (shows : D → Shown → Type 0)
+module _ {D : Type 0} (run : D → List Access → D → Type 0) (shows : D → Shown → Type 0)
     (laws : AreLaws run shows) (c : Config) (accepted : IsAccepted c) (a b : Holding D) where
   pub land_not_run : (o : DecodeOrder) (keeps : Option Kept) (q : Result Reply NoMemory)
       → keeps ≡ Some (Decode o) → run a.desk [] b.desk → NotRun a.far Land q b.far

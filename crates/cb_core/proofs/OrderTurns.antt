@@ -11,7 +11,7 @@ use Rattle.cb_types.specs.declared.order.Kept.{Kept}
 use Rattle.cb_types.specs.declared.order.Kept.TheVariants.{Decode, Encode}
 use Rattle.cb_types.specs.declared.reply.Reply.{Reply}
 use Rattle.cb_types.specs.declared.reply.Reply.TheVariants as answer
-use Rattle.cb_world.specs.declared.event.Event.{Event}
+use Rattle.cb_world.specs.declared.access.Access.{Access}
 use Rattle.cb_world.specs.declared.shown.Shown.{Shown}
 use Rattle.cb_world.specs.FarState.{FarState}
 use Rattle.cb_world.specs.Orders.{IsOrderKept, KeepsOrder}
@@ -81,7 +81,7 @@ pub install_refused : (far new : FarState) (order : Option Kept) → far.counts.
 install_refused far new order end same = install_late end refl refl same
 
 -- ---- the others
-module _ {D : Type 0} (run : D → List Event → D → Type 0) (shows : D → Shown → Type 0) (c : Config)
+module _ {D : Type 0} (run : D → List Access → D → Type 0) (shows : D → Shown → Type 0) (c : Config)
     (a b : Holding D) where
   abbrev on : FarState → Holding D
   on far = record { desk = a.desk; far = far }
@@ -189,7 +189,7 @@ module _ {D : Type 0} (run : D → List Event → D → Type 0) (shows : D → S
   }
 
   -- ---- what is told of lost sets
-  module _ (follows : (d e : D) (es : List Event) (s : Shown) → run d es e → shows d s
+  module _ (follows : (d e : D) (es : List Access) (s : Shown) → run d es e → shows d s
       → Agree s es × shows e (played es s)) where
     pub fetch_told : (h : Handle) (mid : FarState) (result : Result Fetching NoMemory)
         → mid ≡ counted a.far (Fetch h) → (s : Shown) × shows a.desk s × Sound s a.far

@@ -16,7 +16,7 @@ use Rattle.cb_types.specs.declared.order.Kept.{Kept}
 use Rattle.cb_types.specs.declared.order.Kept.TheVariants.{Decode, Encode}
 use Rattle.cb_types.specs.declared.reply.Reply.{Reply}
 use Rattle.cb_types.specs.declared.reply.Reply.TheVariants as answer
-use Rattle.cb_world.specs.declared.event.Event.{Event}
+use Rattle.cb_world.specs.declared.access.Access.{Access}
 use Rattle.cb_world.specs.declared.shown.Shown.{Shown}
 use Rattle.cb_world.specs.FarState.{FarState}
 use Rattle.cb_world.specs.Plain.{Words, IsSized}
@@ -52,7 +52,7 @@ use Rattle.cb_core.proofs.TurnCallsKept.{kept_room, once_known}
 use Rattle.cb_core.proofs.TurnUnavailable.{Tells, rows_tell, tells_each, tells_only}
 use Rattle.cb_core.proofs.Unavailables.{IsNever, in_far, late_tells, lost_is, never_tells}
 
-follows : (d e : Words) (es : List Event) (s : Shown) → Ran d es e → SaysAll d s
+follows : (d e : Words) (es : List Access) (s : Shown) → Ran d es e → SaysAll d s
     → Agree s es × SaysAll e (played es s)
 follows d e es s ran shown = let z = plain_follows es d e s ran.0 shown.1 in
     (z.0, (ran.1 shown.0, z.1))

@@ -12,7 +12,7 @@ use Rattle.cb_types.specs.declared.order.Kept.{Kept}
 use Rattle.cb_types.specs.declared.order.Kept.TheVariants.{Decode, Encode}
 use Rattle.cb_types.specs.declared.reply.Reply.{Reply}
 use Rattle.cb_types.specs.declared.reply.Reply.TheVariants as answer
-use Rattle.cb_world.specs.declared.event.Event.{Event}
+use Rattle.cb_world.specs.declared.access.Access.{Access}
 use Rattle.cb_world.specs.declared.shown.Shown.{Shown}
 use Rattle.cb_world.specs.FarState.{FarState}
 use Rattle.cb_world.specs.FarSound.{rows_in}
@@ -48,7 +48,7 @@ use Rattle.cb_core.proofs.WordsTold.{KeepsBatch, KeepsRows, by_words}
 use Rattle.cb_core.proofs.TurnLeft.{counted_good, counted_leaves, refused_leaves}
 
 -- ---- the orders that are handed out
-gather_kept : (g : Gathered) (far new : FarState) (es : List Event) (s t : Shown)
+gather_kept : (g : Gathered) (far new : FarState) (es : List Access) (s t : Shown)
     → GatherEffect far new g es s t → KeepsOrder t new (gathered_order None g)
 gather_kept (gathered.Order o) far new es s t x = x.kept o refl
 gather_kept (gathered.Answer r) far new es s t x = tt
@@ -83,12 +83,12 @@ live_there : (far : FarState) (id p : ℕ) (set : SetState) → set_in far.sets 
 live_there far id p set there live =
     sym (ap (λ (m : Option SetState). option_map_or (λ c. live_at c p) m false) there) ∙ live
 
-outdated_rows : (o : DecodeOrder) (s t : Shown) (far new : FarState) (r : Reply) (es : List Event)
+outdated_rows : (o : DecodeOrder) (s t : Shown) (far new : FarState) (r : Reply) (es : List Access)
     → (i : SetId) → r ≡ answer.Changed i → LandsRow o far new r es s t → KeepsRows s far t new
 outdated_rows o s t far new r es i reply x = same_rows s t far new
     (subst (λ (q : Reply). LandsRow o far new q es s t) reply x)
 
-pub land_rows : (order : Option Kept) (s t : Shown) (far new : FarState) (r : Reply) (es : List Event)
+pub land_rows : (order : Option Kept) (s t : Shown) (far new : FarState) (r : Reply) (es : List Access)
     → Sound s far → Sound t new → LeavesWords far new → LandRule order far new r es
     → LandEffect order far new r es s t → KeepsRows s far t new
 land_rows None s t far new r es before behind leaves rule x = same_rows s t far new x
@@ -100,7 +100,7 @@ land_rows (Some (Decode o)) s t far new r es before behind leaves (inr z) x =
     (live_there far o.set o.position z.brings.set z.brings.there z.live) z.brings.reply
     (lands_swaps o far new r es s t x)
 
-module _ {D : Type 0} (run : D → List Event → D → Type 0) (shows : D → Shown → Type 0)
+module _ {D : Type 0} (run : D → List Access → D → Type 0) (shows : D → Shown → Type 0)
     (laws : AreLaws run shows) (c : Config) (accepted : IsAccepted c) where
   abbrev Hold : Type 0
   Hold = Holding D
@@ -112,11 +112,11 @@ module _ {D : Type 0} (run : D → List Event → D → Type 0) (shows : D → S
 
   -- ---- a gather
   gather_words : (a b : Hold) (g : Gathered) (s : Shown) → Sound s a.far
-      → (es : List Event) → GatherRule a.far b.far g es → LeavesWords a.far b.far
+      → (es : List Access) → GatherRule a.far b.far g es → LeavesWords a.far b.far
   gather_words a b g s sound es rule = begins_leave_words s a.far b.far false (HandsOut a.far g)
       (gathered_reply g) es sound rule
 
-  gather_rows : (a b : Hold) (g : Gathered) (es : List Event) → GatherRule a.far b.far g es
+  gather_rows : (a b : Hold) (g : Gathered) (es : List Access) → GatherRule a.far b.far g es
       → KeepsBatch a.far b.far es (GatherEffect a.far b.far g)
   gather_rows a b g es rule = by_words a.far b.far es (GatherEffect a.far b.far g)
       (λ s before behind agree first e. begin_words a.far b.far false (HandsOut a.far g)

@@ -16,7 +16,7 @@ use Rattle.cb_types.specs.declared.config.Config.{Config}
 use Rattle.cb_types.specs.declared.handle.SetId.{SetId}
 use Rattle.cb_types.specs.declared.reply.Reply.{Reply}
 use Rattle.cb_types.specs.declared.reply.Reply.TheVariants as answer
-use Rattle.cb_world.specs.declared.event.Event.{Event}
+use Rattle.cb_world.specs.declared.access.Access.{Access}
 use Rattle.cb_world.specs.FarState.{FarState}
 use Rattle.cb_world.specs.Joining.{JoiningState}
 use Rattle.cb_world.specs.Sets.{Kept, SetMap, if_committed, set_in}
@@ -164,7 +164,7 @@ added_set sets n id new set there = elim (cases_eq id n) [
     at b is = ap if_committed (map.get-insert nat_cmp_total sets n kept id
         ∙ ap (λ (x : Bool). cond x (Some kept) (map.get sets id)) is)
 
-pub evicted_apart : (c : Config) (far new : FarState) (id : SetId) (es : List Event)
+pub evicted_apart : (c : Config) (far new : FarState) (id : SetId) (es : List Access)
     → EvictRule far new (answer.Set id) es → AreSetsApart far → AreSetsApart new
 evicted_apart c far new id es a apart = by a.answered
   where

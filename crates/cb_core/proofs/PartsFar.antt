@@ -19,7 +19,7 @@ use Rattle.cb_types.specs.Config.{IsAccepted}
 use Rattle.cb_types.specs.declared.handle.SetId.{SetId}
 use Rattle.cb_types.specs.declared.reply.Reply.{Reply}
 use Rattle.cb_types.specs.declared.reply.Reply.TheVariants as answer
-use Rattle.cb_world.specs.declared.event.Event.{Event}
+use Rattle.cb_world.specs.declared.access.Access.{Access}
 use Rattle.cb_world.specs.declared.homes.Home.{Home}
 use Rattle.cb_world.specs.declared.object.Object.{Object}
 use Rattle.cb_world.specs.declared.object.Object.TheVariants as is
@@ -77,13 +77,13 @@ not_resident s far h f home sound at (slot, named) =
 
 -- ---- an eviction that made a set
 -- the frames of the spans that left: as many as a set has data positions, among those that may leave
-pub record HasSent (far new : FarState) (es : List Event) : Type 0 where
+pub record HasSent (far new : FarState) (es : List Access) : Type 0 where
   pub frames : List ℕ
   pub evicted : HasEvicted far new frames es
   pub among : (f : ℕ) → Contains frames f → Contains (candidates far) f
   pub count : length frames ≡ far.code.k
 
-pub has_sent : (far new : FarState) (r : Reply) (id : SetId) (es : List Event)
+pub has_sent : (far new : FarState) (r : Reply) (id : SetId) (es : List Access)
     → EvictRule far new r es → r ≡ answer.Set id → HasSent far new es
 has_sent far new r id es rule set = elim rule.answered [
   | inl few ↦ absurd (few_spans _ r id few.reply set)
@@ -165,7 +165,7 @@ pub record HasWon (c : Config) (far new : FarState) : Type 0 where
       → home_at new.homes h ≡ Some home
 
 pub has_won : (c : Config) (s : Shown) (far new : FarState) (r : Reply) (id : SetId)
-    (es : List Event) → IsAccepted c → IsConfigured c far → Sound s far → EvictRule far new r es
+    (es : List Access) → IsAccepted c → IsConfigured c far → Sound s far → EvictRule far new r es
     → r ≡ answer.Set id → HasWon c far new
 has_won c s far new r id es accepted configured sound rule set =
     let x = has_sent far new r id es rule set in let e = x.evicted in
@@ -185,7 +185,7 @@ has_won c s far new r id es accepted configured sound rule set =
     }
 
 -- ---- where there is no frame for a span of the object's class, or of the set's length
-pub make_crammed : (handles : ℕ) (bytes : List ℕ) (far new : FarState) (r : Reply) (es : List Event)
+pub make_crammed : (handles : ℕ) (bytes : List ℕ) (far new : FarState) (r : Reply) (es : List Access)
     → MakeRule handles bytes far new r es → r ≡ answer.NoFrame
     → (new ≡ far) × HasNoPlace (length bytes) far
 make_crammed handles bytes far new r es rule none =
@@ -216,7 +216,7 @@ by_broken far id set broken b e = by broken (subst (λ (x : Bool). (if x
     by true q = absurd (unavailable_not _ (record { n = id }) (lost far.members set.shards) refl q)
     by false q = no_least (least_run far.frames set.pages) q
 
-pub swap_crammed : (id p : ℕ) (far new : FarState) (r : Reply) (es : List Event)
+pub swap_crammed : (id p : ℕ) (far new : FarState) (r : Reply) (es : List Access)
     → SwapRule id p far new r es → r ≡ answer.NoFrame
     → (new ≡ far) × ((set : SetState) × (set_in far.sets id ≡ Some set)
     × (least_run far.frames set.pages ≡ None))

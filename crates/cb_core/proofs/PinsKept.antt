@@ -1,7 +1,7 @@
 -- The world stays sound through a pin and its end.
 use Rattle.std.proofs.Common.{◌≡◌, ℕ, ◌<◌, List, length, refl, sym, ◌∙◌, subst, arith}
 use Rattle.cb_types.specs.declared.reply.Reply.{Reply}
-use Rattle.cb_world.specs.declared.seats.Pin.{Pin}
+use Rattle.cb_world.specs.declared.seats.SeatPin.{SeatPin}
 use Rattle.cb_world.specs.declared.shown.Shown.{Shown}
 use Rattle.cb_world.specs.FarState.{FarState}
 use Rattle.cb_world.specs.Orders.{AreOrdersKept}
@@ -15,7 +15,7 @@ use Rattle.cb_core.specs.Pinning.{PinStep, scope_full, refused, taken, UnpinStep
 
 -- other pins of a seat leave every order kept, where local memory stays
 pins_keep : (x y : Words) (far : FarState) (s t : Shown) (seats : List SeatState) (seat : ℕ)
-    (pins : List Pin) → IsKnown x far s → IsKnown y far t → y.memory ≡ x.memory
+    (pins : List SeatPin) → IsKnown x far s → IsKnown y far t → y.memory ≡ x.memory
     → AreOrdersKept s far seats → AreOrdersKept t far (with_pins seats seat pins)
 pins_keep x y far s t seats seat pins k l same kept =
     orders_kept t far seats (with_pins seats seat pins)

@@ -5,7 +5,7 @@ use Rattle.cb_types.specs.declared.handle.Handle.{Handle}
 use Rattle.cb_types.specs.declared.job.Job.TheVariants.{Read}
 use Rattle.cb_types.specs.declared.reply.Reply.{Reply}
 use Rattle.cb_types.specs.declared.reply.Reply.TheVariants as answer
-use Rattle.cb_world.specs.declared.event.Event.{Event}
+use Rattle.cb_world.specs.declared.access.Access.{Access}
 use Rattle.cb_world.specs.declared.shown.Shown.{Shown}
 use Rattle.cb_core.specs.OnceHere.{IsThere, away, here, bringing_stops, call_stops}
 use Rattle.cb_core.specs.Parts.{Holding}
@@ -17,7 +17,7 @@ worn_not_there : (r : Reply) → r ≡ answer.Worn → IsThere r → ⊥
 worn_not_there r e (inl s) = cc
 worn_not_there r e (inr (f, s)) = cc
 
-module _ {D : Type 0} (run : D → List Event → D → Type 0) (shows : D → Shown → Type 0)
+module _ {D : Type 0} (run : D → List Access → D → Type 0) (shows : D → Shown → Type 0)
     (reads : ℕ → Holding D → Reply → Holding D → Type 0) (lacks : ℕ → Holding D → Holding D → Type 0)
     (c : Config) (handle : Handle) (a : Holding D) where
   -- the first call tells that the object is not here: that is the turn

@@ -13,7 +13,7 @@ use Rattle.cb_types.specs.declared.order.Kept.{Kept}
 use Rattle.cb_types.specs.declared.order.Kept.TheVariants.{Decode, Encode}
 use Rattle.cb_types.specs.declared.reply.Reply.{Reply}
 use Rattle.cb_types.specs.declared.reply.Reply.TheVariants as answer
-use Rattle.cb_world.specs.declared.event.Event.{Event}
+use Rattle.cb_world.specs.declared.access.Access.{Access}
 use Rattle.cb_world.specs.FarState.{FarState}
 use Rattle.cb_world.specs.Joining.{JoiningState}
 use Rattle.cb_mutate.specs.Answered.{AbsentAs, AnsweredAs, EmptyAnswer}
@@ -135,7 +135,7 @@ comes far new next r q other is same keeps = record {
 }
 
 -- ---- calls on objects
-pub absent : (q : State) (h : ℕ) (es : List Event) (r : Reply) → AbsentAs q h es r → IsPlain r
+pub absent : (q : State) (h : ℕ) (es : List Access) (r : Reply) → AbsentAs q h es r → IsPlain r
 absent word.Empty h es r (v, told, e) = by v e
   where
     by : (v : ℕ) → EmptyAnswer v r → IsPlain r
@@ -145,7 +145,7 @@ absent word.Far h es r e = off r answer.NotHere refl e
 absent word.Here h es r e = absurd e
 absent word.Moving h es r e = off r answer.Moving refl e
 
-pub answered : (here : ℕ → Type 0) (q : State) (w h : ℕ) (es : List Event) (r : Reply)
+pub answered : (here : ℕ → Type 0) (q : State) (w h : ℕ) (es : List Access) (r : Reply)
     → (here w → IsPlain r) → AnsweredAs q here w h es r → IsPlain r
 answered here word.Here w h es r f a = f a
 answered here word.Empty w h es r f a = absent word.Empty h es r a
@@ -181,7 +181,7 @@ make_none handles bytes far new r none plain same =
       plain = plain;
     }
 
-pub make_leaves : (handles : ℕ) (bytes : List ℕ) (far new : FarState) (r : Reply) (es : List Event)
+pub make_leaves : (handles : ℕ) (bytes : List ℕ) (far new : FarState) (r : Reply) (es : List Access)
     → MakeRule handles bytes far new r es → MakeLeaves handles bytes far new r
 make_leaves handles bytes far new (answer.Full n) es x =
     make_none handles bytes far new (answer.Full n) refl refl x.2.0
@@ -196,7 +196,7 @@ make_leaves handles bytes far new (answer.Made h version) es x =
     }
 make_leaves handles bytes far new r es x = absurd x
 
-pub write_plain : (h at : ℕ) (bytes : List ℕ) (r : Reply) (es : List Event)
+pub write_plain : (h at : ℕ) (bytes : List ℕ) (r : Reply) (es : List Access)
     → WriteRule h at bytes r es → TellsNoLack r
 write_plain h at bytes r es a = by (state_of a.word) a.word a.answer
   where
@@ -211,7 +211,7 @@ write_plain h at bytes r es a = by (state_of a.word) a.word a.answer
     by word.Far w x = lack_off r (absent word.Far h es r x)
     by word.Moving w x = lack_off r (absent word.Moving h es r x)
 
-pub free_plain : (h : ℕ) (far new : FarState) (r : Reply) (es : List Event)
+pub free_plain : (h : ℕ) (far new : FarState) (r : Reply) (es : List Access)
     → FreeRule h far new r es → TellsNoLack r
 free_plain h far new r es a = by (state_of a.reply.word) a.reply.word a.reply.answer
   where
@@ -237,7 +237,7 @@ pub free_far : (w h : ℕ) (r : Reply) (far new : FarState) → FreeFar w h r fa
 free_far w h (answer.Version n) far new x = leaves_place (state_of w) far new h x
 free_far w h r far new x = same_census far new x
 
-pub filter_plain : (frames h : ℕ) (far new : FarState) (r : Reply) (es : List Event)
+pub filter_plain : (frames h : ℕ) (far new : FarState) (r : Reply) (es : List Access)
     → FilterRule frames h far new r es → StaysPlain far new r
 filter_plain frames h far new r es a = by (state_of a.word) a.word a.answer
   where
@@ -260,7 +260,7 @@ filter_plain frames h far new r es a = by (state_of a.word) a.word a.answer
     by word.Moving w (e, same) = stays far new r answer.Moving refl e same
 
 -- ---- evictions
-pub evict_plain : (c : Config) (far new : FarState) (r : Reply) (es : List Event)
+pub evict_plain : (c : Config) (far new : FarState) (r : Reply) (es : List Access)
     → EvictRule far new r es → StaysPlain far new r
 evict_plain c far new r es a = by a.answered
   where
@@ -271,7 +271,7 @@ evict_plain c far new r es a = by a.answered
     by (inr (inr x)) = comes far new _ r _ refl x.reply x.evicted.state refl
 
 begins_plain : (far new : FarState) (made : Bool) (so : List (List ℕ) → Type 0) (r : Reply)
-    (es : List Event) → BeginsBy far new made so r es → StaysPlain far new r
+    (es : List Access) → BeginsBy far new made so r es → StaysPlain far new r
 begins_plain far new made so r es (inl a) = stays far new r _ refl a.reply a.state
 begins_plain far new made so r es (inr a) = by a.answered
   where
@@ -281,11 +281,11 @@ begins_plain far new made so r es (inr a) = by a.answered
     by (inr (inl x)) = stays far new r _ refl x.reply x.state
     by (inr (inr x)) = comes far new _ r _ refl x.reply x.begun.state refl
 
-pub begin_plain : (c : Config) (far new : FarState) (r : Reply) (es : List Event)
+pub begin_plain : (c : Config) (far new : FarState) (r : Reply) (es : List Access)
     → BeginRule far new r es → StaysPlain far new r
 begin_plain c far new r es x = begins_plain far new true (λ rows. Unit {0}) r es x
 
-pub gather_plain : (far new : FarState) (g : Gathered) (es : List Event) → GatherRule far new g es
+pub gather_plain : (far new : FarState) (g : Gathered) (es : List Access) → GatherRule far new g es
     → StaysPlain far new (gathered_reply g)
 gather_plain far new g es x =
     begins_plain far new false (HandsOut far g) (gathered_reply g) es x
@@ -302,7 +302,7 @@ install_plain far new r (Some (Encode o)) keeps x = elim x [
   | inr (inr z) ↦ comes far new _ r answer.Done refl z.0.reply z.0.state refl
 ]
 
-pub ship_plain : (far new : FarState) (r : Reply) (es : List Event) → ShipRule far new r es
+pub ship_plain : (far new : FarState) (r : Reply) (es : List Access) → ShipRule far new r es
     → StaysPlain far new r
 ship_plain far new r es a = elim a.ships [
   | inl x ↦ stays far new r answer.NoBatch refl x.reply x.state
@@ -311,7 +311,7 @@ ship_plain far new r es a = elim a.ships [
   | inr (inr (inr x)) ↦ comes far new _ r (answer.Shipped x.position) refl x.reply x.state refl
 ]
 
-pub commit_plain : (far new : FarState) (r : Reply) (es : List Event) → CommitRule far new r es
+pub commit_plain : (far new : FarState) (r : Reply) (es : List Access) → CommitRule far new r es
     → StaysPlain far new r
 commit_plain far new r es a = by a.answered
   where
@@ -320,7 +320,7 @@ commit_plain far new r es a = by a.answered
     by (inr (inl x)) = stays far new r _ refl x.reply x.state
     by (inr (inr x)) = comes far new _ r _ refl x.reply x.state refl
 
-pub abort_plain : (far new : FarState) (r : Reply) (es : List Event) → AbortRule far new r es
+pub abort_plain : (far new : FarState) (r : Reply) (es : List Access) → AbortRule far new r es
     → StaysPlain far new r
 abort_plain far new r es a = by a.answered
   where
@@ -352,12 +352,12 @@ compact_unworn far new r (inr (inl x)) = ap is_worn x.reply
 compact_unworn far new r (inr (inr x)) = pair_ends x.stepped new r x.ends
 
 -- ---- a position that is brought in
-pub brings_census : (n : ℕ) (far new : FarState) (id p : ℕ) (set : SetState) (es : List Event)
+pub brings_census : (n : ℕ) (far new : FarState) (id p : ℕ) (set : SetState) (es : List Access)
     (r : Reply) → BringsFar n far new id p set es r → SameCensus far new
 brings_census n far new id p set es (answer.Swapped f) x = ap census x.0.rest
 brings_census n far new id p set es r x = ap census x.0
 
-pub brings_kinds : (n : ℕ) (far new : FarState) (id p : ℕ) (set : SetState) (es : List Event)
+pub brings_kinds : (n : ℕ) (far new : FarState) (id p : ℕ) (set : SetState) (es : List Access)
     (r : Reply) → BringsFar n far new id p set es r → new.counts.by_job ≡ far.counts.by_job
 brings_kinds n far new id p set es (answer.Swapped f) x =
     ap (λ (q : FarState). q.counts.by_job) x.0.rest
@@ -380,7 +380,7 @@ fetch_told P rows far new id p set (Answer r) gone near x =
     by false whole = near
 
 -- ---- a write that is declined
-pub declined_plain : (h at count : ℕ) (far : FarState) (r : Reply) (es : List Event)
+pub declined_plain : (h at count : ℕ) (far : FarState) (r : Reply) (es : List Access)
     → IsDeclined h at count far (Some r) es → TellsNoLack r
 declined_plain h at count far r es (inl (gone, none, nothing)) = absurd (none-some r (sym none))
 declined_plain h at count far r es (inr (stays, (w, v, found, far_word, told, last, is))) =

@@ -22,7 +22,7 @@ use Rattle.cb_model.specs.Event.Subject.{Contents}
 use Rattle.cb_model.specs.Called.{Called, makes, value}
 use Rattle.cb_model.specs.Now.{MapNow}
 use Rattle.cb_model.specs.Replies.{MapReplies}
-use Rattle.cb_world.specs.declared.seats.Pin.{Pin}
+use Rattle.cb_world.specs.declared.seats.SeatPin.{SeatPin}
 use Rattle.cb_world.specs.declared.shown.Shown.{Shown}
 use Rattle.cb_world.specs.FarState.{FarState}
 use Rattle.cb_world.specs.Memory.{bytes_in}
@@ -260,15 +260,15 @@ pinned_here : (w : WorldState) (seat at h : ℕ) → IsSoundWorld w → seat < 6
 pinned_here w seat at h sound lt n =
     (sound.pinned.here h below (pin_counts w.desk w.seats seat at h sound.pinned lt n below)).0
   where
-    pins : List Pin
+    pins : List SeatPin
     pins = pins_of_seat w.seats seat
 
     below : h < length w.desk.words
     below = subst (λ (y : ℕ). y < length w.desk.words)
-        (ap (λ (p : Pin). p.handle) (get_or_from_slice_get pins at n.pin n.pin n.there) ∙ n.on)
-        (All-get_or (λ (y : Pin). y.handle < length w.desk.words) pins at n.pin
+        (ap (λ (p : SeatPin). p.handle) (get_or_from_slice_get pins at n.pin n.pin n.there) ∙ n.on)
+        (All-get_or (λ (y : SeatPin). y.handle < length w.desk.words) pins at n.pin
         (slice_get_within pins at n.pin n.there)
-        (All-get_or (λ (x : SeatState). (k : ℕ) (d : Pin) → k < length x.pins
+        (All-get_or (λ (x : SeatState). (k : ℕ) (d : SeatPin) → k < length x.pins
         → (get_or x.pins k d).handle < length w.desk.words)
         w.seats seat idle_seat (omega (arith, lt, sound.pinned.count)) sound.pinned.known))
 
@@ -334,7 +334,7 @@ taken_pin before claims h v bytes w new c far same is = record {
 }
 
 -- other pins of a seat are no other open writes
-pins_stay : (w new : WorldState) (seat : ℕ) (pins : List Pin)
+pins_stay : (w new : WorldState) (seat : ℕ) (pins : List SeatPin)
     → new.seats ≡ with_pins w.seats seat pins → SameClaims w new
 pins_stay w new seat pins seats h = ap (λ (l : List SeatState). claim_on l h) seats
     ∙ claim_set w.seats seat (record (seat_at w.seats seat) { pins = pins }) h refl

@@ -16,7 +16,7 @@ use Rattle.cb_types.specs.declared.reply.Reply.TheVariants as answer
 use Rattle.cb_types.specs.Orders.{IsEncodable}
 use Rattle.cb_gf256.specs.InRange.{IsInRange}
 use Rattle.cb_world.specs.declared.homes.Home.{Home}
-use Rattle.cb_world.specs.declared.seats.Pin.{Pin}
+use Rattle.cb_world.specs.declared.seats.SeatPin.{SeatPin}
 use Rattle.cb_world.specs.declared.shown.Shown.{Shown}
 use Rattle.cb_world.specs.FarState.{FarState}
 use Rattle.cb_world.specs.Orders.{KeepsOrder}
@@ -360,7 +360,7 @@ seat_fixed seat job w a b r q sound (ordered keeps needs none x s) (ordered also
 
 -- ---- a pin and its end
 -- the newest pin on an object is one
-pub newest_fixed : (pins : List Pin) (h i j : ℕ) → IsNewestOf pins h i → IsNewestOf pins h j → i ≡ j
+pub newest_fixed : (pins : List SeatPin) (h i j : ℕ) → IsNewestOf pins h i → IsNewestOf pins h j → i ≡ j
 newest_fixed pins h i j x y = elim (cases_order i j) [
   | inl e ↦ e
   | inr apart ↦ elim apart [

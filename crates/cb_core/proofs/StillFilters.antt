@@ -2,8 +2,8 @@
 use Rattle.std.proofs.Common.{ℕ, ◌+◌, List, [], ◌∷◌, set, refl, sym, subst, inl, inr}
 use Rattle.cb_ptr.specs.Word.{hot_of}
 use Rattle.cb_types.specs.declared.config.Config.{Config}
-use Rattle.cb_world.specs.declared.event.Event.{Event}
-use Rattle.cb_world.specs.declared.event.Event.TheVariants.{Looked, Claimed, Told, Loaded, Stored, Stamped, Settled}
+use Rattle.cb_world.specs.declared.access.Access.{Access}
+use Rattle.cb_world.specs.declared.access.Access.TheVariants.{Looked, Claimed, Told, Loaded, Stored, Stamped, Settled}
 use Rattle.cb_world.specs.Grasped.{IsFree}
 use Rattle.cb_world.specs.Looks.{NoLook, IsFound, IsTaken, LooksFirst}
 use Rattle.cb_world.specs.Plain.{Words, Plain}
@@ -39,7 +39,7 @@ filter_part c seats h a b r good p =
 
 -- ---- want of memory
 -- an object that was claimed was found free
-claim_free : (es : List Event) (x y : Words) (h v : ℕ) (words : List ℕ) → Plain x es y
+claim_free : (es : List Access) (x y : Words) (h v : ℕ) (words : List ℕ) → Plain x es y
     → LooksFirst es → IsTaken h v words es → (w : ℕ) × IsFound h w es × IsFree w
 claim_free [] x y h v words run first taken = absurd taken
 claim_free (Looked k u ∷ es) x y h v words run first taken =

@@ -1,6 +1,6 @@
 -- What an operation over the still desk leaves of orders, for who knows all before and behind.
 use Rattle.std.proofs.Common.{List, sym, ◌∙◌}
-use Rattle.cb_world.specs.declared.event.Event.{Event}
+use Rattle.cb_world.specs.declared.access.Access.{Access}
 use Rattle.cb_world.specs.declared.shown.Shown.{Shown}
 use Rattle.cb_world.specs.FarState.{FarState}
 use Rattle.cb_world.specs.Orders.{LeavesOrders, LeavesWords}
@@ -13,7 +13,7 @@ use Rattle.cb_core.specs.Parts.{Holding}
 use Rattle.cb_core.proofs.WordsTold.{KeepsBatch}
 
 -- what the still desk runs and shows
-abbrev pub Ran : Words → List Event → Words → Type 0
+abbrev pub Ran : Words → List Access → Words → Type 0
 Ran x es y = Plain x es y × (IsSized x → IsSized y)
 
 abbrev pub SaysAll : Words → Shown → Type 0
@@ -30,7 +30,7 @@ pub known_alike : (y : Words) (far : FarState) (s t : Shown) → IsKnown y far s
 known_alike y far s t k l = same_orders s t far (l.shows.memory ∙ sym k.shows.memory)
 
 -- an operation at the desk
-pub performs_orders : {rules : List Event → Type 0} {does : List Event → Shown → Shown → Type 0}
+pub performs_orders : {rules : List Access → Type 0} {does : List Access → Shown → Shown → Type 0}
     (a b : Holding Words) → (p : PerformsStill a.desk b.desk a.far b.far rules does)
     → ((s : Shown) → IsKnown a.desk a.far s → LeavesWords a.far b.far)
     → KeepsBatch a.far b.far p.events does → FindsKept a b

@@ -5,7 +5,7 @@ use Rattle.cb_types.specs.declared.config.Config.{Config}
 use Rattle.cb_types.specs.Config.{IsAccepted}
 use Rattle.cb_types.specs.declared.reply.Reply.{Reply}
 use Rattle.cb_types.specs.declared.reply.Reply.TheVariants as answer
-use Rattle.cb_world.specs.declared.event.Event.{Event}
+use Rattle.cb_world.specs.declared.access.Access.{Access}
 use Rattle.cb_world.specs.declared.object.Object.{Object}
 use Rattle.cb_world.specs.declared.shown.Shown.{Shown}
 use Rattle.cb_world.specs.FarState.{FarState}
@@ -55,8 +55,8 @@ use Rattle.cb_core.proofs.WordsOwned.{evict_words, free_words, make_words, read_
 use Rattle.cb_core.proofs.WordsTold.{by_words, far_orders}
 
 -- an operation that leaves the far state
-without_far : (x y : Words) (far new : FarState) (rules : List Event → Type 0)
-    (does : List Event → Shown → Shown → Type 0)
+without_far : (x y : Words) (far new : FarState) (rules : List Access → Type 0)
+    (does : List Access → Shown → Shown → Type 0)
     → PerformsStill x y far new (λ es. (new ≡ far) × rules es) does
     → PerformsStill x y far new rules does
 without_far x y far new rules does p = record {
@@ -210,7 +210,7 @@ find_part c seats h a b r good p =
     x : Words
     x = a.desk
 
-    rules : List Event → Type 0
+    rules : List Access → Type 0
     rules es = Answered (λ w. r ≡ answer.Stays) h es r
 
     q : PerformsStill a.desk b.desk a.far b.far rules IsStill

@@ -14,7 +14,7 @@ use Rattle.cb_member.specs.declared.names.Loss.{Loss}
 use Rattle.cb_types.specs.declared.handle.SetId.{SetId}
 use Rattle.cb_types.specs.declared.reply.Reply.{Reply}
 use Rattle.cb_types.specs.declared.reply.Reply.TheVariants as answer
-use Rattle.cb_world.specs.declared.event.Event.{Event}
+use Rattle.cb_world.specs.declared.access.Access.{Access}
 use Rattle.cb_world.specs.declared.shown.Shown.{Shown}
 use Rattle.cb_world.specs.FarState.{FarState, span_in}
 use Rattle.cb_world.specs.FarSound.{rows_in}
@@ -92,7 +92,7 @@ beside ms f pages g more p row long off from to =
     side (inr more) = inr (let w = length_words (length row / 8) row in
         omega (arith, more, from, w, long))
 
-swapped_rows : (id p f : ℕ) (set : SetState) (s t : Shown) (far new : FarState) (es : List Event)
+swapped_rows : (id p f : ℕ) (set : SetState) (s t : Shown) (far new : FarState) (es : List Access)
     → Sound s far → Sound t new → LeavesWords far new → set_in far.sets id ≡ Some set
     → live_at set p ≡ true → least_run far.frames set.pages ≡ Some f
     → IsSwappedIn id p f far new es s t → KeepsRows s far t new
@@ -110,7 +110,7 @@ swapped_rows id p f set s t far new es before behind leaves there live least x =
 
 -- by the reply
 pub swap_rows : (id p : ℕ) (set : SetState) (s t : Shown)
-    (far new : FarState) (r : Reply) (es : List Event)
+    (far new : FarState) (r : Reply) (es : List Access)
     → Sound s far → Sound t new → LeavesWords far new → set_in far.sets id ≡ Some set
     → live_at set p ≡ true → r ≡ swap_answer far id set → SwapEffect id p far new r es s t
     → KeepsRows s far t new

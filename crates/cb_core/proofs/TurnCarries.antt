@@ -8,7 +8,7 @@ use Rattle.cb_types.specs.declared.reply.Reply.{Reply}
 use Rattle.cb_types.specs.declared.reply.Reply.TheVariants as answer
 use Rattle.cb_ptr.specs.Word.{len_of}
 use Rattle.cb_world.specs.declared.entry.Entry.{Entry}
-use Rattle.cb_world.specs.declared.event.Event.{Event}
+use Rattle.cb_world.specs.declared.access.Access.{Access}
 use Rattle.cb_world.specs.declared.shown.Shown.{Shown}
 use Rattle.cb_world.specs.FarState.{FarState}
 use Rattle.cb_world.specs.Homes.{home_at}
@@ -53,14 +53,14 @@ use Rattle.cb_core.proofs.FarJobs.{StaysSound, far_job, note_of}
 use Rattle.cb_core.proofs.TurnComes.{AreLaws, CarriesWrites, CarriesNoWrites, Comes, ComesBy, Good, WritesNothing, IsQuietReply, Nil, comes_by, comes_far, comes_more, comes_none, then_none, good_then, with_room, room_stops, where_it_is, brings_in, call_stops, once_here, once_here_stops}
 
 -- ---- what the calls write
-make_writes : (bytes : List ℕ) (far new : FarState) (r : Reply) (es : List Event) (s t : Shown)
+make_writes : (bytes : List ℕ) (far new : FarState) (r : Reply) (es : List Access) (s t : Shown)
     → MakeEffect bytes far new r es s t → (more : List Entry) × MakeWrites bytes r more
     × Writes es s more
 make_writes bytes far new (answer.Made h v) es s t x =
     (entry h.n v (length bytes) [] x.make.words ∷ [], (x.make.words, x.make.packed, refl), x.one)
 make_writes bytes far new r es s t x = ([], refl, x.nothing)
 
-write_writes : (h at : ℕ) (bytes : List ℕ) (r : Reply) (es : List Event) (s t : Shown)
+write_writes : (h at : ℕ) (bytes : List ℕ) (r : Reply) (es : List Access) (s t : Shown)
     → WriteEffect h at bytes r es s t → (more : List Entry) × WriteWrites h at bytes r more
     × Writes es s more
 write_writes h at bytes (answer.Version n) es s t x = (
@@ -70,7 +70,7 @@ write_writes h at bytes (answer.Version n) es s t x = (
 )
 write_writes h at bytes r es s t x = ([], refl, x.nothing)
 
-free_writes : (h : ℕ) (r : Reply) (es : List Event) (s t : Shown) → FreeEffect h r es s t
+free_writes : (h : ℕ) (r : Reply) (es : List Access) (s t : Shown) → FreeEffect h r es s t
     → (more : List Entry) × FreeWrites h r more × Writes es s more
 free_writes h (answer.Version n) es s t x = (gone h n x.words ∷ [], (x.words, refl), x.one)
 free_writes h r es s t x = ([], refl, x.nothing)
@@ -95,7 +95,7 @@ refused_none h at bytes len version count r e =
     by false false f = absurd (none_some r f)
 
 declined_none : (h at : ℕ) (bytes : List ℕ) (count : ℕ) (far : FarState) (r : Reply)
-    (es : List Event) → IsDeclined h at count far (Some r) es → WriteWrites h at bytes r []
+    (es : List Access) → IsDeclined h at count far (Some r) es → WriteWrites h at bytes r []
 declined_none h at bytes count far r es (inl (gone, none, nothing)) = absurd (some_none none)
   where
     some_none : Some r ≡ None → ⊥
@@ -104,7 +104,7 @@ declined_none h at bytes count far r es (inr (stays, (w, v, found, far_word, tol
     refused_none h at bytes (len_of w) v count r is
 
 swap_none : (h at : ℕ) (bytes : List ℕ) (id p : ℕ) (far new : FarState) (r : Reply)
-    (es : List Event) → SwapRule id p far new r es → WriteWrites h at bytes r []
+    (es : List Access) → SwapRule id p far new r es → WriteWrites h at bytes r []
 swap_none h at bytes id p far new r es rule =
     subst (λ (q : Reply). WriteWrites h at bytes q []) (sym rule.reply)
     (by_answer (λ (q : Reply). WriteWrites h at bytes q []) far id rule.set (λ e. refl)
@@ -123,7 +123,7 @@ write_quiet h at bytes = record { none = λ more e. e; some = refl }
 pub same_leaves : (far new : FarState) → new ≡ far → LeavesWords far new
 same_leaves far new same = subst (LeavesWords far) (sym same) (words_stay far)
 
-pub still_rows : (far new : FarState) (es : List Event) → KeepsBatch far new es IsStill
+pub still_rows : (far new : FarState) (es : List Access) → KeepsBatch far new es IsStill
 still_rows far new es = by_words far new es IsStill (still_words far new es)
 
 -- the position of a home is live
@@ -134,7 +134,7 @@ live_in_set s far h home set sound at there = let x = live_home s far h home sou
     subst (λ (c : SetState). live_at c home.position ≡ true)
     (same_Some x.0 set (sym x.1 ∙ there)) x.2
 
-module _ {D : Type 0} (run : D → List Event → D → Type 0) (shows : D → Shown → Type 0)
+module _ {D : Type 0} (run : D → List Access → D → Type 0) (shows : D → Shown → Type 0)
     (laws : AreLaws run shows) (c : Config) (accepted : IsAccepted c) where
   abbrev Hold : Type 0
   Hold = Holding D

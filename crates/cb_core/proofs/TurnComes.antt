@@ -4,7 +4,7 @@ use Rattle.cb_types.specs.declared.config.Config.{Config}
 use Rattle.cb_types.specs.declared.reply.Reply.{Reply}
 use Rattle.cb_types.specs.declared.reply.Reply.TheVariants as answer
 use Rattle.cb_world.specs.declared.entry.Entry.{Entry}
-use Rattle.cb_world.specs.declared.event.Event.{Event}
+use Rattle.cb_world.specs.declared.access.Access.{Access}
 use Rattle.cb_world.specs.declared.shown.Shown.{Shown}
 use Rattle.cb_world.specs.FarState.{FarState}
 use Rattle.cb_world.specs.Performs.{Performs}
@@ -48,10 +48,10 @@ pub record Good {D : Type 0} (shows : D → Shown → Type 0) (c : Config) (a : 
 -- what a part comes to: events of the desk, a far state that is configured, has no other code and
 -- whose numbers rose by at most n, which does so to what is noted of a search for a pair, sound where
 -- it was, and these versions
-pub record ComesBy (N : FarState → FarState → Type 0) {D : Type 0} (run : D → List Event → D → Type 0)
+pub record ComesBy (N : FarState → FarState → Type 0) {D : Type 0} (run : D → List Access → D → Type 0)
     (shows : D → Shown → Type 0) (c : Config) (n : ℕ) (W : List Entry → Type 0) (a b : Holding D)
     : Type 0 where
-  pub events : List Event
+  pub events : List Access
   pub ran : run a.desk events b.desk
   pub configured : IsConfigured c b.far
   pub codes : KeepCodes a.far b.far
@@ -59,20 +59,20 @@ pub record ComesBy (N : FarState → FarState → Type 0) {D : Type 0} (run : D 
   pub after : (s : Shown) → shows a.desk s → Sound s a.far → SoundAfter events s a.far b.far W
 
 -- by a part that looks for no pair
-abbrev pub Comes : {D : Type 0} → (D → List Event → D → Type 0) → (D → Shown → Type 0) → Config → ℕ
+abbrev pub Comes : {D : Type 0} → (D → List Access → D → Type 0) → (D → Shown → Type 0) → Config → ℕ
     → (List Entry → Type 0) → Holding D → Holding D → Type 0
 Comes = ComesBy KeepsNote
 
 -- the laws of a desk's relations that are used here
-pub record AreLaws {D : Type 0} (run : D → List Event → D → Type 0) (shows : D → Shown → Type 0)
+pub record AreLaws {D : Type 0} (run : D → List Access → D → Type 0) (shows : D → Shown → Type 0)
     : Type 0 where
   pub none : (d : D) → run d [] d
-  pub more : (d e f : D) (es fs : List Event) → run d es e → run e fs f → run d (es ++ fs) f
-  pub follows : (d e : D) (es : List Event) (s : Shown) → run d es e → shows d s
+  pub more : (d e f : D) (es fs : List Access) → run d es e → run e fs f → run d (es ++ fs) f
+  pub follows : (d e : D) (es : List Access) (s : Shown) → run d es e → shows d s
       → shows e (played es s)
-  pub agrees : (d e : D) (es : List Event) (s : Shown) → run d es e → shows d s → Agree s es
+  pub agrees : (d e : D) (es : List Access) (s : Shown) → run d es e → shows d s → Agree s es
 
-module _ {D : Type 0} (run : D → List Event → D → Type 0) (shows : D → Shown → Type 0)
+module _ {D : Type 0} (run : D → List Access → D → Type 0) (shows : D → Shown → Type 0)
     (laws : AreLaws run shows) (c : Config) where
   abbrev Hold : Type 0
   Hold = Holding D
@@ -90,7 +90,7 @@ module _ {D : Type 0} (run : D → List Event → D → Type 0) (shows : D → S
 
   -- ---- one part after another
   after_then : (V W X : List Entry → Type 0) → ((x y : List Entry) → V x → W y → X (y ++ x))
-      → (es fs : List Event) (s : Shown) (far mid new : FarState) → SoundAfter es s far mid V
+      → (es fs : List Access) (s : Shown) (far mid new : FarState) → SoundAfter es s far mid V
       → SoundAfter fs (played es s) mid new W → SoundAfter (es ++ fs) s far new X
   after_then V W X f es fs s far mid new p q = record {
     sound = subst (λ (t : Shown). Sound t new) (sym (played_append es fs s)) q.sound;
@@ -153,8 +153,8 @@ module _ {D : Type 0} (run : D → List Event → D → Type 0) (shows : D → S
 
   -- ---- a part
   -- an operation at the desk
-  pub comes_by : (W : List Entry → Type 0) (n : ℕ) (a b : Hold) (rules : List Event → Type 0)
-      (does : List Event → Shown → Shown → Type 0) → Good shows c a
+  pub comes_by : (W : List Entry → Type 0) (n : ℕ) (a b : Hold) (rules : List Access → Type 0)
+      (does : List Access → Shown → Shown → Type 0) → Good shows c a
       → ((s : Shown) → Sound s a.far → StaysIf c n a.far b.far)
       → ((s : Shown) → shows a.desk s → Sound s a.far → LeavesWords a.far b.far)
       → (p : Performs (λ es. run a.desk es b.desk) (λ s. shows a.desk s × Sound s a.far) rules
@@ -182,8 +182,8 @@ module _ {D : Type 0} (run : D → List Event → D → Type 0) (shows : D → S
       }
 
   -- one that writes nothing
-  pub comes_none : (n : ℕ) (a b : Hold) (rules : List Event → Type 0)
-      (does : List Event → Shown → Shown → Type 0) → Good shows c a
+  pub comes_none : (n : ℕ) (a b : Hold) (rules : List Access → Type 0)
+      (does : List Access → Shown → Shown → Type 0) → Good shows c a
       → ((s : Shown) → Sound s a.far → StaysIf c n a.far b.far)
       → ((s : Shown) → shows a.desk s → Sound s a.far → LeavesWords a.far b.far)
       → (p : Performs (λ es. run a.desk es b.desk) (λ s. shows a.desk s × Sound s a.far) rules

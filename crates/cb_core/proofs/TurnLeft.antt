@@ -11,7 +11,7 @@ use Rattle.cb_types.specs.declared.job.Job.TheVariants.{Make, Read, Write, Free}
 use Rattle.cb_types.specs.declared.reply.Reply.{Reply}
 use Rattle.cb_types.specs.declared.reply.Reply.TheVariants as answer
 use Rattle.cb_world.specs.declared.entry.Entry.{Entry}
-use Rattle.cb_world.specs.declared.event.Event.{Event}
+use Rattle.cb_world.specs.declared.access.Access.{Access}
 use Rattle.cb_world.specs.declared.shown.Shown.{Shown}
 use Rattle.cb_world.specs.FarState.{FarState}
 use Rattle.cb_world.specs.Orders.{IsOrderKept}
@@ -36,10 +36,10 @@ use Rattle.cb_core.proofs.TurnCarries.{come_lacks, comes_in, does_comes, in_job,
 use Rattle.cb_core.proofs.TurnComes.{AreLaws, CarriesNoWrites, CarriesWrites, ComesBy, Good, Nil, WritesNothing}
 
 -- those of a desk
-pub laws_of : {D : Type 0} → (run : D → List Event → D → Type 0) → (shows : D → Shown → Type 0)
+pub laws_of : {D : Type 0} → (run : D → List Access → D → Type 0) → (shows : D → Shown → Type 0)
     → ((d : D) → run d [] d)
-    → ((d e f : D) (es fs : List Event) → run d es e → run e fs f → run d (es ++ fs) f)
-    → ((d e : D) (es : List Event) (s : Shown) → run d es e → shows d s
+    → ((d e f : D) (es fs : List Access) → run d es e → run e fs f → run d (es ++ fs) f)
+    → ((d e : D) (es : List Access) (s : Shown) → run d es e → shows d s
     → Agree s es × shows e (played es s))
     → AreLaws run shows
 laws_of run shows none more follows = record {
@@ -56,7 +56,7 @@ worn_none (Write handle at bytes) = refl
 worn_none (Free handle) = refl
 worn_none job = refl
 
-module _ {D : Type 0} (run : D → List Event → D → Type 0) (shows : D → Shown → Type 0)
+module _ {D : Type 0} (run : D → List Access → D → Type 0) (shows : D → Shown → Type 0)
     (laws : AreLaws run shows) (c : Config) (accepted : IsAccepted c) where
   abbrev Hold : Type 0
   Hold = Holding D

@@ -12,7 +12,7 @@ use Rattle.cb_types.specs.declared.job.Job.{Job}
 use Rattle.cb_types.specs.declared.job.Job.TheVariants as job
 use Rattle.cb_types.specs.declared.reply.Reply.{Reply}
 use Rattle.cb_types.specs.declared.reply.Reply.TheVariants as answer
-use Rattle.cb_world.specs.declared.event.Event.{Event}
+use Rattle.cb_world.specs.declared.access.Access.{Access}
 use Rattle.cb_world.specs.declared.shown.Shown.{Shown}
 use Rattle.cb_world.specs.FarState.{FarState}
 use Rattle.cb_world.specs.Looks.{LooksFirst, told_by}
@@ -81,8 +81,8 @@ tells_each far h r id l (whole_there there never) lost =
     absurd (false≢true (sym there ∙ gone_is far h id l (in_far far h id l lost)))
 
 -- ---- by parts
-module _ {D : Type 0} (run : D → List Event → D → Type 0) (shows : D → Shown → Type 0)
-    (follows : (d e : D) (es : List Event) (s : Shown) → run d es e → shows d s
+module _ {D : Type 0} (run : D → List Access → D → Type 0) (shows : D → Shown → Type 0)
+    (follows : (d e : D) (es : List Access) (s : Shown) → run d es e → shows d s
     → Agree s es × shows e (played es s)) (c : Config) where
   abbrev Hold : Type 0
   Hold = Holding D
@@ -124,7 +124,7 @@ module _ {D : Type 0} (run : D → List Event → D → Type 0) (shows : D → S
   full_same a m h (home, at, x) = (
     there (swap_tells a m h answer.NoFrame (home, at, x)),
     x.rule.state.0,
-    subst (λ (es : List Event). run a.desk es m.desk) x.rule.state.1 x.ran,
+    subst (λ (es : List Access). run a.desk es m.desk) x.rule.state.1 x.ran,
   )
     where
       there : Tells a.far h answer.NoFrame → is_gone a.far h ≡ false
@@ -168,7 +168,7 @@ module _ {D : Type 0} (run : D → List Event → D → Type 0) (shows : D → S
   bring_tells a b h r good bring = tells_behind h most_evictions a b r good bring
 
   -- a call on an object that is gone is answered that it is not here
-  gone_far : (a : Hold) (h : ℕ) (near_as : ℕ → Type 0) (r : Reply) (es : List Event) (e : D) → Good a
+  gone_far : (a : Hold) (h : ℕ) (near_as : ℕ → Type 0) (r : Reply) (es : List Access) (e : D) → Good a
       → run a.desk es e → LooksFirst es
       → AnsweredByLook (λ w. AnsweredAs (state_of w) near_as w h es r) h es → is_gone a.far h ≡ true
       → r ≡ answer.NotHere
@@ -179,7 +179,7 @@ module _ {D : Type 0} (run : D → List Event → D → Type 0) (shows : D → S
       subst (λ (q : State). AnsweredAs q near_as x.word h es r) far x.answer
 
   -- so where it is answered otherwise, the object is not gone
-  near_whole : (a : Hold) (h : ℕ) (near_as : ℕ → Type 0) (r : Reply) (es : List Event) (e : D) → Good a
+  near_whole : (a : Hold) (h : ℕ) (near_as : ℕ → Type 0) (r : Reply) (es : List Access) (e : D) → Good a
       → run a.desk es e → LooksFirst es
       → AnsweredByLook (λ w. AnsweredAs (state_of w) near_as w h es r) h es
       → (r ≡ answer.NotHere → ⊥)
@@ -191,7 +191,7 @@ module _ {D : Type 0} (run : D → List Event → D → Type 0) (shows : D → S
       by true gone = absurd (never (gone_far a h near_as r es e good ran first x gone))
 
   -- all that is known after a part that leaves the far state
-  good_after : (a m : Hold) (es : List Event) (s : Shown) → shows a.desk s → run a.desk es m.desk
+  good_after : (a m : Hold) (es : List Access) (s : Shown) → shows a.desk s → run a.desk es m.desk
       → Sound (played es s) m.far → Good m
   good_after a m es s shown ran sound =
       (played es s, (follows a.desk m.desk es s ran shown).1, sound)

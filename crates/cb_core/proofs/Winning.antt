@@ -10,7 +10,7 @@ use Rattle.cb_types.specs.Config.{IsAccepted}
 use Rattle.cb_types.specs.declared.handle.SetId.{SetId}
 use Rattle.cb_types.specs.declared.reply.Reply.{Reply}
 use Rattle.cb_types.specs.declared.reply.Reply.TheVariants as answer
-use Rattle.cb_world.specs.declared.event.Event.{Event}
+use Rattle.cb_world.specs.declared.access.Access.{Access}
 use Rattle.cb_world.specs.declared.homes.Home.{Home}
 use Rattle.cb_world.specs.declared.shown.Shown.{Shown}
 use Rattle.cb_world.specs.FarState.{FarState}
@@ -24,7 +24,7 @@ use Rattle.cb_core.specs.Turned.{EvictLacks, TriesRoom, WinsRoom}
 use Rattle.cb_core.proofs.Composing.{IsSoundShown, shown_after}
 use Rattle.cb_core.proofs.PartsFar.{HasWon, has_won, span_count}
 
-module _ {D : Type 0} (run : D → List Event → D → Type 0) (shows : D → Shown → Type 0)
+module _ {D : Type 0} (run : D → List Access → D → Type 0) (shows : D → Shown → Type 0)
     (settings : D → Config) (c : Config) (P : Holding D → Reply → Holding D → Type 0)
     (L : Holding D → Holding D → Type 0) where
   abbrev Goes : ℕ → Holding D → Reply → Holding D → Type 0
@@ -121,8 +121,8 @@ module _ {D : Type 0} (run : D → List Event → D → Type 0) (shows : D → S
             (no_room m why loose nodes crammed v (same_told _ e))
 
     -- spans left
-    pub wins_more : ((x y : D) (es : List Event) → run x es y → settings y ≡ settings x)
-        → ((x y : D) (es : List Event) (s : Shown) → run x es y → shows x s → shows y (played es s))
+    pub wins_more : ((x y : D) (es : List Access) → run x es y → settings y ≡ settings x)
+        → ((x y : D) (es : List Access) (s : Shown) → run x es y → shows x s → shows y (played es s))
         → IsAccepted c → settings m.desk ≡ c → m.far ≡ here.far
         → IsSoundShown (λ s. shows m.desk s) m.far → (n : Holding D) (refusal : Option Reply)
         → TriesRoom run shows c m refusal n → refusal ≡ None → IsWinning start n (made + 1)

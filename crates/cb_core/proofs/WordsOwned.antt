@@ -6,8 +6,8 @@ use Rattle.cb_ptr.specs.Word.{len_of, place_of}
 use Rattle.cb_types.specs.declared.handle.SetId.{SetId}
 use Rattle.cb_types.specs.declared.reply.Reply.{Reply}
 use Rattle.cb_types.specs.declared.reply.Reply.TheVariants as answer
-use Rattle.cb_world.specs.declared.event.Event.{Event}
-use Rattle.cb_world.specs.declared.event.Event.TheVariants.{Looked, Claimed, Told, Loaded, Stored, Stamped, Settled}
+use Rattle.cb_world.specs.declared.access.Access.{Access}
+use Rattle.cb_world.specs.declared.access.Access.TheVariants.{Looked, Claimed, Told, Loaded, Stored, Stamped, Settled}
 use Rattle.cb_world.specs.declared.object.Object.{Object}
 use Rattle.cb_world.specs.declared.object.Object.TheVariants as is
 use Rattle.cb_world.specs.declared.shown.Shown.{Shown}
@@ -32,18 +32,18 @@ use Rattle.cb_filter.specs.FilterEffect.{FilterChange, FilterEffect, IsMoved}
 use Rattle.cb_core.proofs.WordsTold.{KeepsWords, other_object, put_owned, told_kept, told_owned}
 
 -- ---- the object that was claimed
-not_seen : (h w : ℕ) (es : List Event) → NoLook h es → IsFound h w es → ⊥
+not_seen : (h w : ℕ) (es : List Access) → NoLook h es → IsFound h w es → ⊥
 not_seen h w [] none found = found
 not_seen h w (e ∷ es) none (inl found) = not_seen h w es none.1 found
 not_seen h w (e ∷ es) none (inr found) = none.0 w found.0
 
-not_taken : (h v : ℕ) (words : List ℕ) (es : List Event) → NoClaim es → IsTaken h v words es → ⊥
+not_taken : (h v : ℕ) (words : List ℕ) (es : List Access) → NoClaim es → IsTaken h v words es → ⊥
 not_taken h v words [] none taken = taken
 not_taken h v words (Claimed k w u xs ∷ es) none taken = none
 not_taken h v words (e ∷ es) none taken = not_taken h v words es none taken
 
 -- what was claimed was looked at
-taken_seen : (h v : ℕ) (words : List ℕ) (es : List Event) → IsTaken h v words es → NoLook h es → ⊥
+taken_seen : (h v : ℕ) (words : List ℕ) (es : List Access) → IsTaken h v words es → NoLook h es → ⊥
 taken_seen h v words [] taken none = taken
 taken_seen h v words (Claimed k w u xs ∷ es) (inl taken) none =
     taken_seen h v words es taken none.1
@@ -55,7 +55,7 @@ WasHere u h w words =
     (object_at u h ≡ is.Here (len_of w) (place_of w)) × (length words ≡ words_for (len_of w))
 
 -- it was here, at the word that the claim found
-pub taken_was : (es : List Event) (u : Shown) (h w v : ℕ) (words : List ℕ) → Agree u es
+pub taken_was : (es : List Access) (u : Shown) (h w v : ℕ) (words : List ℕ) → Agree u es
     → LooksFirst es → IsFound h w es → IsTaken h v words es → WasHere u h w words
 taken_was [] u h w v words agree first found taken = absurd taken
 taken_was (Looked k x ∷ es) u h w v words agree first (inl found) taken =
@@ -106,11 +106,11 @@ here_within s h len place here = elim (cases_lt h (length s.objects)) [
     never_here e = cc
 
 -- ---- operation by operation
-pub still_words : (far new : FarState) (es : List Event) → KeepsWords far new es IsStill
+pub still_words : (far new : FarState) (es : List Access) → KeepsWords far new es IsStill
 still_words far new es s before behind agree first x =
     told_owned es s (played es s) agree first x.memory
 
-made_words : (h v : ℕ) (bytes : List ℕ) (far new : FarState) (es : List Event)
+made_words : (h v : ℕ) (bytes : List ℕ) (far new : FarState) (es : List Access)
     → KeepsWords far new es (λ es s t. IsMade h v bytes far new es s t)
 made_words h v bytes far new es s before behind agree first x =
     let t = played es s in
@@ -125,21 +125,21 @@ made_words h v bytes far new es s before behind agree first x =
     ∙ get_or-set_same s.objects h (is.Here (length bytes) (place_in x.make.slot)) never within)
     x.make.packed.count x.memory (λ p owns. refl)
 
-pub make_words : (bytes : List ℕ) (far new : FarState) (r : Reply) (es : List Event)
+pub make_words : (bytes : List ℕ) (far new : FarState) (r : Reply) (es : List Access)
     → KeepsWords far new es (MakeEffect bytes far new r)
 make_words bytes far new (answer.Made h v) es s before behind agree first x =
     made_words h.n v bytes far new es s before behind agree first x
 make_words bytes far new r es s before behind agree first x =
     still_words far new es s before behind agree first x
 
-pub read_words : (h : ℕ) (far new : FarState) (r : Reply) (es : List Event)
+pub read_words : (h : ℕ) (far new : FarState) (r : Reply) (es : List Access)
     → KeepsWords far new es (ReadEffect h r)
 read_words h far new (answer.Bytes v bytes) es s before behind agree first x =
     told_owned es s (played es s) agree first x.memory
 read_words h far new r es s before behind agree first x =
     still_words far new es s before behind agree first x
 
-written_words : (h n at : ℕ) (bytes : List ℕ) (far new : FarState) (es : List Event)
+written_words : (h n at : ℕ) (bytes : List ℕ) (far new : FarState) (es : List Access)
     → KeepsWords far new es (λ es s t. IsWritten h n at bytes es s t)
 written_words h n at bytes far new es s before behind agree first x =
     let was = taken_was es s h x.word x.version x.words agree first x.found x.taken in
@@ -147,21 +147,21 @@ written_words h n at bytes far new es s before behind agree first x =
     (ap (λ (l : List Object). get_or l h never) x.objects ∙ was.0) (x.write.sized ∙ was.1) x.memory
     (λ p owns. told_kept es s p agree first owns)
 
-pub write_words : (h at : ℕ) (bytes : List ℕ) (far new : FarState) (r : Reply) (es : List Event)
+pub write_words : (h at : ℕ) (bytes : List ℕ) (far new : FarState) (r : Reply) (es : List Access)
     → KeepsWords far new es (WriteEffect h at bytes r)
 write_words h at bytes far new (answer.Version n) es s before behind agree first x =
     written_words h n at bytes far new es s before behind agree first x
 write_words h at bytes far new r es s before behind agree first x =
     still_words far new es s before behind agree first x
 
-pub free_words : (h : ℕ) (far new : FarState) (r : Reply) (es : List Event)
+pub free_words : (h : ℕ) (far new : FarState) (r : Reply) (es : List Access)
     → KeepsWords far new es (FreeEffect h r)
 free_words h far new (answer.Version n) es s before behind agree first x =
     told_owned es s (played es s) agree first x.memory
 free_words h far new r es s before behind agree first x =
     still_words far new es s before behind agree first x
 
-moved_words : (h : ℕ) (far new : FarState) (es : List Event)
+moved_words : (h : ℕ) (far new : FarState) (es : List Access)
     → KeepsWords far new es (λ es s t. IsMoved h far new es s t)
 moved_words h far new es s before behind agree first x =
     let was = taken_was es s h x.word x.version x.words agree first x.found x.taken in
@@ -171,7 +171,7 @@ moved_words h far new es s before behind agree first x =
     (here_within s h (len_of x.word) (place_of x.word) was.0)) was.1 x.memory
     (λ p owns. told_kept es s p agree first owns)
 
-filtered_words : (h : ℕ) (far new : FarState) (r : Reply) (es : List Event)
+filtered_words : (h : ℕ) (far new : FarState) (r : Reply) (es : List Access)
     → KeepsWords far new es (λ es s t. FilterChange h far new r es s t)
 filtered_words h far new answer.Moved es s before behind agree first x =
     moved_words h far new es s before behind agree first x
@@ -180,13 +180,13 @@ filtered_words h far new answer.Same es s before behind agree first x =
 filtered_words h far new r es s before behind agree first x =
     still_words far new es s before behind agree first x
 
-pub filter_words : (h : ℕ) (far new : FarState) (r : Reply) (es : List Event)
+pub filter_words : (h : ℕ) (far new : FarState) (r : Reply) (es : List Access)
     → KeepsWords far new es (FilterEffect h far new r)
 filter_words h far new r es s before behind agree first x =
     filtered_words h far new r es s before behind agree first x.change
 
 -- ---- spans that leave
-pub evict_words : (far new : FarState) (r : Reply) (es : List Event) → EvictRule far new r es
+pub evict_words : (far new : FarState) (r : Reply) (es : List Access) → EvictRule far new r es
     → KeepsWords far new es (EvictEffect far new r)
 evict_words far new r es rule s before behind agree first x = elim rule.answered [
   | inl few ↦ still_words far new es s before behind agree first
@@ -204,7 +204,7 @@ evict_words far new r es rule s before behind agree first x = elim rule.answered
     nodes_set n b q e f = cc
 
 pub begin_words : (far new : FarState) (made : Bool) (so : List (List ℕ) → Type 0) (r : Reply)
-    (es : List Event) → BeginsBy far new made so r es → KeepsWords far new es (BeginEffect far new r)
+    (es : List Access) → BeginsBy far new made so r es → KeepsWords far new es (BeginEffect far new r)
 begin_words far new made so r es (inl z) s before behind agree first x =
     still_words far new es s before behind agree first
     (x.left (λ id e. leaving_batch (record { n = z.batch.set }) id r z.reply e))
@@ -226,7 +226,7 @@ begin_words far new made so r es (inr z) s before behind agree first x = elim z.
     nodes_batch : (n : ℕ) (b : SetId) (q : Reply) → q ≡ answer.NoNodes n → q ≡ answer.Batch b → ⊥
     nodes_batch n b q e f = cc
 
-pub commit_words : (far new : FarState) (r : Reply) (es : List Event) → CommitRule far new r es
+pub commit_words : (far new : FarState) (r : Reply) (es : List Access) → CommitRule far new r es
     → KeepsWords far new es (CommitEffect far new r)
 commit_words far new r es rule s before behind agree first x = elim rule.answered [
   | inl none ↦ still_words far new es s before behind agree first
@@ -243,7 +243,7 @@ commit_words far new r es rule s before behind agree first x = elim rule.answere
     short_set : (ps : List ℕ) (b : SetId) (q : Reply) → q ≡ answer.Short ps → q ≡ answer.Set b → ⊥
     short_set ps b q e f = cc
 
-pub abort_words : (far new : FarState) (r : Reply) (es : List Event) → AbortRule far new r es
+pub abort_words : (far new : FarState) (r : Reply) (es : List Access) → AbortRule far new r es
     → KeepsWords far new es (AbortEffect far new)
 abort_words far new r es rule s before behind agree first x = elim rule.answered [
   | inl z ↦ still_words far new es s before behind agree first (x.left z.none)

@@ -5,8 +5,8 @@ use Rattle.std.proofs.lemmas.Bool.{cases_lt}
 use Rattle.std.specs.List.{Contains}
 use Rattle.cb_class.specs.Class.{pages_of}
 use Rattle.cb_ptr.specs.Word.{len_of, place_of}
-use Rattle.cb_world.specs.declared.event.Event.{Event}
-use Rattle.cb_world.specs.declared.event.Event.TheVariants.{Looked, Claimed, Told, Loaded, Stored, Stamped, Settled}
+use Rattle.cb_world.specs.declared.access.Access.{Access}
+use Rattle.cb_world.specs.declared.access.Access.TheVariants.{Looked, Claimed, Told, Loaded, Stored, Stamped, Settled}
 use Rattle.cb_world.specs.declared.object.Object.{Object}
 use Rattle.cb_world.specs.declared.object.Object.TheVariants as is
 use Rattle.cb_world.specs.declared.shown.Shown.{Shown}
@@ -24,7 +24,7 @@ use Rattle.cb_world.proofs.Laws.{batch_kept, batch_owned, orders_left, put_else,
 
 -- ---- what is told
 -- no object that is still to be looked at, and that others may change, lies at the word
-abbrev SparesSeen : ℕ → List Event → Shown → Type 0
+abbrev SparesSeen : ℕ → List Access → Shown → Type 0
 SparesSeen p es s = (k : ℕ) → (NoLook k es → ⊥) → Spares p (object_at s k)
 
 -- another object changes
@@ -47,7 +47,7 @@ put_beside ms words place len p off count = put_else ms place words p (side (cas
     side (inr from) = behind (cases_lt p (place + words_for len)) from
 
 -- the word stays in what events tell
-told_word : (es : List Event) (u v : Shown) (p : ℕ) → Agree u es → LooksFirst es
+told_word : (es : List Access) (u v : Shown) (p : ℕ) → Agree u es → LooksFirst es
     → SparesSeen p es u → get_or (told_by es v).memory p 0 ≡ get_or v.memory p 0
 told_word [] u v p agree first spares = refl
 told_word (Looked h w ∷ es) u v p agree first spares =
@@ -76,7 +76,7 @@ told_word (Settled h w ∷ es) u v p agree first spares =
     (subst (λ (i : ℕ). NoLook i es) same first.0)))) (spares k (λ none. looked none.1)))
 
 -- a word that is owned
-pub told_kept : (es : List Event) (s : Shown) (p : ℕ) → Agree s es → LooksFirst es → Owns s p
+pub told_kept : (es : List Access) (s : Shown) (p : ℕ) → Agree s es → LooksFirst es → Owns s p
     → get_or (told_by es s).memory p 0 ≡ get_or s.memory p 0
 told_kept es s p agree first owns = told_word es s s p agree first (λ k looked. owns.1 k)
 
@@ -89,13 +89,13 @@ pub same_owned : (s t : Shown) (ms : List ℕ) → t.memory ≡ ms
 same_owned s t ms same kept p owns still = ap (λ (l : List ℕ). get_or l p 0) same ∙ kept p owns
 
 -- what an operation does keeps each such word, from a sound world to a sound one
-abbrev pub KeepsWords : FarState → FarState → List Event
-    → (List Event → Shown → Shown → Type 0) → Type 0
+abbrev pub KeepsWords : FarState → FarState → List Access
+    → (List Access → Shown → Shown → Type 0) → Type 0
 KeepsWords far new es does = (s : Shown) → Sound s far → Sound (played es s) new → Agree s es
     → LooksFirst es → does es s (played es s) → KeepsOwned s (played es s)
 
 -- the memory is what was told
-pub told_owned : (es : List Event) (s t : Shown) → Agree s es → LooksFirst es
+pub told_owned : (es : List Access) (s t : Shown) → Agree s es → LooksFirst es
     → t.memory ≡ (told_by es s).memory → KeepsOwned s t
 told_owned es s t agree first same =
     same_owned s t (told_by es s).memory same (λ p owns. told_kept es s p agree first owns)
@@ -156,13 +156,13 @@ owned_rows s t far new before behind leaves kept = frame_rows s t far new before
     (λ f was is at there p from first last owns still. kept p owns still)
 
 -- what an operation does keeps the rows of the batch, from a sound world to a sound one
-abbrev pub KeepsBatch : FarState → FarState → List Event
-    → (List Event → Shown → Shown → Type 0) → Type 0
+abbrev pub KeepsBatch : FarState → FarState → List Access
+    → (List Access → Shown → Shown → Type 0) → Type 0
 KeepsBatch far new es does = (s : Shown) → Sound s far → Sound (played es s) new
     → LeavesWords far new → Agree s es → LooksFirst es → does es s (played es s)
     → KeepsRows s far (played es s) new
 
-pub by_words : (far new : FarState) (es : List Event) (does : List Event → Shown → Shown → Type 0)
+pub by_words : (far new : FarState) (es : List Access) (does : List Access → Shown → Shown → Type 0)
     → KeepsWords far new es does → KeepsBatch far new es does
 by_words far new es does kept s before behind leaves agree first x =
     owned_rows s (played es s) far new before behind leaves

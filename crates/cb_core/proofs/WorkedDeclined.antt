@@ -8,8 +8,8 @@ use Rattle.cb_member.specs.Membership.{Membership, fresh_members}
 use Rattle.cb_set.specs.SetState.{SetState, set_of}
 use Rattle.cb_types.specs.declared.reply.Reply.{Reply}
 use Rattle.cb_types.specs.declared.reply.Reply.TheVariants as answer
-use Rattle.cb_world.specs.declared.event.Event.{Event}
-use Rattle.cb_world.specs.declared.event.Event.TheVariants.{Looked, Told, Settled}
+use Rattle.cb_world.specs.declared.access.Access.{Access}
+use Rattle.cb_world.specs.declared.access.Access.TheVariants.{Looked, Told, Settled}
 use Rattle.cb_world.specs.declared.homes.Home.{Home}
 use Rattle.cb_world.specs.FarState.{FarState}
 use Rattle.cb_world.specs.Now.{is_gone, broken_set}
@@ -57,7 +57,7 @@ gone : is_gone lost 0 ≡ true
 gone = ap (λ (o : Option SetState). broken_set lost.members o) (there lost.members)
 
 -- ---- a look before a write to it: its word has two bytes, and its version is 3
-abbrev looks : List Event
+abbrev looks : List Access
 looks = Looked 0 16385 ∷ Told 0 3 ∷ []
 
 goes_on : IsDeclined 0 1 1 whole None looks
@@ -78,7 +78,7 @@ looks_at_lost : IsDeclined 0 1 1 lost None looks → ⊥
 looks_at_lost (inl x) = nothing x.2
   where
     nothing : looks ≡ [] → ⊥
-    nothing e = let n : 2 ≡ 0 = ap (λ (es : List Event). length es) e in omega (arith, n)
+    nothing e = let n : 2 ≡ 0 = ap (λ (es : List Access). length es) e in omega (arith, n)
 looks_at_lost (inr x) = false≢true (sym x.0 ∙ gone)
 
 declines_lost : IsDeclined 0 1 2 lost (Some (answer.Range 2)) [] → ⊥

@@ -8,7 +8,7 @@ use Rattle.cb_types.specs.declared.handle.Handle.{Handle}
 use Rattle.cb_types.specs.declared.job.Job.TheVariants.{Make, Write, Free, Evict}
 use Rattle.cb_types.specs.declared.reply.Reply.TheVariants as answer
 use Rattle.cb_world.specs.declared.entry.Entry.{Entry}
-use Rattle.cb_world.specs.declared.event.Event.{Event}
+use Rattle.cb_world.specs.declared.access.Access.{Access}
 use Rattle.cb_world.specs.declared.shown.Shown.{Shown}
 use Rattle.cb_world.specs.Empty.{empty_far, empty_shown}
 use Rattle.cb_world.specs.FarState.{FarState}
@@ -112,7 +112,7 @@ module _ (c : Config) (accepted : IsAccepted c) where
   two_turns (inr x) = let n : 0 ≡ 2 ^ 40 = x.0 in omega (arith, n)
 
   -- a desk that does nothing and shows the empty world
-  abbrev run : ℕ → List Event → ℕ → Type 0
+  abbrev run : ℕ → List Access → ℕ → Type 0
   run d es e = es ≡ []
 
   abbrev shows : ℕ → Shown → Type 0
@@ -171,7 +171,7 @@ module _ (c : Config) (accepted : IsAccepted c) where
   -- at another first version nothing that the desk shows is sound
   unsound : Sound (empty_shown 1 c) far → Leaves (record then_ { first = 2 }) IsNothing → ⊥
   unsound sound x =
-      let y = subst (λ (es : List Event). Sound (played es (empty_shown 1 c)) (record then_ { first = 2 }))
+      let y = subst (λ (es : List Access). Sound (played es (empty_shown 1 c)) (record then_ { first = 2 }))
       x.ran (x.after (empty_shown 1 c) refl sound).sound in
       let n : 1 ≡ 2 = y.here.known.first in omega (arith, n)
 
@@ -179,6 +179,6 @@ module _ (c : Config) (accepted : IsAccepted c) where
   unwritten : (e : Entry) → Sound (empty_shown 1 c) far → Leaves then_ (λ more. more ≡ e ∷ []) → ⊥
   unwritten e sound x =
       let y = x.after (empty_shown 1 c) refl sound in
-      let w = subst (λ (es : List Event). Writes es (empty_shown 1 c) y.more) x.ran y.writes_them in
+      let w = subst (λ (es : List Access). Writes es (empty_shown 1 c) y.more) x.ran y.writes_them in
       absurd (let n : 0 ≡ 1 = ap (λ (l : List Entry). length l) (w []
       ∙ ap (λ (l : List Entry). l ++ []) y.wrote) in omega (arith, n))

@@ -17,7 +17,7 @@ use Rattle.cb_types.specs.declared.order.EncodeOrder.{EncodeOrder}
 use Rattle.cb_types.specs.declared.order.Kept.{Kept}
 use Rattle.cb_types.specs.declared.order.Kept.TheVariants.{Decode, Encode}
 use Rattle.cb_types.specs.declared.reply.Reply.TheVariants as answer
-use Rattle.cb_world.specs.declared.event.Event.{Event}
+use Rattle.cb_world.specs.declared.access.Access.{Access}
 use Rattle.cb_world.specs.declared.shown.Shown.{Shown}
 use Rattle.cb_world.specs.Empty.{empty_far, empty_shown}
 use Rattle.cb_world.specs.FarState.{FarState}
@@ -184,7 +184,7 @@ module _ (c : Config) (accepted : IsAccepted c) where
       absurd (let n : 2 ^ 40 < 2 ^ 40 = few in omega (arith, n))
 
   -- a desk that does nothing and shows the empty world
-  abbrev run : ℕ → List Event → ℕ → Type 0
+  abbrev run : ℕ → List Access → ℕ → Type 0
   run d es e = es ≡ []
 
   abbrev shows : ℕ → Shown → Type 0

@@ -7,7 +7,7 @@ use Rattle.cb_set.specs.SetState.{SetState}
 use Rattle.cb_types.specs.declared.job.Job.TheVariants.{Make, Free, Pair, Patch, Merge, Part, Compact}
 use Rattle.cb_types.specs.declared.reply.Reply.{Reply}
 use Rattle.cb_types.specs.declared.reply.Reply.TheVariants as answer
-use Rattle.cb_world.specs.declared.event.Event.{Event}
+use Rattle.cb_world.specs.declared.access.Access.{Access}
 use Rattle.cb_world.specs.Counts.{CountsState}
 use Rattle.cb_world.specs.FarState.{FarState}
 use Rattle.cb_world.specs.Joining.{JoiningState}
@@ -118,7 +118,7 @@ pairs_and_notes_nothing works = not_noted _
     not_noted n e = cc
 
 -- over a desk that is a number, and which runs nothing
-abbrev waits : ℕ → List Event → ℕ → Type 0
+abbrev waits : ℕ → List Access → ℕ → Type 0
 waits d es e = e ≡ d
 
 over_a_number : AtFar waits (FarStep Pair) (record { desk = 3; far = start }) answer.NoPair

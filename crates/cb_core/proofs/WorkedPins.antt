@@ -7,7 +7,7 @@ use Rattle.cb_ptr.specs.Word.{state_of, pins_of}
 use Rattle.cb_types.specs.declared.config.Config.{Config}
 use Rattle.cb_types.specs.declared.reply.Reply.{Reply}
 use Rattle.cb_types.specs.declared.reply.Reply.TheVariants as answer
-use Rattle.cb_world.specs.declared.seats.Pin.{Pin}
+use Rattle.cb_world.specs.declared.seats.SeatPin.{SeatPin}
 use Rattle.cb_world.specs.FarState.{FarState}
 use Rattle.cb_world.specs.Plain.{Words}
 use Rattle.cb_world.specs.Seats.{IsNewestOf, NoneOn, SeatState, pins_of_seat, with_pins}
@@ -48,14 +48,14 @@ desk word version = record {
   memory = 2826 ∷ [];
 }
 
-abbrev pub pin_on : ℕ → ℕ → Pin
+abbrev pub pin_on : ℕ → ℕ → SeatPin
 pin_on h version = record { handle = h; version = version }
 
-abbrev pub seat_with : List Pin → SeatState
+abbrev pub seat_with : List SeatPin → SeatState
 seat_with pins = record { pins = pins; claims = []; holds = false; order = None }
 
 -- object 0 has this word at version 3, and two seats have these pins
-abbrev pub world : FarState → ℕ → List Pin → List Pin → WorldState
+abbrev pub world : FarState → ℕ → List SeatPin → List SeatPin → WorldState
 world far word first second = record {
   desk = desk word 3;
   far = far;
@@ -143,7 +143,7 @@ pins_and_makes far step = let e : far.made + 1 ≡ far.made =
     ap (λ (f : FarState). f.made) (calm_taken far _ _ step).1.far in omega (arith, e)
 
 -- ---- a pin that is refused
-abbrev sixteen : List Pin
+abbrev sixteen : List SeatPin
 sixteen = replicate 16 (pin_on 1 0)
 
 -- a full scope comes before every other refusal
@@ -198,7 +198,7 @@ away_and_moving far (refused less not reply same) = absurd cc
 away_and_moving far (taken less may reply t) = absurd (not_here far may)
 
 -- ---- the end of a pin
-only_pin : (later : ℕ) (other : Pin) → 0 < later → slice_get (pin_on 0 3 ∷ []) later ≡ Some other
+only_pin : (later : ℕ) (other : SeatPin) → 0 < later → slice_get (pin_on 0 3 ∷ []) later ≡ Some other
     → other.handle ≢ 0
 only_pin later other behind at = let n = slice_get_within (pin_on 0 3 ∷ []) later other at in
     absurd (omega (arith, behind, n))
@@ -230,7 +230,7 @@ is_given : (seat h : ℕ) (w new : WorldState) (r : Reply) → ¬ (NoneOn (pins_
 is_given seat h w new r some (not_pinned none reply same) = absurd (some none)
 is_given seat h w new r some (given reply t) = (reply, t)
 
-abbrev pinned_given : (far : FarState) (second : List Pin) (new : WorldState) (r : Reply)
+abbrev pinned_given : (far : FarState) (second : List SeatPin) (new : WorldState) (r : Reply)
     → UnpinStep 0 0 (world far pinned (pin_on 0 3 ∷ []) second) r new
     → (r ≡ answer.Done) × IsPinGiven 0 0 (world far pinned (pin_on 0 3 ∷ []) second) new
 pinned_given far second new r =
@@ -271,7 +271,7 @@ gives_the_older_one : (far : FarState)
     (world far hot (pin_on 0 3 ∷ []) []) → ⊥
 gives_the_older_one far step = older t.at t.newest t.pins
   where
-    both : List Pin
+    both : List SeatPin
     both = pin_on 0 2 ∷ pin_on 0 3 ∷ []
 
     w : WorldState
@@ -301,9 +301,9 @@ pinned_but_refused far step = let e = (pinned_given far [] _ _ step).0 in absurd
 -- a pin on another object is none on this one
 other_pin : NoneOn (pin_on 1 0 ∷ []) 0
 other_pin zero pin at on = let e : 1 ≡ pin.handle =
-    ap (λ (o : Option Pin). handle_or_0 o) at in omega (arith, e, on)
+    ap (λ (o : Option SeatPin). handle_or_0 o) at in omega (arith, e, on)
   where
-    handle_or_0 : Option Pin → ℕ
+    handle_or_0 : Option SeatPin → ℕ
     handle_or_0 (Some p) = p.handle
     handle_or_0 None = 0
 other_pin (suc i) pin at on =

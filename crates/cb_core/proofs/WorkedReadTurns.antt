@@ -6,8 +6,8 @@ use Rattle.cb_types.specs.declared.handle.Handle.{Handle}
 use Rattle.cb_types.specs.declared.job.Job.TheVariants.{Read}
 use Rattle.cb_types.specs.declared.reply.Reply.{Reply}
 use Rattle.cb_types.specs.declared.reply.Reply.TheVariants as answer
-use Rattle.cb_world.specs.declared.event.Event.{Event}
-use Rattle.cb_world.specs.declared.event.Event.TheVariants.{Looked}
+use Rattle.cb_world.specs.declared.access.Access.{Access}
+use Rattle.cb_world.specs.declared.access.Access.TheVariants.{Looked}
 use Rattle.cb_world.specs.declared.homes.Home.{Home}
 use Rattle.cb_world.specs.declared.shown.Shown.{Shown}
 use Rattle.cb_world.specs.Empty.{empty_far}
@@ -95,7 +95,7 @@ stops_though (call_stops m place (inr (inl x)) there y) = let e : 2 ≡ 1 = x.0 
 stops_though (call_stops m place (inr (inr x)) there y) = moving_there place x.1 there
 
 -- ---- the first call of a read, where 2^40 turns were counted
-abbrev run : ℕ → List Event → ℕ → Type 0
+abbrev run : ℕ → List Access → ℕ → Type 0
 run a es b = b ≡ a
 
 abbrev shows : ℕ → Shown → Type 0

@@ -18,7 +18,7 @@ use Rattle.cb_types.specs.declared.order.Kept.{Kept}
 use Rattle.cb_types.specs.declared.reply.Reply.{Reply}
 use Rattle.cb_types.specs.declared.reply.Reply.TheVariants as answer
 use Rattle.cb_types.specs.Config.{IsAccepted}
-use Rattle.cb_world.specs.declared.event.Event.{Event}
+use Rattle.cb_world.specs.declared.access.Access.{Access}
 use Rattle.cb_world.specs.declared.homes.Home.{Home}
 use Rattle.cb_world.specs.declared.shown.Shown.{Shown}
 use Rattle.cb_world.specs.FarState.{FarState, span_in}
@@ -635,7 +635,7 @@ rebuilds_and_warms step = let e : 16390 ≡ 16386 =
     ap (λ (x : Words). get_or x.words 0 0) step.0 in omega (arith, e)
 
 -- over a desk that is a number, and which runs nothing
-abbrev waits : ℕ → List Event → ℕ → Type 0
+abbrev waits : ℕ → List Access → ℕ → Type 0
 waits d es e = e ≡ d
 
 over_a_number : AtFar waits (FarStep Rebuild) (record { desk = 3; far = near }) (answer.Whole 0)

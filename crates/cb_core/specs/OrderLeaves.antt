@@ -5,7 +5,7 @@ use Rattle.cb_types.specs.declared.config.Config.{Config}
 use Rattle.cb_types.specs.declared.job.Job.{Job}
 use Rattle.cb_types.specs.declared.order.Kept.{Kept}
 use Rattle.cb_types.specs.declared.reply.Reply.{Reply}
-use Rattle.cb_world.specs.declared.event.Event.{Event}
+use Rattle.cb_world.specs.declared.access.Access.{Access}
 use Rattle.cb_world.specs.declared.shown.Shown.{Shown}
 use Rattle.cb_world.specs.FarState.{FarState}
 use Rattle.cb_world.specs.KeepCodes.{KeepCodes}
@@ -23,7 +23,7 @@ use Rattle.cb_core.specs.TurnLeaves.{IsOneTurnOn, TurnLeaves}
 
 -- The turn leaves what every turn leaves, and writes no version; and for all that the desk showed
 -- and that was sound, the order that it hands out is kept afterwards.
-pub record HandsOrder {D : Type 0} (run : D → List Event → D → Type 0) (shows : D → Shown → Type 0)
+pub record HandsOrder {D : Type 0} (run : D → List Access → D → Type 0) (shows : D → Shown → Type 0)
     (c : Config) (a b : Holding D) (handed : Option Kept) : Type 0 where
   pub leaves : TurnLeaves run shows c a b (λ more. more ≡ [])
   pub kept : (s : Shown) → shows a.desk s → Sound s a.far
@@ -53,7 +53,7 @@ pub record InstallLeaves (c : Config) (far new : FarState) (order : Option Kept)
 -- What a turn leaves of a seat that kept `order` before it, whatever its outcome: what every turn
 -- leaves, and no version; and for all that the desk showed, where that was sound and the order was
 -- kept, what the seat keeps behind it is kept then.
-pub record LeavesWith {D : Type 0} (run : D → List Event → D → Type 0) (shows : D → Shown → Type 0)
+pub record LeavesWith {D : Type 0} (run : D → List Access → D → Type 0) (shows : D → Shown → Type 0)
     (c : Config) (a b : Holding D) (order keeps : Option Kept) : Type 0 where
   pub leaves : TurnLeaves run shows c a b (λ more. more ≡ [])
   pub kept : (s : Shown) → shows a.desk s → Sound s a.far → KeepsOrder s a.far order
@@ -61,7 +61,7 @@ pub record LeavesWith {D : Type 0} (run : D → List Event → D → Type 0) (sh
 
 -- What a turn of such a job comes to for a seat that kept `order` before it, by its outcome, and
 -- what it leaves.
-pub record TurnsWith {D : Type 0} (run : D → List Event → D → Type 0) (shows : D → Shown → Type 0)
+pub record TurnsWith {D : Type 0} (run : D → List Access → D → Type 0) (shows : D → Shown → Type 0)
     (c : Config) (job : Job) (order : Option Kept) (a : Holding D) (keeps : Option Kept)
     (result : Result Reply NoMemory) (b : Holding D) : Type 0 where
   pub ends : EndsWith run shows c job order a keeps result b

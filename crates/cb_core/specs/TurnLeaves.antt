@@ -5,7 +5,7 @@ use Rattle.cb_types.specs.declared.config.Config.{Config}
 use Rattle.cb_types.specs.declared.job.Job.{Job}
 use Rattle.cb_types.specs.declared.reply.Reply.{Reply}
 use Rattle.cb_world.specs.declared.entry.Entry.{Entry}
-use Rattle.cb_world.specs.declared.event.Event.{Event}
+use Rattle.cb_world.specs.declared.access.Access.{Access}
 use Rattle.cb_world.specs.declared.shown.Shown.{Shown}
 use Rattle.cb_world.specs.FarState.{FarState}
 use Rattle.cb_world.specs.Played.{played}
@@ -29,7 +29,7 @@ IsOneTurnOn far new = ((far.counts.turns < 2 ^ 40) × (new.counts.turns ≡ far.
 
 -- What is known of a desk and was sound is sound once the events are played, every order that was
 -- kept is kept then, and they write such versions.
-pub record SoundAfter (es : List Event) (s : Shown) (far new : FarState)
+pub record SoundAfter (es : List Access) (s : Shown) (far new : FarState)
     (writes : List Entry → Type 0) : Type 0 where
   pub sound : Sound (played es s) new
   pub orders : LeavesOrders s far (played es s) new
@@ -41,9 +41,9 @@ pub record SoundAfter (es : List Event) (s : Shown) (far new : FarState)
 -- configured and counted, it has no other code, and is at most one turn further. And for all that
 -- the desk showed and that was sound: it is sound afterwards, every order that was kept is kept,
 -- and these versions are written.
-pub record TurnLeaves {D : Type 0} (run : D → List Event → D → Type 0) (shows : D → Shown → Type 0)
+pub record TurnLeaves {D : Type 0} (run : D → List Access → D → Type 0) (shows : D → Shown → Type 0)
     (c : Config) (a b : Holding D) (writes : List Entry → Type 0) : Type 0 where
-  pub events : List Event
+  pub events : List Access
   pub ran : run a.desk events b.desk
   pub configured : IsConfigured c b.far
   pub codes : KeepCodes a.far b.far

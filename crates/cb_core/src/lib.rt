@@ -26,7 +26,7 @@ pub use cb_types::Job;
 pub use event::{Atomic, Event};
 pub use fetching::{fetch, land};
 pub use gathering::{gather, install};
-pub use reading::bring_to_read;
+pub use reading::{bring_to_read, is_there};
 pub use replies::Replies;
 pub use running::run;
 pub use stepping::step;

@@ -4,7 +4,7 @@ ghost use Rattle.cb_world.specs.World.{ArePinned};
 
 use cb_ptr::{State, unpack};
 use cb_types::{Handle, Reply};
-use cb_world::{MOST_PINS, Pin, World};
+use cb_world::{MOST_PINS, SeatPin, World};
 
 /// The most pins that a word can count.
 const MOST_ON_A_WORD: u32 = 1023;
@@ -37,7 +37,7 @@ pub(crate) fn pin(world: &mut World, seat: u32, h: Handle) -> Reply
             world.desk.pin(h);
             world.seats.add(
                 seat,
-                Pin {
+                SeatPin {
                     handle: h.n,
                     version,
                 },

@@ -83,7 +83,7 @@ pub(crate) fn read_anywhere<D: Desk>(
 }
 
 /// Whether a reply is that the object is here: it was so, or was brought in.
-fn is_there(reply: &Reply) -> bool
+pub fn is_there(reply: &Reply) -> bool
     ensures yes { result ≡ true → IsThere reply.now }
     ensures other { result ≡ false → IsThere reply.now → ⊥ }
 {

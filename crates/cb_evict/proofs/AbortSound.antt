@@ -3,7 +3,7 @@ use Rattle.std.proofs.Common.{◌≡◌, ℕ, List, [], length, get_or, Option, 
 use Rattle.std.proofs.lemmas.List.Elements.{All-contains}
 use Rattle.cb_ptr.specs.Word.{len_of, place_of}
 use Rattle.cb_types.specs.declared.reply.Reply.TheVariants as answer
-use Rattle.cb_world.specs.declared.event.Event.{Event}
+use Rattle.cb_world.specs.declared.access.Access.{Access}
 use Rattle.cb_world.specs.declared.object.Object.{Object}
 use Rattle.cb_world.specs.declared.object.Object.TheVariants as is
 use Rattle.cb_world.specs.declared.shown.Shown.{Shown}
@@ -108,7 +108,7 @@ untaken_state inside far o same none gone =
     ap (λ (q : Option LeavingState). record inside { leaving = q })
     (gone ∙ sym (ap (λ (f : FarState). f.leaving) same ∙ none)) ∙ same
 
-pub not_aborted : (runs : List Event → Type 0) (shows : Shown → Type 0) (far new : FarState)
+pub not_aborted : (runs : List Access → Type 0) (shows : Shown → Type 0) (far new : FarState)
     → runs [] → far.leaving ≡ None → new ≡ far
     → Performs runs (λ s. shows s × Sound s far) (AbortRule far new answer.NoBatch)
     (λ t. Sound t new) (AbortEffect far new)
@@ -122,7 +122,7 @@ not_aborted runs shows far new ran none state =
     })
 
 -- the batch is given up
-pub aborts : (runs : List Event → Type 0) (shows : Shown → Type 0) (far new : FarState)
+pub aborts : (runs : List Access → Type 0) (shows : Shown → Type 0) (far new : FarState)
     (batch : LeavingState) → far.leaving ≡ Some batch → new ≡ without_batch far batch
     → ((s : Shown) → shows s → length s.hots ≡ length s.objects)
     → RestoresClaims runs shows batch.words

@@ -7,7 +7,7 @@ use Rattle.cb_types.specs.declared.reply.Reply.{Reply}
 use Rattle.cb_world.specs.declared.leaving.Former.{Former}
 use Rattle.cb_world.specs.declared.object.Object.{Object}
 use Rattle.cb_world.specs.declared.object.Object.TheVariants as is
-use Rattle.cb_world.specs.declared.event.Event.{Event}
+use Rattle.cb_world.specs.declared.access.Access.{Access}
 use Rattle.cb_world.specs.declared.shown.Shown.{Shown}
 use Rattle.cb_world.specs.Shown.{Fits}
 use Rattle.cb_world.specs.FarState.{FarState}
@@ -37,7 +37,7 @@ here_word v w fits here none hot free below =
     } in
     sym (word_of-fields_of v fits.0) ∙ ap word_of fields ∙ word_of-fields_of w below
 
-put_back : (x y : Words) (far : FarState) (s : Shown) (es : List Event) (batch : LeavingState)
+put_back : (x y : Words) (far : FarState) (s : Shown) (es : List Access) (batch : LeavingState)
     → RunsStill x y far s es → far.leaving ≡ Some batch
     → AreRestored s (played es s) batch.words → ArePutBack x y batch.words
 put_back x y far s es batch r there z =
@@ -79,7 +79,7 @@ put_back x y far s es batch r there z =
         (subst (λ (o : Object). FreeIs o (word_at x h)) (sym c.object) tt)))
         (sym (seen_then.hot h still) ∙ a.hot) c.free c.below
 
-by_rule : (x y : Words) (far new : FarState) (r : Reply) (s : Shown) (es : List Event)
+by_rule : (x y : Words) (far new : FarState) (r : Reply) (s : Shown) (es : List Access)
     → RunsStill x y far s es → IsKnown y new (played es s)
     → AbortEffect far new es s (played es s) → HasNoBatch far new r ⊎ HasGivenUp far new r
     → IsAbortStep x y far new r × IsStepKnown y far new s

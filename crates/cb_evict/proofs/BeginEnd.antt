@@ -8,7 +8,7 @@ use Rattle.cb_member.specs.declared.names.Shard.{Shard}
 use Rattle.cb_span.specs.Contents.{Contents}
 use Rattle.cb_types.specs.declared.order.EncodeOrder.{EncodeOrder}
 use Rattle.cb_world.specs.declared.entry.Entry.{Entry}
-use Rattle.cb_world.specs.declared.event.Event.{Event}
+use Rattle.cb_world.specs.declared.access.Access.{Access}
 use Rattle.cb_world.specs.declared.leaving.Former.{Former}
 use Rattle.cb_world.specs.declared.shown.Shown.{Shown}
 use Rattle.cb_world.specs.FarState.{FarState}
@@ -35,13 +35,13 @@ use Rattle.cb_evict.proofs.TakenGroup.{AreRowsCoded, frame_rows}
 
 -- all that is promised of the reads
 pub record Starts (far new : FarState) (made : Bool) (o : EncodeOrder) (frames : List ℕ)
-    (before events : List Event) (s : Shown) : Type 0 where
+    (before events : List Access) (s : Shown) : Type 0 where
   pub begun : HasOrdered far new made o frames (before ++ events)
   pub sound : Sound (played (before ++ events) s) new
   pub effect : IsOrdered far new o (before ++ events) s (played (before ++ events) s)
 
 -- the reads touch words of the frames alone
-pub reads_in : (far : FarState) (frames : List ℕ) (ls : List Event)
+pub reads_in : (far : FarState) (frames : List ℕ) (ls : List Access)
     → AreAllReads (LiesInOne far.spans frames) ls → TouchesOnly (IsIn far.spans frames) (LiesInOne far.spans frames) ls
 reads_in far frames ls reads =
     touches_more (λ h. ⊥) (IsIn far.spans frames) (LiesInOne far.spans frames)
@@ -49,7 +49,7 @@ reads_in far frames ls reads =
     (λ h x. absurd x) (λ p x. x) reads.touches
 
 pub starts : (far new : FarState) (o : EncodeOrder) (frames : List ℕ) (formers : List Former)
-    (made : Bool) (parities : List (List ℕ)) (before ls : List Event) (s : Shown)
+    (made : Bool) (parities : List (List ℕ)) (before ls : List Access) (s : Shown)
     → (d : AreRowsCoded far frames formers made parities before s (played before s))
     → (made ≡ false → parities ≡ no_parities far.code.r)
     → o ≡ order_for far (frame_rows (played before s) d.taken.pages frames)
@@ -222,11 +222,11 @@ are_seen far made rows p count x = record {
 pub blank_count : (blank : List Shard) (n : ℕ) → blank ≡ blank_shards n → length blank ≡ n
 blank_count blank n e = ap (λ (l : List Shard). length l) e ∙ length-replicate n blank_shard
 
-pub reads_as : (runs : List Event → Type 0) (spans : List (Option Contents)) (gs frames : List ℕ)
+pub reads_as : (runs : List Access → Type 0) (spans : List (Option Contents)) (gs frames : List ℕ)
     → gs ≡ frames → ReadsSpans runs spans gs → ReadsSpans runs spans frames
 reads_as runs spans gs frames e x = subst (ReadsSpans runs spans) e x
 
-pub reserves_as : (runs : List Event → Type 0) (shows : Shown → Type 0)
+pub reserves_as : (runs : List Access → Type 0) (shows : Shown → Type 0)
     (far new : FarState) (pages : ℕ) (gs frames : List ℕ) (made : Bool) (rows : List (List ℕ))
     (p : ParitiesState) → gs ≡ frames → ReservesFrames runs shows far new pages gs made rows p
     → ReservesFrames runs shows far new pages frames made rows p

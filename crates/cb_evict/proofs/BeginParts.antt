@@ -6,7 +6,7 @@ use Rattle.cb_types.specs.declared.handle.SetId.{SetId}
 use Rattle.cb_types.specs.declared.order.EncodeOrder.{EncodeOrder}
 use Rattle.cb_types.specs.declared.reply.Reply.{Reply}
 use Rattle.cb_types.specs.declared.reply.Reply.TheVariants as answer
-use Rattle.cb_world.specs.declared.event.Event.{Event}
+use Rattle.cb_world.specs.declared.access.Access.{Access}
 use Rattle.cb_world.specs.declared.leaving.Former.{Former}
 use Rattle.cb_world.specs.declared.shown.Shown.{Shown}
 use Rattle.cb_world.specs.Choices.{room_count}
@@ -82,7 +82,7 @@ nodes_refusal n r e = record {
 }
 
 refused_rule : (far : FarState) (made : Bool) (so : List (List ℕ) → Type 0) (r : Reply)
-    (es : List Event) → far.leaving ≡ None → IsFrontRefusal r → EvictRule far far r es
+    (es : List Access) → far.leaving ≡ None → IsFrontRefusal r → EvictRule far far r es
     → BeginsBy far far made so r es
 refused_rule far made so r es none off x = inr (record {
   none = none;
@@ -104,7 +104,7 @@ refused_rule far made so r es none off x = inr (record {
 answer_order : (r : Reply) (o : EncodeOrder) → gathered.Answer r ≡ gathered.Order o → ⊥
 answer_order r o e = cc
 
-refused_effect : (far : FarState) (r : Reply) (es : List Event) (s t : Shown) → IsFrontRefusal r
+refused_effect : (far : FarState) (r : Reply) (es : List Access) (s t : Shown) → IsFrontRefusal r
     → EvictEffect far far r es s t → GatherEffect far far (gathered.Answer r) es s t
 refused_effect far r es s t off x = record {
   did = record {
@@ -114,7 +114,7 @@ refused_effect far r es s t off x = record {
   kept = λ o e. absurd (answer_order r o e);
 }
 
-pub refuses : (far : FarState) (made : Bool) (r : Reply) (runs : List Event → Type 0)
+pub refuses : (far : FarState) (made : Bool) (r : Reply) (runs : List Access → Type 0)
     (knows sound : Shown → Type 0) → far.leaving ≡ None → IsFrontRefusal r
     → Performs runs knows (EvictRule far far r) sound (EvictEffect far far r)
     → Performs runs knows (BeginsBy far far made (HandsOut far (gathered.Answer r)) r) sound
@@ -135,7 +135,7 @@ few_refusal far r loose (inl a) = spans_refusal (most_loose far.spans loose) r a
 few_refusal far r loose (inr a) = nodes_refusal (room_count far.nodes far.members) r a.reply
 
 pub begin_few : (far : FarState) (made : Bool) (r : Reply) (e : Eviction)
-    (runs : List Event → Type 0) (shows : Shown → Type 0) → far.leaving ≡ None → r ≡ reply_of e
+    (runs : List Access → Type 0) (shows : Shown → Type 0) → far.leaving ≡ None → r ≡ reply_of e
     → TakesFew runs shows far (AreLooseNow far) e
     → Performs runs (λ s. shows s × Sound s far)
     (BeginsBy far far made (HandsOut far (gathered.Answer r)) r) (λ t. Sound t far)
@@ -148,7 +148,7 @@ begin_few far made r e runs shows none is x =
 
 -- ---- a batch is leaving already
 pub begins_not : (far : FarState) (made : Bool) (r : Reply) (id : SetId)
-    (runs : List Event → Type 0) (knows : Shown → Type 0)
+    (runs : List Access → Type 0) (knows : Shown → Type 0)
     → option_map number_of far.leaving ≡ Some id → r ≡ answer.Leaving id → runs []
     → Performs runs (λ s. knows s × Sound s far)
     (BeginsBy far far made (HandsOut far (gathered.Answer r)) r) (λ t. Sound t far)
@@ -176,7 +176,7 @@ begins_not far made r id runs knows e is ran =
 same_order : (o q : EncodeOrder) → gathered.Order o ≡ gathered.Order q → o ≡ q
 same_order o q e = cc
 
-pub takes_begin : {runsA runsB runsC : List Event → Type 0} {showsA showsB : Shown → Type 0}
+pub takes_begin : {runsA runsB runsC : List Access → Type 0} {showsA showsB : Shown → Type 0}
     {far new : FarState} {made : Bool} {o : EncodeOrder} {frames : List ℕ}
     {formers : List Former} → Joins runsA runsB runsC showsA showsB
     → TakesEnough runsA showsA far (AreLooseNow far) frames formers
@@ -218,7 +218,7 @@ takes_begin {far = far} {new = new} {made = made} {o = o} j x y none (s, knows, 
 
 -- ---- a begin, which forgets the order
 begun_as : (far new : FarState) (made : Bool) (so : List (List ℕ) → Type 0) (r : Reply)
-    (es : List Event) → BeginsBy far new made so r es
+    (es : List Access) → BeginsBy far new made so r es
     → BeginsBy far new made (λ rows. Unit {0}) r es
 begun_as far new made so r es (inl a) = inl a
 begun_as far new made so r es (inr a) = inr (record {
@@ -244,7 +244,7 @@ begun_as far new made so r es (inr a) = inr (record {
       given = tt;
     }))
 
-pub forgets : (far new : FarState) (g : Gathered) (r : Reply) (runs : List Event → Type 0)
+pub forgets : (far new : FarState) (g : Gathered) (r : Reply) (runs : List Access → Type 0)
     (knows sound : Shown → Type 0) → r ≡ gathered_reply g
     → Performs runs knows (BeginsBy far new true (HandsOut far g) (gathered_reply g)) sound
     (GatherEffect far new g)

@@ -11,7 +11,7 @@ use Rattle.std.proofs.lemmas.Option.{slice_get_within, get_or_from_slice_get}
 use Rattle.cb_member.specs.declared.names.Shard.{Shard}
 use Rattle.cb_set.specs.SetState.{SetState}
 use Rattle.cb_span.specs.Contents.{Contents}
-use Rattle.cb_world.specs.declared.event.Event.{Event}
+use Rattle.cb_world.specs.declared.access.Access.{Access}
 use Rattle.cb_world.specs.declared.homes.Home.{Home}
 use Rattle.cb_world.specs.declared.leaving.Former.{Former}
 use Rattle.cb_world.specs.declared.object.Object.{Object}
@@ -196,7 +196,7 @@ module _ (t : Shown) (far : FarState) (set : SetState) (batch : LeavingState)
 
 -- ---- the batch
 module _ (far : FarState) (frames : List ℕ) (formers : List Former) (made : Bool)
-    (parities : List (List ℕ)) (before : List Event) (s t : Shown)
+    (parities : List (List ℕ)) (before : List Access) (s t : Shown)
     (d : AreRowsCoded far frames formers made parities before s t) (none : far.leaving ≡ None) where
   no_shard : NoneNamed (new_batch far d.taken.pages frames formers made parities)
   no_shard p shard at =
@@ -298,7 +298,7 @@ module _ (far : FarState) (frames : List ℕ) (formers : List Former) (made : Bo
       (λ same. omega (arith, less, same)))
 
   -- ---- the rule
-  abbrev pub rule_begun : (made ≡ false → parities ≡ no_parities far.code.r) → (events : List Event)
+  abbrev pub rule_begun : (made ≡ false → parities ≡ no_parities far.code.r) → (events : List Access)
       → ((k : ℕ) → NoLook k events)
       → HasBegun far (with_batch far d.taken.pages frames formers made parities) made frames
       (before ++ events)
@@ -361,7 +361,7 @@ module _ (far : FarState) (frames : List ℕ) (formers : List Former) (made : Bo
       }
 
   -- ---- the effect
-  pub effect_begun : (events : List Event) → ((k : ℕ) → NoLook k events)
+  pub effect_begun : (events : List Access) → ((k : ℕ) → NoLook k events)
       → t.hots ≡ (told_by (before ++ events) s).hots
       → (told_by (before ++ events) s).objects ≡ s.objects
       → t.versions ≡ (told_by (before ++ events) s).versions

@@ -4,7 +4,7 @@ use Rattle.cb_ptr.specs.Steps.{Claims}
 use Rattle.cb_ptr.specs.Word.{flag_number, hot_of, len_of, place_of}
 use Rattle.cb_ptr.proofs.Laws.{claims, claimed_below, same_but_hot}
 use Rattle.cb_types.specs.declared.reply.Reply.{Reply}
-use Rattle.cb_world.specs.declared.event.Event.{Event}
+use Rattle.cb_world.specs.declared.access.Access.{Access}
 use Rattle.cb_world.specs.declared.leaving.Former.{Former}
 use Rattle.cb_world.specs.declared.object.Object.{Object}
 use Rattle.cb_world.specs.declared.object.Object.TheVariants as is
@@ -54,7 +54,7 @@ claimed_word v w n len place u words below free fit same_len same_place hot =
     let number : v + 1 ≡ w = omega (arith, near, flags) in
     subst (Claims v) number c
 
-held_words : (x y : Words) (far new : FarState) (s : Shown) (es : List Event) (frames : List ℕ)
+held_words : (x y : Words) (far new : FarState) (s : Shown) (es : List Access) (frames : List ℕ)
     → RunsStill x y far s es → new.spans ≡ far.spans → leaving_frames new.leaving ≡ frames
     → ((h : ℕ) → IsIn far.spans frames h → IsFree (word_at x h))
     → IsBatchBegun far new es s (played es s) → AreSpansClaimed x y far frames
@@ -106,7 +106,7 @@ held_words x y far new s es frames r spans leaves free z =
     out_of h i = subst (λ (l : List _). IsIn l frames h) spans
         (subst (λ (l : List ℕ). IsIn new.spans l h) leaves i)
 
-begun_to : (x y : Words) (far new : FarState) (made : Bool) (s : Shown) (es : List Event)
+begun_to : (x y : Words) (far new : FarState) (made : Bool) (s : Shown) (es : List Access)
     → RunsStill x y far s es → IsKnown y new (played es s)
     → (pages : ℕ) → batch_pages far.code.k far.spans (loose_frames x far) ≡ Some pages
     → (b : HasBegun far new made (take far.code.k (loose_of far.spans pages (loose_frames x far))) es)
@@ -154,7 +154,7 @@ Gives far new made so t = (pages : ℕ) (frames : List ℕ) (words : List Former
     → so rows → so (rows_in t pages frames)
 
 by_looks : (x y : Words) (far new : FarState) (made : Bool) (so : List (List ℕ) → Type 0)
-    (r : Reply) (s : Shown) (es : List Event)
+    (r : Reply) (s : Shown) (es : List Access)
     (loose : List ℕ) → RunsStill x y far s es → IsKnown y new (played es s) → far.leaving ≡ None
     → loose ≡ loose_frames x far → BeginEffect far new r es s (played es s)
     → Gives far new made so (played es s)
@@ -195,7 +195,7 @@ by_looks x y far new made so r s es loose runs l none same effect gives (inr (in
     )
 
 by_rule : (x y : Words) (far new : FarState) (made : Bool) (so : List (List ℕ) → Type 0)
-    (r : Reply) (s : Shown) (es : List Event)
+    (r : Reply) (s : Shown) (es : List Access)
     → RunsStill x y far s es → IsKnown y new (played es s)
     → BeginEffect far new r es s (played es s) → Gives far new made so (played es s)
     → BeginsBy far new made so r es

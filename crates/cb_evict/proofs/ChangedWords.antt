@@ -3,7 +3,7 @@ use Rattle.std.proofs.Common.{◌≡◌, ◌⊎◌, ℕ, List, length, sym, ap, 
 use Rattle.std.proofs.lemmas.Bool.{cases_lt}
 use Rattle.std.proofs.lemmas.List.{ext_get_or, get_or_past}
 use Rattle.cb_ptr.specs.Word.{pins_of}
-use Rattle.cb_world.specs.declared.event.Event.{Event}
+use Rattle.cb_world.specs.declared.access.Access.{Access}
 use Rattle.cb_world.specs.declared.shown.Shown.{Shown}
 use Rattle.cb_world.specs.Shown.{hot_at, object_at}
 use Rattle.cb_world.specs.FarState.{FarState}
@@ -22,7 +22,7 @@ pub record StaysElse (s t : Shown) (other : ℕ → Type 0) : Type 0 where
   pub versions : t.versions ≡ s.versions
   pub memory : t.memory ≡ s.memory
 
-module _ (x y : Words) (far : FarState) (s : Shown) (es : List Event) (r : RunsStill x y far s es) where
+module _ (x y : Words) (far : FarState) (s : Shown) (es : List Access) (r : RunsStill x y far s es) where
   pub shows_then : Shows y (played es s)
   shows_then = (plain_follows es x y s r.ran r.known.shows).1
 

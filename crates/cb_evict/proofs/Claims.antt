@@ -9,8 +9,8 @@ use Rattle.cb_span.specs.Places.{slot_place}
 use Rattle.cb_world.specs.declared.leaving.Former.{Former}
 use Rattle.cb_world.specs.declared.object.Object.{Object}
 use Rattle.cb_world.specs.declared.object.Object.TheVariants as is
-use Rattle.cb_world.specs.declared.event.Event.{Event}
-use Rattle.cb_world.specs.declared.event.Event.TheVariants.{Looked, Claimed, Told, Loaded, Stored, Stamped, Settled}
+use Rattle.cb_world.specs.declared.access.Access.{Access}
+use Rattle.cb_world.specs.declared.access.Access.TheVariants.{Looked, Claimed, Told, Loaded, Stored, Stamped, Settled}
 use Rattle.cb_world.specs.declared.shown.Shown.{Shown}
 use Rattle.cb_world.specs.Shown.{Covers, Spares, Owns, IsHeld, object_at, version_at, hot_at, never}
 use Rattle.cb_world.specs.Played.{Agree, after, played}
@@ -182,7 +182,7 @@ sound_hots far s hots x =
     (λ k. omega arith)
 
 -- an object that was claimed before stays claimed
-pub claimed_stays : (far : FarState) (es fs : List Event) (t u : Shown) (f : Former)
+pub claimed_stays : (far : FarState) (es fs : List Access) (t u : Shown) (f : Former)
     → LocalSound t far → object_at u f.handle ≡ object_at t f.handle
     → hot_at u f.handle ≡ hot_at t f.handle → NoLook f.handle fs → Keeps t u
     → IsClaimedBy es t f → IsClaimedBy (es ++ fs) u f
@@ -204,7 +204,7 @@ claimed_stays far es fs t u f sound same hot quiet keeps c = let x = c.at in rec
 }
 
 -- ---- one claim
-only_looks : (h : ℕ) (es : List Event) → AreLooks h es → OnlyLooks es
+only_looks : (h : ℕ) (es : List Access) → AreLooks h es → OnlyLooks es
 only_looks h [] a = tt
 only_looks h (Looked k w ∷ es) a = only_looks h es a.1
 only_looks h (Claimed k w v ws ∷ es) a = absurd a
@@ -219,24 +219,24 @@ abbrev pub claimed_object : ℕ → ℕ → List ℕ → Object
 claimed_object w v words = is.Claimed (len_of w) (place_of w) v words
 
 -- the events of a claim
-abbrev pub claim_of : List Event → ℕ → ℕ → ℕ → List ℕ → List Event
+abbrev pub claim_of : List Access → ℕ → ℕ → ℕ → List ℕ → List Access
 claim_of before h w v words = before ++ Claimed h w v words ∷ []
 
-no_claim_look : (k : ℕ) (before : List Event) (h w v : ℕ) (words : List ℕ)
+no_claim_look : (k : ℕ) (before : List Access) (h w v : ℕ) (words : List ℕ)
     → NoLook k (claim_of before h w v words) → k ≢ h
 no_claim_look k [] h w v words a e = a.0 w (sym e, refl)
 no_claim_look k (x ∷ before) h w v words a e = no_claim_look k before h w v words a.1 e
 
-pub no_look_left : (k : ℕ) (es fs : List Event) → NoLook k (es ++ fs) → NoLook k es
+pub no_look_left : (k : ℕ) (es fs : List Access) → NoLook k (es ++ fs) → NoLook k es
 no_look_left k [] fs a = tt
 no_look_left k (e ∷ es) fs a = (a.0, no_look_left k es fs a.1)
 
-pub no_look_right : (k : ℕ) (es fs : List Event) → NoLook k (es ++ fs) → NoLook k fs
+pub no_look_right : (k : ℕ) (es fs : List Access) → NoLook k (es ++ fs) → NoLook k fs
 no_look_right k [] fs a = a
 no_look_right k (e ∷ es) fs a = no_look_right k es fs a.1
 
 -- an object that is not looked at is as hot as it was
-looks_cool : (k : ℕ) (es : List Event) (s : Shown) → OnlyLooks es → NoLook k es
+looks_cool : (k : ℕ) (es : List Access) (s : Shown) → OnlyLooks es → NoLook k es
     → hot_at (played es s) k ≡ hot_at s k
 looks_cool k [] s a quiet = refl
 looks_cool k (Looked j w ∷ es) s a quiet =
@@ -249,7 +249,7 @@ looks_cool k (Told j v ∷ es) s a quiet = absurd a
 looks_cool k (Stored p x ∷ es) s a quiet = absurd a
 looks_cool k (Stamped j v ∷ es) s a quiet = absurd a
 
-pub claim_one : (far : FarState) (s : Shown) (before : List Event) (h w v : ℕ) (words : List ℕ)
+pub claim_one : (far : FarState) (s : Shown) (before : List Access) (h w v : ℕ) (words : List ℕ)
     → LocalSound s far → h < length s.objects → h < length s.versions → h < length s.hots
     → AreLooks h before → Agree s (claim_of before h w v words) → IsFree w
     → AreClaimed (claim_of before h w v words) s (played (claim_of before h w v words) s)
@@ -394,7 +394,7 @@ claim_one far s before h w v words sound range stamp warm looks agree free =
         (subst (IsStamped (object_at s k)) (sym (get_or-set_other s.versions h k v 0 n)) was)
 
 -- ---- looks claim nothing
-pub claims_nothing : (far : FarState) (s : Shown) (es : List Event) → OnlyLooks es → LocalSound s far
+pub claims_nothing : (far : FarState) (s : Shown) (es : List Access) → OnlyLooks es → LocalSound s far
     → AreClaimed es s (played es s) [] × LocalSound (played es s) far × AreSteady es s
 claims_nothing far s es looks sound =
     let l = looks_change es s looks in (
@@ -410,7 +410,7 @@ claims_nothing far s es looks sound =
     )
 
 -- an object that could not be claimed
-pub left_one : (far : FarState) (s : Shown) (before : List Event) (h w : ℕ) → LocalSound s far
+pub left_one : (far : FarState) (s : Shown) (before : List Access) (h w : ℕ) → LocalSound s far
     → AreLooks h before
     → AreClaimed (before ++ Looked h w ∷ []) s (played (before ++ Looked h w ∷ []) s) []
     × LocalSound (played (before ++ Looked h w ∷ []) s) far
@@ -427,7 +427,7 @@ pub all_right : {X : Type 0} (P : X → Type 0) (xs ys : List X) → All P (xs +
 all_right P xs ys a k d l = subst P (get_or-append-add xs ys k d)
     (a (length xs + k) d (let n = length-append xs ys in omega (arith, l, n)))
 
-pub claims_append : (far : FarState) (es fs : List Event) (s t u : Shown) (xs ys : List Former)
+pub claims_append : (far : FarState) (es fs : List Access) (s t u : Shown) (xs ys : List Former)
     → LocalSound t far → AreClaimed es s t xs → AreClaimed fs t u ys
     → All (λ x. IsNone ys x.handle) xs → All (λ x. NoLook x.handle fs) xs
     → All (λ y. IsNone xs y.handle) ys → AreClaimed (es ++ fs) s u (xs ++ ys)
@@ -481,7 +481,7 @@ none_earlier fs i d apart within k e l =
     read (x ∷ xs) (suc k) d e l = read xs k d e (omega (arith, l))
 
 -- objects that were claimed and given back are what they were
-pub claims_back : (es fs : List Event) (s t u : Shown) (xs : List Former) → AreClaimed es s t xs
+pub claims_back : (es fs : List Access) (s t u : Shown) (xs : List Former) → AreClaimed es s t xs
     → AreBack t u xs → AreClaimed (es ++ fs) s u []
 claims_back es fs s t u xs a b =
     let same : (h : ℕ) → object_at u h ≡ object_at s h = λ h. elim (among xs h) [

@@ -7,7 +7,7 @@ use Rattle.cb_types.specs.declared.reply.Reply.{Reply}
 use Rattle.cb_world.specs.declared.leaving.Former.{Former}
 use Rattle.cb_world.specs.declared.object.Object.{Object}
 use Rattle.cb_world.specs.declared.object.Object.TheVariants as is
-use Rattle.cb_world.specs.declared.event.Event.{Event}
+use Rattle.cb_world.specs.declared.access.Access.{Access}
 use Rattle.cb_world.specs.declared.shown.Shown.{Shown}
 use Rattle.cb_world.specs.Shown.{Fits}
 use Rattle.cb_world.specs.FarState.{FarState}
@@ -26,7 +26,7 @@ use Rattle.cb_evict.proofs.ChangedWords.{changes_words, same_count, shows_then}
 use Rattle.cb_evict.proofs.EvictStep.{refused}
 use Rattle.cb_evict.proofs.Noted.{claimed_all}
 
-put_away : (x y : Words) (far : FarState) (s : Shown) (es : List Event) (batch : LeavingState)
+put_away : (x y : Words) (far : FarState) (s : Shown) (es : List Access) (batch : LeavingState)
     → RunsStill x y far s es → far.leaving ≡ Some batch
     → AreSent s (played es s) batch.words → ArePutAway x y batch.words
 put_away x y far s es batch r there z =
@@ -59,7 +59,7 @@ put_away x y far s es batch r there z =
         far_word_is (len_of f.word) (word_at y h) (len_of-below f.word)
         (fit.0 ∙ ap (λ (n : ℕ). 1 + n * 8192) fit.1)
 
-by_rule : (x y : Words) (far new : FarState) (r : Reply) (s : Shown) (es : List Event)
+by_rule : (x y : Words) (far new : FarState) (r : Reply) (s : Shown) (es : List Access)
     → RunsStill x y far s es → IsKnown y new (played es s)
     → CommitEffect far new r es s (played es s)
     → HasNoBatch far new r ⊎ (HasShort far new r ⊎ HasCommitted far new r)

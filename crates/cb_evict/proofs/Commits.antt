@@ -8,7 +8,7 @@ use Rattle.cb_member.specs.declared.names.Shard.{Shard}
 use Rattle.cb_set.specs.Lost.{is_lost}
 use Rattle.cb_types.specs.declared.handle.SetId.{SetId}
 use Rattle.cb_types.specs.declared.reply.Reply.TheVariants as answer
-use Rattle.cb_world.specs.declared.event.Event.{Event}
+use Rattle.cb_world.specs.declared.access.Access.{Access}
 use Rattle.cb_world.specs.declared.shown.Shown.{Shown}
 use Rattle.cb_world.specs.FarState.{FarState}
 use Rattle.cb_world.specs.Leaving.{LeavingState}
@@ -39,7 +39,7 @@ no_batch_set id e = cc
 pub short_set : (positions : List ℕ) (id : SetId) → answer.Short positions ≡ answer.Set id → ⊥
 short_set positions id e = cc
 
-pub not_committed : (runs : List Event → Type 0) (shows : Shown → Type 0) (far new : FarState)
+pub not_committed : (runs : List Access → Type 0) (shows : Shown → Type 0) (far new : FarState)
     → runs [] → far.leaving ≡ None → new ≡ far
     → Performs runs (λ s. shows s × Sound s far) (CommitRule far new answer.NoBatch)
     (λ t. Sound t new) (CommitEffect far new answer.NoBatch)
@@ -52,7 +52,7 @@ not_committed runs shows far new ran none state =
       left = λ e. still_none s;
     })
 
-pub short_of_rows : (runs : List Event → Type 0) (shows : Shown → Type 0) (far new : FarState)
+pub short_of_rows : (runs : List Access → Type 0) (shows : Shown → Type 0) (far new : FarState)
     (batch : LeavingState) (positions : List ℕ) → runs [] → far.leaving ≡ Some batch
     → positions ≡ waiting far.members batch.shards → 1 ≤ length positions → new ≡ far
     → Performs runs (λ s. shows s × Sound s far) (CommitRule far new (answer.Short positions))
@@ -129,7 +129,7 @@ all_up far batch whole p shard at =
     (slice_get_within batch.shards p (Some shard) at) in
     ap (is_lost far.members) (sym (shard_same x.0 shard (sym x.1 ∙ at))) ∙ x.2
 
-pub commits : (runs : List Event → Type 0) (shows : Shown → Type 0) (far new : FarState)
+pub commits : (runs : List Access → Type 0) (shows : Shown → Type 0) (far new : FarState)
     (batch : LeavingState) (id : ℕ) → id ≡ batch.set → far.leaving ≡ Some batch
     → waiting far.members batch.shards ≡ []
     → new ≡ with_homes (with_committed far batch) batch.frames new.homes

@@ -10,7 +10,7 @@ use Rattle.cb_gf256.specs.Rows.{HaveLength}
 use Rattle.cb_types.specs.declared.handle.SetId.{SetId}
 use Rattle.cb_types.specs.declared.reply.Reply.{Reply}
 use Rattle.cb_types.specs.declared.reply.Reply.TheVariants as answer
-use Rattle.cb_world.specs.declared.event.Event.{Event}
+use Rattle.cb_world.specs.declared.access.Access.{Access}
 use Rattle.cb_world.specs.declared.leaving.Former.{Former}
 use Rattle.cb_world.specs.declared.shown.Shown.{Shown}
 use Rattle.cb_world.specs.Choices.{room_count}
@@ -76,21 +76,21 @@ pub any_err : {T : Type 0} {E : Type 0} (P : Type 0) (r : Result T E) → P → 
 any_err P (Ok t) p = tt
 any_err P (Err e) p = p
 
-pub read_err : {T : Type 0} {E : Type 0} (runs : List Event → Type 0)
-    (spans : List (Option Contents)) (frames : List ℕ) (es : List Event) (r : Result T E) → runs es
+pub read_err : {T : Type 0} {E : Type 0} (runs : List Access → Type 0)
+    (spans : List (Option Contents)) (frames : List ℕ) (es : List Access) (r : Result T E) → runs es
     → OnlyLoads (LiesInOne spans frames) es → OnErr r (ReadsSpans runs spans frames)
 read_err runs spans frames es r ran loads =
     any_err (ReadsSpans runs spans frames) r (es, ran, loads)
 
 -- ---- by what was found, and by what was taken
-pub found_loose : (runs : List Event → Type 0) (shows : Shown → Type 0)
+pub found_loose : (runs : List Access → Type 0) (shows : Shown → Type 0)
     (far : FarState) (found : Found) (frames : _) (counts : LengthCounts) (nodes : ℕ)
     → found ≡ Loose frames counts nodes → FindsSpans runs shows far found
     → FindsSpans runs shows far (Loose frames counts nodes)
 found_loose runs shows far found frames counts nodes is x = subst (FindsSpans runs shows far) is x
 
-pub taken_enough : (runs : List Event → Type 0) (shows : Shown → Type 0)
-    (far : FarState) (finds : List ℕ → List Event → Type 0) (taken : Taken) (frames : _)
+pub taken_enough : (runs : List Access → Type 0) (shows : Shown → Type 0)
+    (far : FarState) (finds : List ℕ → List Access → Type 0) (taken : Taken) (frames : _)
     (formers : _) → taken ≡ Enough frames formers → Takes runs shows far finds taken
     → Takes runs shows far finds (Enough frames formers)
 taken_enough runs shows far finds taken frames formers is x =
@@ -111,7 +111,7 @@ rows_made rows k n len is e =
 
 -- ---- the loose spans
 -- they differ
-pub loose_apart : (es : List Event) (far : FarState) (frames loose : List ℕ)
+pub loose_apart : (es : List Access) (far : FarState) (frames loose : List ℕ)
     → AllPairs (λ f g. f ≢ g) frames → AreLoose es far.spans frames loose
     → AllPairs (λ f g. f ≢ g) loose
 loose_apart es far [] [] apart a = apart
@@ -126,14 +126,14 @@ loose_apart es far (f ∷ frames) (g ∷ loose) apart (inr a) =
     (loose_apart es far frames loose (apart_tail f frames apart) a.2)
 
 -- ---- the effect by the reply
-pub set_effect : (far new : FarState) (id : SetId) (r : Reply) (es : List Event) (s t : Shown)
+pub set_effect : (far new : FarState) (id : SetId) (r : Reply) (es : List Access) (s t : Shown)
     → r ≡ answer.Set id → IsEvicted far new es s t → EvictEffect far new r es s t
 set_effect far new id r es s t is a = record {
   evicted = λ other e. a;
   left = λ none. absurd (none id is);
 }
 
-pub left_effect : (far new : FarState) (r : Reply) (es : List Event) (s t : Shown)
+pub left_effect : (far new : FarState) (r : Reply) (es : List Access) (s t : Shown)
     → ((id : SetId) → r ≡ answer.Set id → ⊥) → IsStill es s t → EvictEffect far new r es s t
 left_effect far new r es s t none a = record {
   evicted = λ id e. absurd (none id e);
@@ -147,14 +147,14 @@ pub few_nodes : (n : ℕ) (r : Reply) (id : SetId) → r ≡ answer.NoNodes n �
 few_nodes n r id a b = cc
 
 -- ---- nothing was done
-pub nothing_done : (far : FarState) (runs : List Event → Type 0) (knows : Shown → Type 0)
+pub nothing_done : (far : FarState) (runs : List Access → Type 0) (knows : Shown → Type 0)
     → runs [] → Performs runs (λ s. knows s × Sound s far) (TouchesSpans far) (λ t. Sound t far)
     IsStill
 nothing_done far runs knows ran =
     does_nothing runs knows far far (TouchesSpans far) IsStill ran refl tt still_none
 
 -- ---- the looks
-pub looks_as : (runs : List Event → Type 0) (spans ys : List (Option Contents))
+pub looks_as : (runs : List Access → Type 0) (spans ys : List (Option Contents))
     (frames gs loose hs : List ℕ) → ys ≡ spans → gs ≡ frames → hs ≡ loose → LooksOver runs ys gs hs
     → LooksOver runs spans frames loose
 looks_as runs spans ys frames gs loose hs e f h x =
@@ -183,7 +183,7 @@ counted_as spans ys loose hs e f x = record {
 }
 
 -- nothing is claimed by looks
-pub looks_tried : {runs : List Event → Type 0} {shows : Shown → Type 0} (far : FarState)
+pub looks_tried : {runs : List Access → Type 0} {shows : Shown → Type 0} (far : FarState)
     (loose : List ℕ) → LooksOver runs far.spans (candidates far) loose
     → TriesSpans runs shows far (AreLooseNow far loose) []
 looks_tried far loose x =
@@ -191,7 +191,7 @@ looks_tried far loose x =
     (λ p y. absurd y) (x.done.1, λ at s knows here. claims_nothing at s x.events x.done.0 here)
 
 -- ---- the looks, and then the rest
-module _ {runsA runsB runsC : List Event → Type 0} {showsA showsB : Shown → Type 0} (far : FarState)
+module _ {runsA runsB runsC : List Access → Type 0} {showsA showsB : Shown → Type 0} (far : FarState)
     (was : List ℕ) (j : Joins runsA runsB runsC showsA showsB)
     (x : LooksOver runsA far.spans (candidates far) was) where
   looked_tries : (loose : List ℕ) (formers : List Former)
@@ -233,7 +233,7 @@ module _ {runsA runsB runsC : List Event → Type 0} {showsA showsB : Shown → 
 
 -- ---- nothing is claimed in the end
 -- so nothing changed
-pub still_at : (far : FarState) (finds : List Event → Type 0) {runs : List Event → Type 0}
+pub still_at : (far : FarState) (finds : List Access → Type 0) {runs : List Access → Type 0}
     {shows : Shown → Type 0} → (x : TriesSpans runs shows far finds []) → (s : Shown)
     → shows s × Sound s far
     → IsStill x.events s (played x.events s) × Sound (played x.events s) far
@@ -242,7 +242,7 @@ still_at far finds x s k =
     restored far x.events s (IsIn far.spans (candidates far)) (LiesInOne far.spans (candidates far)) k.1 a.0
     a.1 a.2 x.touches
 
-tried_still : (far : FarState) (finds : List Event → Type 0) {runs : List Event → Type 0}
+tried_still : (far : FarState) (finds : List Access → Type 0) {runs : List Access → Type 0}
     {shows : Shown → Type 0} → TriesSpans runs shows far finds []
     → Performs runs (λ s. shows s × Sound s far) (TouchesSpans far) (λ t. Sound t far) IsStill
 tried_still far finds x = record {
@@ -256,9 +256,9 @@ tried_still far finds x = record {
 }
 
 -- looks, and no more
-pub looked_fails : (far : FarState) (loose : List ℕ) {runsA runsB : List Event → Type 0}
+pub looked_fails : (far : FarState) (loose : List ℕ) {runsA runsB : List Access → Type 0}
     {shows : Shown → Type 0} → LooksOver runsA far.spans (candidates far) loose
-    → ((es : List Event) → runsA es → runsB es)
+    → ((es : List Access) → runsA es → runsB es)
     → Performs runsB (λ s. shows s × Sound s far) (TouchesSpans far) (λ t. Sound t far) IsStill
 looked_fails far loose {shows = shows} x on =
     let y = tried_still far (AreLooseNow far loose) (looks_tried {shows = shows} far loose x) in record {
@@ -272,7 +272,7 @@ looked_fails far loose {shows = shows} x on =
     }
 
 -- so it is refused
-pub takes_few : (far : FarState) (e : Eviction) (runs : List Event → Type 0)
+pub takes_few : (far : FarState) (e : Eviction) (runs : List Access → Type 0)
     (shows : Shown → Type 0) → TakesFew runs shows far (AreLooseNow far) e
     → Performs runs (λ s. shows s × Sound s far) (CountsRule far far e) (λ t. Sound t far)
     (EvictEffect far far (reply_of e))
@@ -311,9 +311,9 @@ takes_few far e runs shows x = let y = x.tries in record {
         few_nodes (room_count far.nodes far.members) (reply_of e) id a.reply is
 
 -- ---- by the rule
-pub rule_weaker : (runs : List Event → Type 0) (knows sound : Shown → Type 0)
-    (rule other : List Event → Type 0) (does : List Event → Shown → Shown → Type 0)
-    → ((es : List Event) → rule es → other es) → Performs runs knows rule sound does
+pub rule_weaker : (runs : List Access → Type 0) (knows sound : Shown → Type 0)
+    (rule other : List Access → Type 0) (does : List Access → Shown → Shown → Type 0)
+    → ((es : List Access) → rule es → other es) → Performs runs knows rule sound does
     → Performs runs knows other sound does
 rule_weaker runs knows sound rule other does f x = record {
   events = x.events;
@@ -327,7 +327,7 @@ rule_weaker runs knows sound rule other does f x = record {
 
 -- the reply of an eviction that tells both counts
 pub replied : (far new : FarState) (e : Eviction) (r : Reply)
-    (runs : List Event → Type 0) (knows sound : Shown → Type 0) → r ≡ reply_of e
+    (runs : List Access → Type 0) (knows sound : Shown → Type 0) → r ≡ reply_of e
     → Performs runs knows (CountsRule far new e) sound (EvictEffect far new (reply_of e))
     → Performs runs knows (EvictRule far new r) sound (EvictEffect far new r)
 replied far new e r runs knows sound is x =
@@ -337,7 +337,7 @@ replied far new e r runs knows sound is x =
     (EvictEffect far new (reply_of e)) (λ es y. y.rule) x)
 
 -- a set has no counts to tell
-pub set_counted : (far new : FarState) (id : SetId) (e : Eviction) (es : List Event)
+pub set_counted : (far new : FarState) (id : SetId) (e : Eviction) (es : List Access)
     → e ≡ eviction.Set id → EvictRule far new (reply_of e) es → CountsRule far new e es
 set_counted far new id e es is x = record {
   rule = x;
@@ -346,7 +346,7 @@ set_counted far new id e es is x = record {
 
 -- ---- the claims
 -- the spans that are claimed are of the length, and were loose
-pub chosen_in : {runs : List Event → Type 0} {shows : Shown → Type 0}
+pub chosen_in : {runs : List Access → Type 0} {shows : Shown → Type 0}
     (spans : List (Option Contents)) (loose : List ℕ) (pages k : ℕ) (frames : List ℕ)
     (formers : List Former) → (x : ClaimsSpans runs shows spans loose pages k frames formers)
     → (f : ℕ) → Contains frames f → Contains (loose_of spans pages loose) f
@@ -357,7 +357,7 @@ chosen_in spans loose pages k frames formers x f c =
     (Contains-append_left frames x.rest f c))
 
 pub are_taken : (far : FarState) (loose frames : List ℕ) (formers : List Former)
-    (runs : List Event → Type 0) (shows : Shown → Type 0) (pages k : ℕ)
+    (runs : List Access → Type 0) (shows : Shown → Type 0) (pages k : ℕ)
     → ClaimsSpans runs shows far.spans loose pages k frames formers
     → All (Contains (candidates far)) loose
     → length frames ≡ far.code.k → AreSpansTaken far frames formers
@@ -382,21 +382,21 @@ taken_as far frames gs formers hs f h a =
     subst (λ (l : List Former). AreSpansTaken far gs l) (sym h)
     (subst (λ (l : List ℕ). AreSpansTaken far l formers) (sym f) a)
 
-pub evicts_as : (runs : List Event → Type 0) (shows : Shown → Type 0)
+pub evicts_as : (runs : List Access → Type 0) (shows : Shown → Type 0)
     (far new : FarState) (frames gs : List ℕ) (formers hs : List Former) → gs ≡ frames → hs ≡ formers → EvictsClaimed runs shows far new gs hs
     → EvictsClaimed runs shows far new frames formers
 evicts_as runs shows far new frames gs formers hs f h a =
     subst (λ (l : List Former). EvictsClaimed runs shows far new frames l) h
     (subst (λ (l : List ℕ). EvictsClaimed runs shows far new l hs) f a)
 
-pub leaves_as : (runs : List Event → Type 0) (shows : Shown → Type 0)
+pub leaves_as : (runs : List Access → Type 0) (shows : Shown → Type 0)
     (far : FarState) (frames gs : List ℕ) (formers hs : List Former) → gs ≡ frames → hs ≡ formers
     → LeavesClaimed runs shows far gs hs → LeavesClaimed runs shows far frames formers
 leaves_as runs shows far frames gs formers hs f h a =
     subst (λ (l : List Former). LeavesClaimed runs shows far frames l) h
     (subst (λ (l : List ℕ). LeavesClaimed runs shows far l hs) f a)
 
-pub claims_as : (runs : List Event → Type 0) (shows : Shown → Type 0)
+pub claims_as : (runs : List Access → Type 0) (shows : Shown → Type 0)
     (spans ys : List (Option Contents)) (loose : List ℕ) (pages k : ℕ) (frames : List ℕ)
     (formers : List Former) → ys ≡ spans → ClaimsSpans runs shows ys loose pages k frames formers
     → ClaimsSpans runs shows spans loose pages k frames formers
@@ -411,7 +411,7 @@ among_spans far loose among h (f, c, named) =
 
 -- what the claims tried
 pub claims_tried : (far : FarState) {loose frames : List ℕ} {formers : List Former} {pages k : ℕ}
-    {runs : List Event → Type 0} {shows : Shown → Type 0}
+    {runs : List Access → Type 0} {shows : Shown → Type 0}
     → (x : ClaimsSpans runs shows far.spans loose pages k frames formers)
     → ClaimsThese runs shows (IsIn far.spans (loose_of far.spans pages loose)) (λ p. ⊥)
     (AreLostSince far loose pages x.lost) formers
@@ -424,7 +424,7 @@ claims_tried far {loose = loose} {pages = pages} x =
 
 -- where fewer are claimed than wanted, no other one is left
 pub fewer_left : (far : FarState) {loose frames : List ℕ} {formers : List Former} {pages k : ℕ}
-    {runs : List Event → Type 0} {shows : Shown → Type 0}
+    {runs : List Access → Type 0} {shows : Shown → Type 0}
     → (x : ClaimsSpans runs shows far.spans loose pages k frames formers) → length frames < k
     → loose_of far.spans pages (without x.lost loose) ≡ frames
 fewer_left far {frames = frames} {k = k} x few =
@@ -436,7 +436,7 @@ fewer_left far {frames = frames} {k = k} x few =
 
 -- and they are given back
 pub back_tried : (far : FarState) {loose frames : List ℕ} {formers : List Former} {pages k : ℕ}
-    {runsA runsB runsC : List Event → Type 0} {showsA showsB : Shown → Type 0}
+    {runsA runsB runsC : List Access → Type 0} {showsA showsB : Shown → Type 0}
     → Joins runsA runsB runsC showsA showsB
     → (x : ClaimsSpans runsA showsA far.spans loose pages k frames formers)
     → GivesBack runsB showsB formers
@@ -471,14 +471,14 @@ back_tried far {loose = loose} {frames = frames} {formers = formers} {pages = pa
     }
 
 -- what claims nothing is so of a list that is empty
-pub claims_none : {runs : List Event → Type 0} {shows : Shown → Type 0} {objects words : ℕ → Type 0}
-    {finds : List Event → Type 0} (formers : List Former) → formers ≡ []
+pub claims_none : {runs : List Access → Type 0} {shows : Shown → Type 0} {objects words : ℕ → Type 0}
+    {finds : List Access → Type 0} (formers : List Former) → formers ≡ []
     → ClaimsThese runs shows objects words finds [] → ClaimsThese runs shows objects words finds formers
 claims_none {runs = runs} {shows = shows} {objects = objects} {words = words} {finds = finds} formers e x =
     subst (λ (l : List Former). ClaimsThese runs shows objects words finds l) (sym e) x
 
 -- where none is tried none is lost
-pub nothing_lost : (far : FarState) (loose : List ℕ) (pages : ℕ) {runs : List Event → Type 0}
+pub nothing_lost : (far : FarState) (loose : List ℕ) (pages : ℕ) {runs : List Access → Type 0}
     {shows : Shown → Type 0} → runs []
     → ClaimsThese runs shows (IsIn far.spans (loose_of far.spans pages loose)) (λ p. ⊥)
     (AreLostSince far loose pages (λ f. false)) []
@@ -498,8 +498,8 @@ nothing_lost far loose pages ran = record {
 
 -- ---- the claims, and then an end
 -- after the claims all is ready
-pub tried_ready : (far : FarState) (formers : List Former) (finds : List Event → Type 0)
-    {runs : List Event → Type 0} {shows showsB : Shown → Type 0}
+pub tried_ready : (far : FarState) (formers : List Former) (finds : List Access → Type 0)
+    {runs : List Access → Type 0} {shows showsB : Shown → Type 0}
     → (x : TriesSpans runs shows far finds formers) → (s : Shown) → showsB (played x.events s)
     → shows s → Sound s far → IsReadyToEvict showsB far formers x.events s
 tried_ready far formers finds x s shown knows sound =
@@ -512,9 +512,9 @@ tried_ready far formers finds x s shown knows sound =
       touches = x.touches;
     }
 
-module _ {runsA runsB runsC : List Event → Type 0} {showsA showsB : Shown → Type 0}
+module _ {runsA runsB runsC : List Access → Type 0} {showsA showsB : Shown → Type 0}
     {far new : FarState} {frames : List ℕ} {formers : List Former}
-    {ends : List Event → Type 0} {does : List Event → Shown → Shown → Type 0}
+    {ends : List Access → Type 0} {does : List Access → Shown → Shown → Type 0}
     (j : Joins runsA runsB runsC showsA showsB)
     (x : TakesEnough runsA showsA far (AreLooseNow far) frames formers)
     (y : EndsClaimed runsB showsB far new frames formers ends does) where
@@ -534,7 +534,7 @@ module _ {runsA runsB runsC : List Event → Type 0} {showsA showsB : Shown → 
       (all_quiet x.tries.events y.events far.spans (candidates far) x.loose
       (λ f e h named. y.done.0 h) x.tries.done.0)
 
-  pub tried_end : (rule : List Event → Type 0) (effect : List Event → Shown → Shown → Type 0)
+  pub tried_end : (rule : List Access → Type 0) (effect : List Access → Shown → Shown → Type 0)
       → rule all_tried.events
       → ((s t : Shown) → does all_tried.events s t → effect all_tried.events s t)
       → Performs runsC (λ s. showsA s × Sound s far) rule (λ t. Sound t new) effect
@@ -550,7 +550,7 @@ module _ {runsA runsB runsC : List Event → Type 0} {showsA showsB : Shown → 
   }
 
 -- k spans were claimed and are evicted
-pub takes_evict : {runsA runsB runsC : List Event → Type 0} {showsA showsB : Shown → Type 0}
+pub takes_evict : {runsA runsB runsC : List Access → Type 0} {showsA showsB : Shown → Type 0}
     {far new : FarState} {frames : List ℕ} {formers : List Former} (e : Eviction)
     → Joins runsA runsB runsC showsA showsB
     → TakesEnough runsA showsA far (AreLooseNow far) frames formers
@@ -577,7 +577,7 @@ takes_evict {far = far} {new = new} e j x y is (s, knows, sound) =
     (λ a b. set_effect far new id (reply_of e) all.events a b (ap reply_of is))
 
 -- k spans were claimed and are given back for want of memory
-pub takes_fail : {runsA runsB runsC : List Event → Type 0} {showsA showsB : Shown → Type 0}
+pub takes_fail : {runsA runsB runsC : List Access → Type 0} {showsA showsB : Shown → Type 0}
     {far : FarState} {frames : List ℕ} {formers : List Former}
     → Joins runsA runsB runsC showsA showsB
     → TakesEnough runsA showsA far (AreLooseNow far) frames formers

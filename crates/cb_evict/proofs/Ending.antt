@@ -11,7 +11,7 @@ use Rattle.cb_gf256.specs.Rows.{row_at, HoldBytes}
 use Rattle.cb_member.specs.declared.names.Shard.{Shard}
 use Rattle.cb_span.specs.Contents.{Contents}
 use Rattle.cb_world.specs.declared.entry.Entry.{Entry}
-use Rattle.cb_world.specs.declared.event.Event.{Event}
+use Rattle.cb_world.specs.declared.access.Access.{Access}
 use Rattle.cb_world.specs.declared.homes.Home.{Home}
 use Rattle.cb_world.specs.declared.leaving.Former.{Former}
 use Rattle.cb_world.specs.declared.shown.Shown.{Shown}
@@ -55,14 +55,14 @@ taken_ready far frames formers s a sound f x =
 pub place_in : (frames : List ℕ) (k d : ℕ) → k < length frames → Contains frames (get_or frames k d)
 place_in frames k d l = (k, l, get_or_default frames k (get_or frames k d) d l)
 
-pub handles_all : (es : List Event) (s t : Shown) (formers : List Former) (n : ℕ)
+pub handles_all : (es : List Access) (s t : Shown) (formers : List Former) (n : ℕ)
     → AreClaimed es s t formers → length t.objects ≡ n → All (λ f. f.handle < n) formers
 handles_all es s t formers n a count k d l =
     let h = (a.taken k d l).at.handle in omega (arith, h, count)
 
 -- the caller owns the words of the frames
 pub owns_taken : (far : FarState) (frames : List ℕ) (formers : List Former)
-    (before : List Event) (s t : Shown) → (a : AreSpansTaken far frames formers)
+    (before : List Access) (s t : Shown) → (a : AreSpansTaken far frames formers)
     → LocalSound s far → LocalSound t far → AreClaimed before s t formers → (f : ℕ)
     → Contains frames f → OwnsRun t f a.pages
 owns_taken far frames formers before s t a sound here claimed f x p lies =
@@ -83,7 +83,7 @@ kept_parities shards frames n coded count kept =
 
 -- what is known once the rows are read, and coded where the parities are made
 abbrev pub are_read_by : (far : FarState) (frames : List ℕ) (formers : List Former) (by : Bool)
-    (coded parities : List (List ℕ)) (shows : Shown → Type 0) (before : List Event) (s : Shown)
+    (coded parities : List (List ℕ)) (shows : Shown → Type 0) (before : List Access) (s : Shown)
     → IsInRange far.code.k far.code.r → IsReadyToEvict shows far formers before s
     → (taken : AreSpansTaken far frames formers) → length parities ≡ far.code.r
     → (by ≡ true → AreParities (length frames) (far.code.k + far.code.r) coded parities)
@@ -129,7 +129,7 @@ are_read_by far frames formers by coded parities shows before s ok r taken few a
 
 -- so, of rows that are coded
 abbrev pub are_read : (far : FarState) (frames : List ℕ) (formers : List Former)
-    (coded parities : List (List ℕ)) (shows : Shown → Type 0) (before : List Event) (s : Shown)
+    (coded parities : List (List ℕ)) (shows : Shown → Type 0) (before : List Access) (s : Shown)
     → IsInRange far.code.k far.code.r → IsReadyToEvict shows far formers before s
     → (taken : AreSpansTaken far frames formers)
     → AreParities (length frames) (far.code.k + far.code.r) coded parities → length coded ≡ length frames
@@ -141,24 +141,24 @@ are_read far frames formers coded parities shows before s ok r taken a count mad
     (let n = a.count in omega (arith, n, taken.count)) (λ yes. a) count made
 
 -- all that is promised of the events of the end
-pub record Ended (far new : FarState) (frames : List ℕ) (before events : List Event)
+pub record Ended (far new : FarState) (frames : List ℕ) (before events : List Access)
     (s : Shown) : Type 0 where
   pub evicted : HasEvicted far new frames (before ++ events)
   pub sound : Sound (played (before ++ events) s) new
   pub effect : IsEvicted far new (before ++ events) s (played (before ++ events) s)
 
 -- the events read words and put objects away
-pub record IsEvictEnd (q : ℕ → Type 0) (formers : List Former) (ls ss : List Event) : Type 0 where
+pub record IsEvictEnd (q : ℕ → Type 0) (formers : List Former) (ls ss : List Access) : Type 0 where
   pub reads : AreAllReads q ls
   pub touches : TouchesOnly (IsOne formers) (λ p. ⊥) ss
   pub quiet : (k : ℕ) → NoLook k ss
 
-pub end_quiet : (q : ℕ → Type 0) (formers : List Former) (ls ss : List Event)
+pub end_quiet : (q : ℕ → Type 0) (formers : List Former) (ls ss : List Access)
     → IsEvictEnd q formers ls ss
     → (k : ℕ) → NoLook k (ls ++ ss)
 end_quiet q formers ls ss e k = no_look_append k ls ss (e.reads.quiet k) (e.quiet k)
 
-pub end_touches : (q : ℕ → Type 0) (formers : List Former) (ls ss : List Event)
+pub end_touches : (q : ℕ → Type 0) (formers : List Former) (ls ss : List Access)
     → IsEvictEnd q formers ls ss → TouchesOnly (IsOne formers) q (ls ++ ss)
 end_touches q formers ls ss e = touches_append (IsOne formers) q ls ss
     (touches_more (λ h. ⊥) (IsOne formers) q q ls (λ h x. absurd x) (λ p x. x) e.reads.touches)
@@ -166,21 +166,21 @@ end_touches q formers ls ss e = touches_append (IsOne formers) q ls ss
     e.touches)
 
 -- they are allowed, where those that settle are so
-pub end_allowed : (q : ℕ → Type 0) (formers : List Former) (before ls ss : List Event) (s : Shown)
+pub end_allowed : (q : ℕ → Type 0) (formers : List Former) (before ls ss : List Access) (s : Shown)
     → IsEvictEnd q formers ls ss → Allowed (played before s) ss
     → Allowed (played before s) (ls ++ ss)
 end_allowed q formers before ls ss s e may = allowed_append ls ss (played before s)
     (e.reads.steady (played before s)).allowed
     (subst (λ (v : Shown). Allowed v ss) (sym (e.reads.stays (played before s))) may)
 
-pub end_played : (q : ℕ → Type 0) (formers : List Former) (before ls ss : List Event) (s : Shown)
+pub end_played : (q : ℕ → Type 0) (formers : List Former) (before ls ss : List Access) (s : Shown)
     → IsEvictEnd q formers ls ss → played (before ++ (ls ++ ss)) s ≡ played ss (played before s)
 end_played q formers before ls ss s e = played_append before (ls ++ ss) s
     ∙ played_append ls ss (played before s) ∙ ap (played ss) (e.reads.stays (played before s))
 
 pub ended : (far new : FarState) (frames : List ℕ) (formers : List Former)
     (shards : List Shard) (coded parities : List (List ℕ)) (homes : List (Option Home))
-    (q o p : ℕ → Type 0) (before ls ss : List Event) (s : Shown)
+    (q o p : ℕ → Type 0) (before ls ss : List Access) (s : Shown)
     → (d : EvictDone far frames formers shards parities homes before s (played before s)
     (played ss (played before s)))
     → coded ≡ frame_rows (played before s) d.read.taken.pages frames → IsEvictEnd q formers ls ss
@@ -249,7 +249,7 @@ pub one_in : (far : FarState) (frames : List ℕ) (formers : List Former)
 one_in far frames formers only h (f, x, same) = subst (IsIn far.spans frames) same
     (All-contains (λ g. IsIn far.spans frames g.handle) formers f only x)
 
-pub end_in : (far : FarState) (frames : List ℕ) (formers : List Former) (ls ss : List Event)
+pub end_in : (far : FarState) (frames : List ℕ) (formers : List Former) (ls ss : List Access)
     → All (λ f. IsIn far.spans frames f.handle) formers
     → IsEvictEnd (LiesInOne far.spans frames) formers ls ss
     → TouchesOnly (IsIn far.spans frames) (LiesInOne far.spans frames) (ls ++ ss)
@@ -258,7 +258,7 @@ end_in far frames formers ls ss only e =
     (LiesInOne far.spans frames) (ls ++ ss) (one_in far frames formers only) (λ p x. x) (end_touches (LiesInOne far.spans frames) formers ls ss e)
 
 -- the frames are candidates
-pub spans_touched : (far : FarState) (frames : List ℕ) (before es : List Event)
+pub spans_touched : (far : FarState) (frames : List ℕ) (before es : List Access)
     → All (Contains (candidates far)) frames → TouchesSpans far before
     → TouchesOnly (IsIn far.spans frames) (LiesInOne far.spans frames) es → TouchesSpans far (before ++ es)
 spans_touched far frames before es among touched t =

@@ -4,8 +4,8 @@ use Rattle.std.proofs.lemmas.Bool.{cases_eq}
 use Rattle.std.proofs.lemmas.List.{append-nil}
 use Rattle.cb_ptr.specs.Word.{hot_of, place_of}
 use Rattle.cb_world.specs.declared.entry.Entry.{Entry}
-use Rattle.cb_world.specs.declared.event.Event.{Event}
-use Rattle.cb_world.specs.declared.event.Event.TheVariants.{Looked, Claimed, Told, Loaded, Stored, Stamped, Settled}
+use Rattle.cb_world.specs.declared.access.Access.{Access}
+use Rattle.cb_world.specs.declared.access.Access.TheVariants.{Looked, Claimed, Told, Loaded, Stored, Stamped, Settled}
 use Rattle.cb_world.specs.declared.shown.Shown.{Shown}
 use Rattle.cb_world.specs.Memory.{put}
 use Rattle.cb_world.specs.Played.{after, played}
@@ -17,7 +17,7 @@ use Rattle.cb_evict.specs.Events.{TouchesOnly, OnlyLooks, AreSteady}
 use Rattle.cb_evict.specs.Loading.{OnlyLoads}
 
 -- ---- what events are about
-pub touches_append : (o : ℕ → Type 0) (q : ℕ → Type 0) (es fs : List Event) → TouchesOnly o q es
+pub touches_append : (o : ℕ → Type 0) (q : ℕ → Type 0) (es fs : List Access) → TouchesOnly o q es
     → TouchesOnly o q fs → TouchesOnly o q (es ++ fs)
 touches_append o q [] fs a b = b
 touches_append o q (Looked h w ∷ es) fs a b = (a.0, touches_append o q es fs a.1 b)
@@ -28,7 +28,7 @@ touches_append o q (Told h v ∷ es) fs a b = absurd a
 touches_append o q (Stored p x ∷ es) fs a b = absurd a
 touches_append o q (Stamped h v ∷ es) fs a b = absurd a
 
-pub touches_more : (o p q r : ℕ → Type 0) (es : List Event) → ((h : ℕ) → o h → p h)
+pub touches_more : (o p q r : ℕ → Type 0) (es : List Access) → ((h : ℕ) → o h → p h)
     → ((i : ℕ) → q i → r i) → TouchesOnly o q es → TouchesOnly p r es
 touches_more o p q r [] f g a = tt
 touches_more o p q r (Looked h w ∷ es) f g a = (f h a.0, touches_more o p q r es f g a.1)
@@ -40,7 +40,7 @@ touches_more o p q r (Stored i x ∷ es) f g a = absurd a
 touches_more o p q r (Stamped h v ∷ es) f g a = absurd a
 
 -- an object that they are not about is not looked at
-pub touches_quiet : (o q : ℕ → Type 0) (k : ℕ) (es : List Event) → (o k → ⊥) → TouchesOnly o q es
+pub touches_quiet : (o q : ℕ → Type 0) (k : ℕ) (es : List Access) → (o k → ⊥) → TouchesOnly o q es
     → NoLook k es
 touches_quiet o q k [] none a = tt
 touches_quiet o q k (Looked h w ∷ es) none a =
@@ -53,16 +53,16 @@ touches_quiet o q k (Told h v ∷ es) none a = absurd a
 touches_quiet o q k (Stored p x ∷ es) none a = absurd a
 touches_quiet o q k (Stamped h v ∷ es) none a = absurd a
 
-pub no_look_append : (k : ℕ) (es fs : List Event) → NoLook k es → NoLook k fs → NoLook k (es ++ fs)
+pub no_look_append : (k : ℕ) (es fs : List Access) → NoLook k es → NoLook k fs → NoLook k (es ++ fs)
 no_look_append k [] fs a b = b
 no_look_append k (e ∷ es) fs a b = (a.0, no_look_append k es fs a.1 b)
 
-pub found_after : (h w : ℕ) (es fs : List Event) → IsFound h w fs → IsFound h w (es ++ fs)
+pub found_after : (h w : ℕ) (es fs : List Access) → IsFound h w fs → IsFound h w (es ++ fs)
 found_after h w [] fs a = a
 found_after h w (e ∷ es) fs a = inl (found_after h w es fs a)
 
 -- an event is a look at the object, or it is none
-look_of : (h : ℕ) (e : Event) → ((w : ℕ) → IsLook h w e → ⊥) ⊎ ((w : ℕ) × IsLook h w e)
+look_of : (h : ℕ) (e : Access) → ((w : ℕ) → IsLook h w e → ⊥) ⊎ ((w : ℕ) × IsLook h w e)
 look_of h (Looked k x) = elim (cases_eq k h) [
   | inl same ↦ inr (x, (same, refl))
   | inr off ↦ inl (λ w is. off is.0)
@@ -78,7 +78,7 @@ look_of h (Stored p x) = inl (λ w is. is)
 look_of h (Stamped k v) = inl (λ w is. is)
 
 -- an object is not looked at, or there is a last look at it
-last_look : (h : ℕ) (es : List Event) → NoLook h es ⊎ ((w : ℕ) × IsFound h w es)
+last_look : (h : ℕ) (es : List Access) → NoLook h es ⊎ ((w : ℕ) × IsFound h w es)
 last_look h [] = inl tt
 last_look h (e ∷ es) = elim (last_look h es) [
   | inr (w, found) ↦ inr (w, inl found)
@@ -89,7 +89,7 @@ last_look h (e ∷ es) = elim (last_look h es) [
 ]
 
 -- an object that was looked at was so once more is told
-pub found_on : (h w : ℕ) (es fs : List Event) → IsFound h w es
+pub found_on : (h w : ℕ) (es fs : List Access) → IsFound h w es
     → (v : ℕ) × IsFound h v (es ++ fs)
 found_on h w es fs found = elim (last_look h fs) [
   | inl none ↦ (w, found_more h w es fs found none)
@@ -98,7 +98,7 @@ found_on h w es fs found = elim (last_look h fs) [
 
 -- objects are looked at before they are changed, where those of the first events are not looked at
 -- by the later ones
-pub first_append : (o q : ℕ → Type 0) (es fs : List Event) → TouchesOnly o q es → LooksFirst es
+pub first_append : (o q : ℕ → Type 0) (es fs : List Access) → TouchesOnly o q es → LooksFirst es
     → LooksFirst fs → ((h : ℕ) → o h → NoLook h fs) → LooksFirst (es ++ fs)
 first_append o q [] fs a first rest quiet = rest
 first_append o q (Looked h w ∷ es) fs a first rest quiet =
@@ -114,7 +114,7 @@ first_append o q (Stored p x ∷ es) fs a first rest quiet = absurd a
 first_append o q (Stamped h v ∷ es) fs a first rest quiet = absurd a
 
 -- ---- looks
-pub looks_append : (es fs : List Event) → OnlyLooks es → OnlyLooks fs → OnlyLooks (es ++ fs)
+pub looks_append : (es fs : List Access) → OnlyLooks es → OnlyLooks fs → OnlyLooks (es ++ fs)
 looks_append [] fs a b = b
 looks_append (Looked h w ∷ es) fs a b = looks_append es fs a b
 looks_append (Claimed h w v ws ∷ es) fs a b = absurd a
@@ -124,7 +124,7 @@ looks_append (Told h v ∷ es) fs a b = absurd a
 looks_append (Stored p x ∷ es) fs a b = absurd a
 looks_append (Stamped h v ∷ es) fs a b = absurd a
 
-pub looks_before : (es fs : List Event) → OnlyLooks es → LooksFirst fs → LooksFirst (es ++ fs)
+pub looks_before : (es fs : List Access) → OnlyLooks es → LooksFirst fs → LooksFirst (es ++ fs)
 looks_before [] fs a b = b
 looks_before (Looked h w ∷ es) fs a b = looks_before es fs a b
 looks_before (Claimed h w v ws ∷ es) fs a b = absurd a
@@ -134,11 +134,11 @@ looks_before (Told h v ∷ es) fs a b = absurd a
 looks_before (Stored p x ∷ es) fs a b = absurd a
 looks_before (Stamped h v ∷ es) fs a b = absurd a
 
-pub looks_are_first : (es : List Event) → OnlyLooks es → LooksFirst es
+pub looks_are_first : (es : List Access) → OnlyLooks es → LooksFirst es
 looks_are_first es looks = subst LooksFirst (append-nil es) (looks_before es [] looks tt)
 
 -- they change nothing, and tell of the hot bits alone
-pub looks_change : (es : List Event) (s : Shown) → OnlyLooks es → (hots : List Bool)
+pub looks_change : (es : List Access) (s : Shown) → OnlyLooks es → (hots : List Bool)
     × (length hots ≡ length s.hots) × (played es s ≡ record s { hots = hots })
     × (told_by es s ≡ record s { hots = hots })
 looks_change [] s a = (s.hots, refl, refl, refl)
@@ -152,7 +152,7 @@ looks_change (Told h v ∷ es) s a = absurd a
 looks_change (Stored p x ∷ es) s a = absurd a
 looks_change (Stamped h v ∷ es) s a = absurd a
 
-pub looks_steady : (es : List Event) (s : Shown) → OnlyLooks es → AreSteady es s
+pub looks_steady : (es : List Access) (s : Shown) → OnlyLooks es → AreSteady es s
 looks_steady es s a = record {
   allowed = allowed es s a;
   nothing = λ old. nothing es s old a;
@@ -160,7 +160,7 @@ looks_steady es s a = record {
       ap (λ (t : Shown). t.hots) c.2 ∙ sym (ap (λ (t : Shown). t.hots) c.3);
 }
   where
-    allowed : (es : List Event) (s : Shown) → OnlyLooks es → Allowed s es
+    allowed : (es : List Access) (s : Shown) → OnlyLooks es → Allowed s es
     allowed [] s a = tt
     allowed (Looked h w ∷ es) s a = (tt, allowed es (after (Looked h w) s) a)
     allowed (Claimed h w v ws ∷ es) s a = absurd a
@@ -170,7 +170,7 @@ looks_steady es s a = record {
     allowed (Stored p x ∷ es) s a = absurd a
     allowed (Stamped h v ∷ es) s a = absurd a
 
-    nothing : (es : List Event) (s : Shown) (old : List Entry) → OnlyLooks es → written_by es s old ≡ old
+    nothing : (es : List Access) (s : Shown) (old : List Entry) → OnlyLooks es → written_by es s old ≡ old
     nothing [] s old a = refl
     nothing (Looked h w ∷ es) s old a = nothing es (after (Looked h w) s) old a
     nothing (Claimed h w v ws ∷ es) s old a = absurd a
@@ -181,7 +181,7 @@ looks_steady es s a = record {
     nothing (Stamped h v ∷ es) s old a = absurd a
 
 -- ---- what is told
-pub told_hots : (es : List Event) (a b : Shown) → a.hots ≡ b.hots
+pub told_hots : (es : List Access) (a b : Shown) → a.hots ≡ b.hots
     → (told_by es a).hots ≡ (told_by es b).hots
 told_hots [] a b e = e
 told_hots (Looked h w ∷ es) a b e = told_hots es _ _ (ap (λ (l : List Bool). set l h (hot_of w)) e)
@@ -193,7 +193,7 @@ told_hots (Told h v ∷ es) a b e = told_hots es a b e
 told_hots (Stored p x ∷ es) a b e = told_hots es a b e
 told_hots (Stamped h v ∷ es) a b e = told_hots es a b e
 
-pub told_objects : (es : List Event) (s : Shown) → ((told_by es s).objects ≡ s.objects)
+pub told_objects : (es : List Access) (s : Shown) → ((told_by es s).objects ≡ s.objects)
     × ((told_by es s).first ≡ s.first)
 told_objects [] s = (refl, refl)
 told_objects (Looked h w ∷ es) s = told_objects es _
@@ -205,7 +205,7 @@ told_objects (Stored p x ∷ es) s = told_objects es s
 told_objects (Stamped h v ∷ es) s = told_objects es s
 
 -- where nothing is stored, the words are as they were told
-pub told_words : (o q : ℕ → Type 0) (es : List Event) (s u : Shown) → TouchesOnly o q es
+pub told_words : (o q : ℕ → Type 0) (es : List Access) (s u : Shown) → TouchesOnly o q es
     → s.versions ≡ u.versions → s.memory ≡ u.memory
     → ((played es s).versions ≡ (told_by es u).versions) × ((played es s).memory ≡ (told_by es u).memory)
 told_words o q [] s u a b c = (b, c)
@@ -227,7 +227,7 @@ told_words o q (Stamped h v ∷ es) s u a b c = absurd a
 pub steady_none : (s : Shown) → AreSteady [] s
 steady_none s = record { allowed = tt; nothing = λ old. refl; hots = refl }
 
-pub steady_append : (es fs : List Event) (s : Shown) → AreSteady es s → AreSteady fs (played es s)
+pub steady_append : (es fs : List Access) (s : Shown) → AreSteady es s → AreSteady fs (played es s)
     → AreSteady (es ++ fs) s
 steady_append es fs s a b = record {
   allowed = allowed_append es fs s a.allowed b.allowed;
@@ -239,7 +239,7 @@ steady_append es fs s a b = record {
 }
 
 -- ---- reads of memory words
-pub loads_append : (q : ℕ → Type 0) (es fs : List Event) → OnlyLoads q es → OnlyLoads q fs
+pub loads_append : (q : ℕ → Type 0) (es fs : List Access) → OnlyLoads q es → OnlyLoads q fs
     → OnlyLoads q (es ++ fs)
 loads_append q [] fs a b = b
 loads_append q (Loaded p x ∷ es) fs a b = (a.0, loads_append q es fs a.1 b)
@@ -250,7 +250,7 @@ loads_append q (Told h v ∷ es) fs a b = absurd a
 loads_append q (Stored p x ∷ es) fs a b = absurd a
 loads_append q (Stamped h v ∷ es) fs a b = absurd a
 
-pub loads_more : (q r : ℕ → Type 0) (es : List Event) → ((i : ℕ) → q i → r i) → OnlyLoads q es
+pub loads_more : (q r : ℕ → Type 0) (es : List Access) → ((i : ℕ) → q i → r i) → OnlyLoads q es
     → OnlyLoads r es
 loads_more q r [] f a = tt
 loads_more q r (Loaded p x ∷ es) f a = (f p a.0, loads_more q r es f a.1)
@@ -262,14 +262,14 @@ loads_more q r (Stored p x ∷ es) f a = absurd a
 loads_more q r (Stamped h v ∷ es) f a = absurd a
 
 -- what reads are, all at once: they change and tell nothing
-pub record AreAllReads (q : ℕ → Type 0) (es : List Event) : Type 0 where
+pub record AreAllReads (q : ℕ → Type 0) (es : List Access) : Type 0 where
   pub stays : (s : Shown) → played es s ≡ s
   pub steady : (s : Shown) → AreSteady es s
   pub touches : TouchesOnly (λ h. ⊥) q es
   pub quiet : (k : ℕ) → NoLook k es
   pub first : LooksFirst es
 
-pub are_reads : (q : ℕ → Type 0) (es : List Event) → OnlyLoads q es → AreAllReads q es
+pub are_reads : (q : ℕ → Type 0) (es : List Access) → OnlyLoads q es → AreAllReads q es
 are_reads q [] a = record {
   stays = λ s. refl;
   steady = steady_none;
@@ -293,7 +293,7 @@ are_reads q (Stored p x ∷ es) a = absurd a
 are_reads q (Stamped h v ∷ es) a = absurd a
 
 -- events without a look tell nothing
-pub quiet_told : (o q : ℕ → Type 0) (es : List Event) (s : Shown) → TouchesOnly o q es
+pub quiet_told : (o q : ℕ → Type 0) (es : List Access) (s : Shown) → TouchesOnly o q es
     → ((k : ℕ) → NoLook k es) → told_by es s ≡ s
 quiet_told o q [] s a quiet = refl
 quiet_told o q (Looked h w ∷ es) s a quiet = absurd ((quiet h).0 w (refl, refl))

@@ -7,7 +7,7 @@ use Rattle.std.proofs.lemmas.List.Elements.{All-contains}
 use Rattle.std.proofs.lemmas.Option.{slice_get-get_or, slice_get_within}
 use Rattle.cb_member.specs.declared.names.Shard.{Shard}
 use Rattle.cb_set.specs.SetState.{SetState}
-use Rattle.cb_world.specs.declared.event.Event.{Event}
+use Rattle.cb_world.specs.declared.access.Access.{Access}
 use Rattle.cb_world.specs.declared.homes.Home.{Home}
 use Rattle.cb_world.specs.declared.leaving.Former.{Former}
 use Rattle.cb_world.specs.declared.object.Object.{Object}
@@ -47,7 +47,7 @@ use Rattle.cb_evict.proofs.Options.{some_none}
 -- objects of k spans were claimed, their rows coded and put, and they were put away
 pub record EvictDone (far : FarState) (frames : List ℕ) (formers : List Former)
     (shards : List Shard) (parities : List (List ℕ)) (homes : List (Option Home))
-    (before : List Event) (s t u : Shown) : Type 0 where
+    (before : List Access) (s t u : Shown) : Type 0 where
   pub read : AreRowsCoded far frames formers true parities before s t
   pub sent : AreSent t u formers
   pub chosen : AreShards far (far.code.k + far.code.r) shards
@@ -69,7 +69,7 @@ new_counts far shards =
 
 module _ (far : FarState) (frames : List ℕ) (formers : List Former)
     (shards : List Shard) (parities : List (List ℕ)) (homes : List (Option Home))
-    (before : List Event) (s t u : Shown)
+    (before : List Access) (s t u : Shown)
     (d : EvictDone far frames formers shards parities homes before s t u) where
   put_away : IsGroupPutAway t u far (new_batch far d.read.taken.pages frames formers true parities) shards
       (new_sets far d.read.taken.pages frames shards) (all_put far.nodes shards (frame_rows t d.read.taken.pages frames ++ parities))
@@ -120,7 +120,7 @@ module _ (far : FarState) (frames : List ℕ) (formers : List Former)
       put_away
 
   -- ---- the rule
-  pub rule_then : (events : List Event) → ((k : ℕ) → NoLook k events)
+  pub rule_then : (events : List Access) → ((k : ℕ) → NoLook k events)
       → HasEvicted far (after_far far d.read.taken.pages frames shards (frame_rows t d.read.taken.pages frames ++ parities) homes)
       frames
       (before ++ events)
@@ -178,7 +178,7 @@ module _ (far : FarState) (frames : List ℕ) (formers : List Former)
       (sym d.sent.memory)
       ∙ ap (λ (q : SetState). row_of (window u.memory (512 * f) (512 * q.pages))) (sym set_is))
 
-  pub effect_then : (events : List Event) → ((k : ℕ) → NoLook k events)
+  pub effect_then : (events : List Access) → ((k : ℕ) → NoLook k events)
       → ((h : ℕ) → IsNone formers h → hot_at u h ≡ hot_at (told_by (before ++ events) s) h)
       → (told_by (before ++ events) s).objects ≡ s.objects
       → u.versions ≡ (told_by (before ++ events) s).versions
@@ -217,7 +217,7 @@ module _ (far : FarState) (frames : List ℕ) (formers : List Former)
   }
 
 -- claimed objects may be sent
-pub told_all : (far : FarState) (es : List Event) (s t : Shown) (formers : List Former)
+pub told_all : (far : FarState) (es : List Access) (s t : Shown) (formers : List Former)
     → AreClaimed es s t formers → LocalSound t far → length t.hots ≡ length t.objects
     → All (IsFormerTold t) formers
 told_all far es s t formers a here count k e l = let x = (a.taken k e l).at in record {
@@ -230,7 +230,7 @@ told_all far es s t formers a here count k e l = let x = (a.taken k e l).at in r
   warm = omega (arith, x.handle, count);
 }
 
-pub told_before : (o q : ℕ → Type 0) (before es : List Event) (s : Shown) → TouchesOnly o q es
+pub told_before : (o q : ℕ → Type 0) (before es : List Access) (s : Shown) → TouchesOnly o q es
     → ((k : ℕ) → NoLook k es) → told_by (before ++ es) s ≡ told_by before s
 told_before o q before es s a quiet =
     told_append before es s ∙ quiet_told o q es (told_by before s) a quiet

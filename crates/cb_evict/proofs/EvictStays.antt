@@ -10,7 +10,7 @@ use Rattle.cb_types.specs.declared.config.Config.{Config}
 use Rattle.cb_types.specs.Config.{IsAccepted}
 use Rattle.cb_types.specs.declared.reply.Reply.{Reply}
 use Rattle.cb_world.specs.Codes.{IsCodeOf, code_of_batch}
-use Rattle.cb_world.specs.declared.event.Event.{Event}
+use Rattle.cb_world.specs.declared.access.Access.{Access}
 use Rattle.cb_world.specs.declared.leaving.Former.{Former}
 use Rattle.cb_world.specs.declared.shown.Shown.{Shown}
 use Rattle.cb_world.specs.FarState.{FarState}
@@ -106,7 +106,7 @@ made_stays c far new pages frames shards rows accepted k count homes state is =
       };
     }
 
-pub evict_stays : (c : Config) (far new : FarState) (r : Reply) (es : List Event) → IsAccepted c
+pub evict_stays : (c : Config) (far new : FarState) (r : Reply) (es : List Access) → IsAccepted c
     → EvictRule far new r es → StaysIf c 24 far new
 evict_stays c far new r es accepted x = elim x.answered [
   | inl few ↦ stays_same c 24 far new (omega arith) few.state
@@ -162,7 +162,7 @@ batch_stays c far new pages frames words made parities k r state is =
     }
 
 begins_stay : (c : Config) (far new : FarState) (made : Bool) (so : List (List ℕ) → Type 0)
-    (r : Reply) (es : List Event) → BeginsBy far new made so r es → StaysIf c 1 far new
+    (r : Reply) (es : List Access) → BeginsBy far new made so r es → StaysIf c 1 far new
 begins_stay c far new made so r es (inl z) = stays_same c 1 far new (omega arith) z.state
 begins_stay c far new made so r es (inr x) = elim x.answered [
   | inl few ↦ stays_same c 1 far new (omega arith) few.state
@@ -172,11 +172,11 @@ begins_stay c far new made so r es (inr x) = elim x.answered [
       (taken_count far.code.k far.spans x.loose both.pages both.longest) e.counts.1 e.state
 ]
 
-pub begin_stays : (c : Config) (far new : FarState) (r : Reply) (es : List Event)
+pub begin_stays : (c : Config) (far new : FarState) (r : Reply) (es : List Access)
     → BeginRule far new r es → StaysIf c 1 far new
 begin_stays c far new r es x = begins_stay c far new true (λ rows. Unit {0}) r es x
 
-pub gather_stays : (c : Config) (far new : FarState) (g : Gathered) (es : List Event)
+pub gather_stays : (c : Config) (far new : FarState) (g : Gathered) (es : List Access)
     → GatherRule far new g es → StaysIf c 1 far new
 gather_stays c far new g es x =
     begins_stay c far new false (HandsOut far g) (gathered_reply g) es x
@@ -235,7 +235,7 @@ ships_stays c far new r rows (inr (inl z)) = stays_same c 1 far new (omega arith
 ships_stays c far new r rows (inr (inr (inl z))) = stays_same c 1 far new (omega arith) z.state
 ships_stays c far new r rows (inr (inr (inr z))) = shipped_stays c far new r rows z
 
-pub ship_stays : (c : Config) (far new : FarState) (r : Reply) (es : List Event)
+pub ship_stays : (c : Config) (far new : FarState) (r : Reply) (es : List Access)
     → ShipRule far new r es → StaysIf c 1 far new
 ship_stays c far new r es x = ships_stays c far new r x.rows x.ships
 
@@ -282,7 +282,7 @@ committed_stays c s far new r sound z is =
       });
     }
 
-pub commit_stays : (c : Config) (s : Shown) (far new : FarState) (r : Reply) (es : List Event)
+pub commit_stays : (c : Config) (s : Shown) (far new : FarState) (r : Reply) (es : List Access)
     → Sound s far → CommitRule far new r es → StaysIf c 1 far new
 commit_stays c s far new r es sound x = elim x.answered [
   | inl z ↦ stays_same c 1 far new (omega arith) z.state
@@ -319,7 +319,7 @@ given_up_stays c far new r z =
       given = dropped_given far.nodes (put_shards z.batch.shards);
     }))
 
-pub abort_stays : (c : Config) (far new : FarState) (r : Reply) (es : List Event)
+pub abort_stays : (c : Config) (far new : FarState) (r : Reply) (es : List Access)
     → AbortRule far new r es → StaysIf c 1 far new
 abort_stays c far new r es x = elim x.answered [
   | inl z ↦ stays_same c 1 far new (omega arith) z.state

@@ -11,7 +11,7 @@ use Rattle.cb_span.specs.Contents.{Contents}
 use Rattle.cb_types.specs.declared.reply.Reply.{Reply}
 use Rattle.cb_world.specs.declared.object.Object.{Object}
 use Rattle.cb_world.specs.declared.object.Object.TheVariants as is
-use Rattle.cb_world.specs.declared.event.Event.{Event}
+use Rattle.cb_world.specs.declared.access.Access.{Access}
 use Rattle.cb_world.specs.declared.shown.Shown.{Shown}
 use Rattle.cb_world.specs.Shown.{Fits, hot_at}
 use Rattle.cb_world.specs.FarState.{FarState, span_in}
@@ -64,7 +64,7 @@ was_in far new frames h e (f, named, gone) = elim (in_or_out frames f) [
 ]
 
 -- ---- every word
-sent_off : (x y : Words) (far new : FarState) (s : Shown) (es : List Event) (frames : List ℕ)
+sent_off : (x y : Words) (far new : FarState) (s : Shown) (es : List Access) (frames : List ℕ)
     → RunsStill x y far s es → new.spans ≡ all_closed far.spans frames
     → IsEvicted far new es s (played es s) → AreSentOff x y far frames
 sent_off x y far new s es frames r closed z =
@@ -96,7 +96,7 @@ sent_off x y far new s es frames r closed z =
     stays h out left = out (was_in far new frames h closed left)
 
 -- the claims told the memory words as they stand
-have_contents : (x y : Words) (far : FarState) (s : Shown) (es : List Event) (frames : List ℕ)
+have_contents : (x y : Words) (far : FarState) (s : Shown) (es : List Access) (frames : List ℕ)
     (rows : List (List ℕ)) → RunsStill x y far s es → AreInRows es far frames rows
     → HaveContents x far frames rows
 have_contents x y far s es frames rows r are p f slot h span at there named =
@@ -132,7 +132,7 @@ loose_spans : (x : Words) (far : FarState) (k pages f : ℕ)
 loose_spans x far k pages f c =
     loose_span x far f (taken_in k far.spans pages (loose_frames x far) f c)
 
-evicted_to : (x y : Words) (far new : FarState) (s : Shown) (es : List Event) (frames : List ℕ)
+evicted_to : (x y : Words) (far new : FarState) (s : Shown) (es : List Access) (frames : List ℕ)
     → RunsStill x y far s es → HasEvicted far new frames es
     → IsEvicted far new es s (played es s)
     → ((f : ℕ) → Contains frames f → (span : Contents) × (span_in far.spans f ≡ Some span))
@@ -160,7 +160,7 @@ evicted_to x y far new s es frames r e z holds few = record {
 
 -- ---- the step
 -- All is known where nothing changed, which is a refusal.
-pub refused : {Step : Type 0} (x y : Words) (far new : FarState) (s : Shown) (es : List Event)
+pub refused : {Step : Type 0} (x y : Words) (far new : FarState) (s : Shown) (es : List Access)
     → RunsStill x y far s es → IsKnown y new (played es s) → IsStill es s (played es s) → new ≡ far
     → (y ≡ x → Step) → Step × IsStepKnown y far new s
 refused x y far new s es runs l still state step =
@@ -177,7 +177,7 @@ refused x y far new s es runs l still state step =
       },
     )
 
-by_rule : (x y : Words) (far new : FarState) (r : Reply) (s : Shown) (es : List Event)
+by_rule : (x y : Words) (far new : FarState) (r : Reply) (s : Shown) (es : List Access)
     (loose : List ℕ) → RunsStill x y far s es → IsKnown y new (played es s)
     → loose ≡ loose_frames x far → EvictEffect far new r es s (played es s)
     → HasFewSpans far new r loose ⊎ (HasFewNodes far new r loose

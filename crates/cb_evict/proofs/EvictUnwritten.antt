@@ -3,7 +3,7 @@ use Rattle.std.proofs.Common.{◌≡◌, ℕ, Bool, true, false, List, [], inl, 
 use Rattle.cb_types.specs.declared.handle.SetId.{SetId}
 use Rattle.cb_types.specs.declared.reply.Reply.{Reply}
 use Rattle.cb_types.specs.declared.reply.Reply.TheVariants as answer
-use Rattle.cb_world.specs.declared.event.Event.{Event}
+use Rattle.cb_world.specs.declared.access.Access.{Access}
 use Rattle.cb_world.specs.declared.shown.Shown.{Shown}
 use Rattle.cb_world.specs.Choices.{room_count}
 use Rattle.cb_world.specs.FarState.{FarState}
@@ -19,7 +19,7 @@ use Rattle.cb_evict.specs.EvictRule.{EvictRule}
 use Rattle.cb_evict.specs.Lengths.{most_loose}
 use Rattle.cb_evict.proofs.Composed.{few_nodes, few_spans}
 
-pub evict_unwritten : (far new : FarState) (r : Reply) (es : List Event) (s t : Shown)
+pub evict_unwritten : (far new : FarState) (r : Reply) (es : List Access) (s t : Shown)
     → EvictRule far new r es → EvictEffect far new r es s t → Writes es s []
 evict_unwritten far new r es s t rule x = elim rule.answered [
   | inl few ↦ (x.left (λ id e. few_spans (most_loose far.spans rule.loose) r id few.reply e)).nothing
@@ -45,7 +45,7 @@ short_set : (ps : List ℕ) (b : SetId) (r : Reply) → r ≡ answer.Short ps �
 short_set ps b r e f = cc
 
 begins_unwritten : (far new : FarState) (made : Bool) (so : List (List ℕ) → Type 0) (r : Reply)
-    (es : List Event) (s t : Shown) → BeginsBy far new made so r es
+    (es : List Access) (s t : Shown) → BeginsBy far new made so r es
     → BeginEffect far new r es s t → Writes es s []
 begins_unwritten far new made so r es s t (inl z) x =
     (x.left (λ id e. leaving_batch (record { n = z.batch.set }) id r z.reply e)).nothing
@@ -56,17 +56,17 @@ begins_unwritten far new made so r es s t (inr z) x = elim z.answered [
   | inr (inr both) ↦ (x.begun (record { n = far.counts.sets }) both.reply).nothing
 ]
 
-pub begin_unwritten : (far new : FarState) (r : Reply) (es : List Event) (s t : Shown)
+pub begin_unwritten : (far new : FarState) (r : Reply) (es : List Access) (s t : Shown)
     → BeginRule far new r es → BeginEffect far new r es s t → Writes es s []
 begin_unwritten far new r es s t rule x =
     begins_unwritten far new true (λ rows. Unit {0}) r es s t rule x
 
-pub gather_unwritten : (far new : FarState) (g : Gathered) (es : List Event) (s t : Shown)
+pub gather_unwritten : (far new : FarState) (g : Gathered) (es : List Access) (s t : Shown)
     → GatherRule far new g es → GatherEffect far new g es s t → Writes es s []
 gather_unwritten far new g es s t rule x =
     begins_unwritten far new false (HandsOut far g) (gathered_reply g) es s t rule x.did
 
-pub commit_unwritten : (far new : FarState) (r : Reply) (es : List Event) (s t : Shown)
+pub commit_unwritten : (far new : FarState) (r : Reply) (es : List Access) (s t : Shown)
     → CommitRule far new r es → CommitEffect far new r es s t → Writes es s []
 commit_unwritten far new r es s t rule x = elim rule.answered [
   | inl none ↦ (x.left (λ id e. no_batch_set id r none.reply e)).nothing
@@ -74,7 +74,7 @@ commit_unwritten far new r es s t rule x = elim rule.answered [
   | inr (inr z) ↦ (x.committed z.batch (record { n = z.batch.set }) z.there z.reply).nothing
 ]
 
-pub abort_unwritten : (far new : FarState) (r : Reply) (es : List Event) (s t : Shown)
+pub abort_unwritten : (far new : FarState) (r : Reply) (es : List Access) (s t : Shown)
     → AbortRule far new r es → AbortEffect far new es s t → Writes es s []
 abort_unwritten far new r es s t rule x = elim rule.answered [
   | inl z ↦ (x.left z.none).nothing

@@ -7,7 +7,7 @@ use Rattle.cb_gf256.specs.Rows.{row_at}
 use Rattle.cb_member.specs.declared.names.Shard.{Shard}
 use Rattle.cb_node.specs.NodesState.{row_under}
 use Rattle.cb_span.specs.Contents.{Contents}
-use Rattle.cb_world.specs.declared.event.Event.{Event}
+use Rattle.cb_world.specs.declared.access.Access.{Access}
 use Rattle.cb_world.specs.declared.shown.Shown.{Shown}
 use Rattle.cb_world.specs.FarState.{FarState, handle_in, span_in}
 use Rattle.cb_world.specs.LocalSound.{LocalSound}
@@ -39,7 +39,7 @@ names_one far s f span sound there =
     (x.1, (x.0, ap (λ (o : Option Contents). handle_in o x.0) there ∙ x.2))
 
 -- ---- so its position has its frame's row
-module _ (far new : FarState) (s : Shown) (frames : List ℕ) (es : List Event)
+module _ (far new : FarState) (s : Shown) (frames : List ℕ) (es : List Access)
     (memory : List ℕ) (sound : LocalSound s far) (e : HasEvicted far new frames es)
     (rows : HaveFrameRows far new memory)
     (holds : (f : ℕ) → Contains frames f → (span : Contents) × (span_in far.spans f ≡ Some span))

@@ -4,7 +4,7 @@ use Rattle.std.proofs.lemmas.List.{get_or_append_left, get_or-append-add, length
 use Rattle.std.proofs.lemmas.Bool.{cases_lt}
 use Rattle.std.proofs.lemmas.List.Elements.{All-nil, All-append, All-contains, Contains-append_left, Contains-append_right}
 use Rattle.cb_world.specs.declared.leaving.Former.{Former}
-use Rattle.cb_world.specs.declared.event.Event.{Event}
+use Rattle.cb_world.specs.declared.access.Access.{Access}
 use Rattle.cb_world.specs.declared.shown.Shown.{Shown}
 use Rattle.cb_world.specs.Played.{played}
 use Rattle.cb_world.specs.Looks.{LooksFirst, NoLook}
@@ -19,8 +19,8 @@ use Rattle.cb_evict.proofs.Events.{touches_append, touches_more, touches_quiet, 
 use Rattle.cb_evict.proofs.Claims.{claims_append, claims_back}
 
 -- the events touch such objects, and claim those that are noted
-pub record Gathers (runs : List Event → Type 0) (shows : Shown → Type 0) (touched has : ℕ → Type 0)
-    (es : List Event) (more : List Former) : Type 0 where
+pub record Gathers (runs : List Access → Type 0) (shows : Shown → Type 0) (touched has : ℕ → Type 0)
+    (es : List Access) (more : List Former) : Type 0 where
   pub ran : runs es
   pub touches : TouchesOnly touched (λ p. ⊥) es
   pub first : LooksFirst es
@@ -81,7 +81,7 @@ of_append hasA hasB hasC xs ys a b left right split = record {
 }
 
 -- claims and then more claims, of other objects, at which the first ones' objects are not looked at
-pub claims_then : {showsB : Shown → Type 0} (far : FarState) (es fs : List Event) (s : Shown)
+pub claims_then : {showsB : Shown → Type 0} (far : FarState) (es fs : List Access) (s : Shown)
     (xs ys : List Former)
     → AreClaimed es s (played es s) xs × LocalSound (played es s) far × AreSteady es s
     → showsB (played es s) → ((at : FarState) → ClaimsObjects showsB at fs ys)
@@ -99,8 +99,8 @@ claims_then far es fs s xs ys x shown claims none quiet other =
     )
 
 -- claims and then more claims, of other objects
-pub gathers_more : (runsA runsB runsC : List Event → Type 0) (showsA showsB : Shown → Type 0)
-    (touchedA touchedB touchedC hasA hasB hasC : ℕ → Type 0) (es fs : List Event)
+pub gathers_more : (runsA runsB runsC : List Access → Type 0) (showsA showsB : Shown → Type 0)
+    (touchedA touchedB touchedC hasA hasB hasC : ℕ → Type 0) (es fs : List Access)
     (xs ys : List Former) → Gathers runsA showsA touchedA hasA es xs
     → Gathers runsB showsB touchedB hasB fs ys
     → Joins runsA runsB runsC showsA showsB
@@ -136,8 +136,8 @@ gathers_more runsA runsB runsC showsA showsB touchedA touchedB touchedC hasA has
     }
 
 -- claims that are given back
-pub gathers_back : (runsA runsB runsC : List Event → Type 0) (showsA showsB : Shown → Type 0)
-    (touched has : ℕ → Type 0) (es : List Event) (xs : List Former)
+pub gathers_back : (runsA runsB runsC : List Access → Type 0) (showsA showsB : Shown → Type 0)
+    (touched has : ℕ → Type 0) (es : List Access) (xs : List Former)
     → Gathers runsA showsA touched has es xs → (b : GivesBack runsB showsB xs)
     → Joins runsA runsB runsC showsA showsB
     → Gathers runsC showsA touched (λ h. ⊥) (es ++ b.events) []

@@ -6,7 +6,7 @@ use Rattle.std.proofs.lemmas.Bool.{cases_eq, ne_eqb}
 use Rattle.cb_class.proofs.Laws.{pages_known}
 use Rattle.cb_frame.specs.Runs.{IsRunLength}
 use Rattle.cb_span.specs.Contents.{Contents}
-use Rattle.cb_world.specs.declared.event.Event.{Event}
+use Rattle.cb_world.specs.declared.access.Access.{Access}
 use Rattle.cb_world.specs.declared.shown.Shown.{Shown}
 use Rattle.cb_world.specs.FarState.{FarState, pages_at, pages_if}
 use Rattle.cb_world.specs.LocalSound.{LocalSound}
@@ -22,7 +22,7 @@ abbrev pub HaveLengths : List (Option Contents) → List ℕ → Type 0
 HaveLengths spans loose = (f : ℕ) → Contains loose f → IsRunLength (pages_at spans f)
 
 -- so have the loose ones of a sound world
-pub loose_lengths : (es : List Event) (far : FarState) (loose : List ℕ) (s : Shown)
+pub loose_lengths : (es : List Access) (far : FarState) (loose : List ℕ) (s : Shown)
     → LocalSound s far → AreLoose es far.spans (candidates far) loose → HaveLengths far.spans loose
 loose_lengths es far loose s sound found f c =
     let x = ready_frame far s f sound (loose_among es far.spans (candidates far) loose f found c) in

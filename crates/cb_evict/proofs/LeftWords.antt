@@ -7,7 +7,7 @@ use Rattle.cb_member.specs.declared.names.Shard.{Shard}
 use Rattle.cb_gf256.specs.Rows.{row_at}
 use Rattle.cb_set.specs.SetState.{SetState}
 use Rattle.cb_types.specs.declared.reply.Reply.{Reply}
-use Rattle.cb_world.specs.declared.event.Event.{Event}
+use Rattle.cb_world.specs.declared.access.Access.{Access}
 use Rattle.cb_world.specs.declared.homes.Home.{Home}
 use Rattle.cb_world.specs.declared.leaving.Former.{Former}
 use Rattle.cb_world.specs.declared.shown.Shown.{Shown}
@@ -67,7 +67,7 @@ batch_leaves_words s far new pages frames words made parities sound state =
     (some_same (new_batch far pages frames words made parities) b at) (omega arith)))))
 
 pub begins_leave_words : (s : Shown) (far new : FarState) (made : Bool)
-    (so : List (List ℕ) → Type 0) (r : Reply) (es : List Event) → Sound s far
+    (so : List (List ℕ) → Type 0) (r : Reply) (es : List Access) → Sound s far
     → BeginsBy far new made so r es → LeavesWords far new
 begins_leave_words s far new made so r es sound (inl x) = same_words far new x.state
 begins_leave_words s far new made so r es sound (inr x) = elim x.answered [
@@ -103,7 +103,7 @@ commit_leaves_words far new r z =
     ∙ ap if_committed (set_others far.sets batch.set j
     (set_from batch.set batch.pages (put_shards batch.shards) far.spans batch.frames) off)))
 
-pub commits_leave_words : (far new : FarState) (r : Reply) (es : List Event)
+pub commits_leave_words : (far new : FarState) (r : Reply) (es : List Access)
     → CommitRule far new r es → LeavesWords far new
 commits_leave_words far new r es x = elim x.answered [
   | inl z ↦ same_words far new z.state
@@ -209,7 +209,7 @@ abort_leaves_words s far new r sound z =
     same)))
     (λ b at. absurd (none_some b at))))
 
-pub aborts_leave_words : (s : Shown) (far new : FarState) (r : Reply) (es : List Event)
+pub aborts_leave_words : (s : Shown) (far new : FarState) (r : Reply) (es : List Access)
     → Sound s far → AbortRule far new r es → LeavesWords far new
 aborts_leave_words s far new r es sound x = elim x.answered [
   | inl z ↦ same_words far new z.state
@@ -244,7 +244,7 @@ evict_leaves_words s far new pages frames shards rows homes sound chosen state =
       batch = λ b at below. (b, at, refl, refl, refl, refl);
     }))
 
-pub evicts_leave_words : (s : Shown) (far new : FarState) (r : Reply) (es : List Event)
+pub evicts_leave_words : (s : Shown) (far new : FarState) (r : Reply) (es : List Access)
     → Sound s far → EvictRule far new r es → LeavesWords far new
 evicts_leave_words s far new r es sound x = elim x.answered [
   | inl few ↦ same_words far new few.state

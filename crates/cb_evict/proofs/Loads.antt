@@ -10,7 +10,7 @@ use Rattle.cb_gf256.specs.Rows.{row_at, HaveLength}
 use Rattle.cb_gf256.specs.Block.{with_row}
 use Rattle.cb_gf256.proofs.PublicLaws.{written_row}
 use Rattle.cb_span.specs.Contents.{Contents}
-use Rattle.cb_world.specs.declared.event.Event.{Event}
+use Rattle.cb_world.specs.declared.access.Access.{Access}
 use Rattle.cb_world.specs.declared.shown.Shown.{Shown}
 use Rattle.cb_world.specs.Shown.{Owns}
 use Rattle.cb_world.specs.Memory.{window}
@@ -39,9 +39,9 @@ owned_window s p (w ∷ ws) a owns =
     ∙ ap (λ (l : List ℕ). get_or s.memory p 0 ∷ l) (owned_window s (p + 1) ws a.1 (λ i low high.
     owns i (omega (arith, low)) (omega (arith, high))))
 
-pub run_loaded : (runs : List Event → Type 0) (shows : Shown → Type 0) (f pages : ℕ)
+pub run_loaded : (runs : List Access → Type 0) (shows : Shown → Type 0) (f pages : ℕ)
     (row : List ℕ) → ReadsRun runs f pages row
-    → ((es : List Event) (s : Shown) → runs es → shows s → Agree s es)
+    → ((es : List Access) (s : Shown) → runs es → shows s → Agree s es)
     → LoadsRun runs shows f pages row
 run_loaded runs shows f pages row x agree =
     let count = x.count in record {
@@ -128,7 +128,7 @@ lies_in_one spans pages frames long q (f, c, lies) = (
 )
 
 pub reads_spans : (spans : List (Option Contents)) (pages : ℕ) (frames : List ℕ)
-    → AreOfLength spans pages frames → (es : List Event) → OnlyLoads (LiesInRuns pages frames) es
+    → AreOfLength spans pages frames → (es : List Access) → OnlyLoads (LiesInRuns pages frames) es
     → OnlyLoads (LiesInOne spans frames) es
 reads_spans spans pages frames long es =
     loads_more (LiesInRuns pages frames) (LiesInOne spans frames) es

@@ -7,7 +7,7 @@ use Rattle.cb_world.specs.declared.leaving.Former.{Former}
 use Rattle.cb_world.specs.declared.shown.Shown.{Shown}
 use Rattle.cb_evict.specs.Claims.{AreClaimed, IsClaimedBy}
 use Rattle.cb_evict.specs.Claiming.{IsOne}
-use Rattle.cb_world.specs.declared.event.Event.{Event}
+use Rattle.cb_world.specs.declared.access.Access.{Access}
 use Rattle.cb_world.specs.Looks.{NoLook, IsFound}
 use Rattle.cb_world.specs.Grasped.{IsFree}
 use Rattle.cb_world.specs.FarState.{span_in, handle_in}
@@ -30,13 +30,13 @@ names_has spans f h span there (slot, named) =
     (slot, sym (ap (λ (o : Option Contents). handle_in o slot) there) ∙ named)
 
 -- ---- one span
-pub loose_more : (spans : List (Option Contents)) (f : ℕ) (es fs : List Event)
+pub loose_more : (spans : List (Option Contents)) (f : ℕ) (es fs : List Access)
     → ((h : ℕ) → SpanNames spans f h → NoLook h fs) → IsLoose es spans f
     → IsLoose (es ++ fs) spans f
 loose_more spans f es fs quiet a h named =
     let x = a h named in (x.0, found_more h x.0 es fs x.1 (quiet h named), x.2)
 
-pub held_more : (spans : List (Option Contents)) (f : ℕ) (es fs : List Event)
+pub held_more : (spans : List (Option Contents)) (f : ℕ) (es fs : List Access)
     → ((h : ℕ) → SpanNames spans f h → NoLook h fs) → IsHeldUp es spans f
     → IsHeldUp (es ++ fs) spans f
 held_more spans f es fs quiet a = let b = a.barred in record {
@@ -44,15 +44,15 @@ held_more spans f es fs quiet a = let b = a.barred in record {
   barred = (b.0, b.1, b.2, found_more b.0 b.1 es fs b.3 (quiet b.0 b.2), b.4);
 }
 
-pub loose_after : (spans : List (Option Contents)) (f : ℕ) (es fs : List Event)
+pub loose_after : (spans : List (Option Contents)) (f : ℕ) (es fs : List Access)
     → IsLoose fs spans f → IsLoose (es ++ fs) spans f
 loose_after spans f es fs a h named = let x = a h named in (x.0, found_after h x.0 es fs x.1, x.2)
 
-pub barred_after : (spans : List (Option Contents)) (f : ℕ) (es fs : List Event)
+pub barred_after : (spans : List (Option Contents)) (f : ℕ) (es fs : List Access)
     → IsBarred fs spans f → IsBarred (es ++ fs) spans f
 barred_after spans f es fs (h, w, named, found, not) = (h, w, named, found_after h w es fs found, not)
 
-pub held_after : (spans : List (Option Contents)) (f : ℕ) (es fs : List Event)
+pub held_after : (spans : List (Option Contents)) (f : ℕ) (es fs : List Access)
     → IsHeldUp fs spans f → IsHeldUp (es ++ fs) spans f
 held_after spans f es fs a = record {
   seen = λ h named. let x = a.seen h named in (x.0, found_after h x.0 es fs x.1);
@@ -60,7 +60,7 @@ held_after spans f es fs a = record {
 }
 
 -- a span with one object, which can't be claimed
-pub held_alone : (spans : List (Option Contents)) (f : ℕ) (es : List Event) (h w : ℕ)
+pub held_alone : (spans : List (Option Contents)) (f : ℕ) (es : List Access) (h w : ℕ)
     → ((k : ℕ) → SpanNames spans f k → h ≡ k) → SpanNames spans f h → IsFound h w es → ¬ (IsFree w)
     → IsHeldUp es spans f
 held_alone spans f es h w only named found held = record {
@@ -69,12 +69,12 @@ held_alone spans f es h w only named found held = record {
 }
 
 -- each object of a loose span was looked at, and so it is once more is told
-pub loose_seen : (spans : List (Option Contents)) (f : ℕ) (es fs : List Event) → IsLoose es spans f
+pub loose_seen : (spans : List (Option Contents)) (f : ℕ) (es fs : List Access) → IsLoose es spans f
     → IsSeen (es ++ fs) spans f
 loose_seen spans f es fs a h named = let x = a h named in found_on h x.0 es fs x.1
 
 -- ---- many spans
-pub held_cons : (es : List Event) (spans : List (Option Contents)) (f : ℕ) (frames loose : List ℕ)
+pub held_cons : (es : List Access) (spans : List (Option Contents)) (f : ℕ) (frames loose : List ℕ)
     → IsHeldUp es spans f → AreLoose es spans frames loose → AreLoose es spans (f ∷ frames) loose
 held_cons es spans f frames [] h a = (h, a)
 held_cons es spans f frames (g ∷ loose) h a = inl (h, a)
@@ -86,7 +86,7 @@ pub contains_tail : {X : Type 0} (x y : X) (xs : List X) → Contains xs y → C
 contains_tail x y xs (k, l, e) = (suc k, omega (arith, l), e)
 
 -- the loose ones are among the frames
-pub loose_among : (es : List Event) (spans : List (Option Contents)) (frames loose : List ℕ) (g : ℕ)
+pub loose_among : (es : List Access) (spans : List (Option Contents)) (frames loose : List ℕ) (g : ℕ)
     → AreLoose es spans frames loose → Contains loose g → Contains frames g
 loose_among es spans [] [] g a (k, l, e) = absurd (omega (arith, l))
 loose_among es spans [] (x ∷ loose) g a c = absurd a
@@ -98,7 +98,7 @@ loose_among es spans (f ∷ frames) (x ∷ loose) g (inr a) (zero, l, e) =
 loose_among es spans (f ∷ frames) (x ∷ loose) g (inr a) (suc k, l, e) =
     contains_tail f g frames (loose_among es spans frames loose g a.2 (k, omega (arith, l), e))
 
-pub loose_push : (es : List Event) (spans : List (Option Contents)) (frames loose : List ℕ) (f : ℕ)
+pub loose_push : (es : List Access) (spans : List (Option Contents)) (frames loose : List ℕ) (f : ℕ)
     → AreLoose es spans frames loose → IsLoose es spans f
     → AreLoose es spans (frames ++ f ∷ []) (loose ++ f ∷ [])
 loose_push es spans [] [] f a x = inr (x, refl, tt)
@@ -109,7 +109,7 @@ loose_push es spans (h ∷ frames) (g ∷ loose) f (inl a) x =
 loose_push es spans (h ∷ frames) (g ∷ loose) f (inr a) x =
     inr (a.0, a.1, loose_push es spans frames loose f a.2 x)
 
-pub held_push : (es : List Event) (spans : List (Option Contents)) (frames loose : List ℕ) (f : ℕ)
+pub held_push : (es : List Access) (spans : List (Option Contents)) (frames loose : List ℕ) (f : ℕ)
     → AreLoose es spans frames loose → IsHeldUp es spans f
     → AreLoose es spans (frames ++ f ∷ []) loose
 held_push es spans [] [] f a x = (x, tt)
@@ -121,7 +121,7 @@ held_push es spans (h ∷ frames) (g ∷ loose) f (inr a) x =
     inr (a.0, a.1, held_push es spans frames loose f a.2 x)
 
 -- what is not looked at again stays as it was found
-pub all_quiet : (es fs : List Event) (spans : List (Option Contents)) (frames loose : List ℕ)
+pub all_quiet : (es fs : List Access) (spans : List (Option Contents)) (frames loose : List ℕ)
     → ((f : ℕ) → Contains frames f → (h : ℕ) → SpanNames spans f h → NoLook h fs)
     → AreLoose es spans frames loose → AreLoose (es ++ fs) spans frames loose
 all_quiet es fs spans [] [] quiet a = tt
@@ -151,20 +151,20 @@ apart_tail f frames apart i j d less within =
     apart (suc i) (suc j) d (omega (arith, less)) (omega (arith, within))
 
 -- the spans in other frames are not looked at
-pub others_quiet : (spans : List (Option Contents)) (n x : ℕ) (fs : List Event) → AreUnique spans n
+pub others_quiet : (spans : List (Option Contents)) (n x : ℕ) (fs : List Access) → AreUnique spans n
     → TouchesOnly (SpanNames spans x) (λ p. ⊥) fs → (f : ℕ) → f ≢ x → (h : ℕ) → SpanNames spans f h → NoLook h fs
 others_quiet spans n x fs unique touches f off h named =
     touches_quiet (SpanNames spans x) (λ p. ⊥) h fs (λ other. off (unique.one_frame f x h named other)) touches
 
 -- the frames behind x are others
-pub tail_quiet : (spans : List (Option Contents)) (n x : ℕ) (fs : List Event) (frames : List ℕ)
+pub tail_quiet : (spans : List (Option Contents)) (n x : ℕ) (fs : List Access) (frames : List ℕ)
     → AreUnique spans n → TouchesOnly (SpanNames spans x) (λ p. ⊥) fs → (Contains frames x → ⊥)
     → (f : ℕ) → Contains frames f → (h : ℕ) → SpanNames spans f h → NoLook h fs
 tail_quiet spans n x fs frames unique touches none f c =
     others_quiet spans n x fs unique touches f (λ e. none (subst (Contains frames) e c))
 
 -- it is loose still
-pub loose_kept : (es fs : List Event) (spans : List (Option Contents)) (n x : ℕ)
+pub loose_kept : (es fs : List Access) (spans : List (Option Contents)) (n x : ℕ)
     (frames loose : List ℕ) → AreUnique spans n → TouchesOnly (SpanNames spans x) (λ p. ⊥) fs
     → AllPairs (λ f g. f ≢ g) frames → IsLoose (es ++ fs) spans x → Contains loose x
     → AreLoose es spans frames loose → AreLoose (es ++ fs) spans frames loose
@@ -199,7 +199,7 @@ middle [] x rest = contains_head x rest
 middle (c ∷ chosen) x rest = contains_tail c x (chosen ++ x ∷ rest) (middle chosen x rest)
 
 -- an object of it can't be claimed
-pub loose_lost : (es fs : List Event) (spans : List (Option Contents)) (n x : ℕ)
+pub loose_lost : (es fs : List Access) (spans : List (Option Contents)) (n x : ℕ)
     (frames chosen rest : List ℕ) → AreUnique spans n → TouchesOnly (SpanNames spans x) (λ p. ⊥) fs
     → AllPairs (λ f g. f ≢ g) frames → IsBarred (es ++ fs) spans x
     → AreLoose es spans frames (chosen ++ x ∷ rest)
@@ -261,7 +261,7 @@ not_before frames i apart within (k, l, e) =
 
 -- the next frame was looked at
 pub frame_looked : (spans : List (Option Contents)) (n : ℕ) (frames : List ℕ) (i : ℕ)
-    (es fs : List Event) (old new : List ℕ) → AreUnique spans n → AllPairs (λ f g. f ≢ g) frames
+    (es fs : List Access) (old new : List ℕ) → AreUnique spans n → AllPairs (λ f g. f ≢ g) frames
     → i < length frames → AreLoose es spans (take i frames) old
     → TouchesOnly (SpanNames spans (get_or frames i 0)) (λ p. ⊥) fs
     → (IsLoose fs spans (get_or frames i 0) × (new ≡ old ++ get_or frames i 0 ∷ []))
@@ -289,7 +289,7 @@ span_few_slots spans f span there (x, is, valid) =
     some_same e = cc
 
 -- claimed objects were found at words at which they can be claimed
-pub claimed_loose : (es : List Event) (s t : Shown) (formers : List Former)
+pub claimed_loose : (es : List Access) (s t : Shown) (formers : List Former)
     → AreClaimed es s t formers → (h : ℕ) → IsOne formers h → (w : ℕ) × IsFound h w es × IsFree w
 claimed_loose es s t formers a h (f, c, e) =
     let x = All-contains (IsClaimedBy es t) formers f a.taken c in

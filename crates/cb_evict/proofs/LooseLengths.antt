@@ -6,7 +6,7 @@ use Rattle.std.proofs.lemmas.Bool.{cases_lt, eqb-true, eqb-false, false≢true, 
 use Rattle.std.proofs.lemmas.List.{length-take-le}
 use Rattle.std.proofs.lemmas.List.Elements.{All-contains, filter_passes}
 use Rattle.cb_span.specs.Contents.{Contents}
-use Rattle.cb_world.specs.declared.event.Event.{Event}
+use Rattle.cb_world.specs.declared.access.Access.{Access}
 use Rattle.cb_world.specs.FarState.{pages_at}
 use Rattle.cb_evict.specs.Candidates.{AreLoose, AreUnique, IsBarred, SpanNames}
 use Rattle.cb_evict.specs.Events.{TouchesOnly}
@@ -125,7 +125,7 @@ same_left spans lost p was loose same =
     ∙ ap (without lost) same ∙ sym (filter_swap (has_pages spans p) (λ f. not (lost f)) loose)
 
 -- an object of a loose span can't be claimed: the others are loose
-pub loose_gone : (es fs : List Event) (spans : List (Option Contents)) (n x : ℕ)
+pub loose_gone : (es fs : List Access) (spans : List (Option Contents)) (n x : ℕ)
     (frames loose : List ℕ) → AreUnique spans n → TouchesOnly (SpanNames spans x) (λ p. ⊥) fs
     → AllPairs (λ f g. f ≢ g) frames → IsBarred (es ++ fs) spans x → Contains loose x
     → AreLoose es spans frames loose → AreLoose (es ++ fs) spans frames (without (nat_eq x) loose)

@@ -9,7 +9,7 @@ use Rattle.cb_ptr.specs.declared.word.State.{State}
 use Rattle.cb_ptr.specs.declared.word.State.TheVariants as state
 use Rattle.cb_ptr.specs.Word.{state_of, pins_of}
 use Rattle.cb_span.specs.Contents.{Contents, handle_at}
-use Rattle.cb_world.specs.declared.event.Event.{Event}
+use Rattle.cb_world.specs.declared.access.Access.{Access}
 use Rattle.cb_world.specs.FarState.{FarState, span_in}
 use Rattle.cb_world.specs.Grasped.{IsFree}
 use Rattle.cb_world.specs.Looks.{LooksFirst}
@@ -84,7 +84,7 @@ span_fails x span h (slot, named) held =
     (ap (is_slot_loose x) named ∙ not_free (word_at x h) held)
 
 -- ---- the frames
-frame_passes : (es : List Event) (x y : Words) (spans : List (Option Contents)) (f : ℕ)
+frame_passes : (es : List Access) (x y : Words) (spans : List (Option Contents)) (f : ℕ)
     (span : Contents) → Plain x es y → LooksFirst es → span_in spans f ≡ Some span
     → IsLoose es spans f → is_loose x (span_in spans f) ≡ true
 frame_passes es x y spans f span run first there loose =
@@ -92,7 +92,7 @@ frame_passes es x y spans f span run first there loose =
     let z = loose h (has_names spans f h span there has) in
     subst IsFree (sym (found_exact es x y h z.0 run first z.1)) z.2)
 
-frame_fails : (es : List Event) (x y : Words) (spans : List (Option Contents)) (f : ℕ)
+frame_fails : (es : List Access) (x y : Words) (spans : List (Option Contents)) (f : ℕ)
     (span : Contents) → Plain x es y → LooksFirst es → span_in spans f ≡ Some span
     → IsHeldUp es spans f → is_loose x (span_in spans f) ≡ false
 frame_fails es x y spans f span run first there a =
@@ -101,7 +101,7 @@ frame_fails es x y spans f span run first there a =
     (λ free. b.4 (subst IsFree (found_exact es x y b.0 b.1 run first b.3) free))
 
 -- of frames with spans those that were found loose are those that are loose
-exact : (es : List Event) (x y : Words) (spans : List (Option Contents)) (frames loose : List ℕ)
+exact : (es : List Access) (x y : Words) (spans : List (Option Contents)) (frames loose : List ℕ)
     → Plain x es y → LooksFirst es
     → ((f : ℕ) → Contains frames f → (span : Contents) × (span_in spans f ≡ Some span))
     → AreLoose es spans frames loose
@@ -132,7 +132,7 @@ exact es x y spans (f ∷ frames) (g ∷ loose) run first held (inr a) =
     (frame_passes es x y spans f span.0 run first span.1 a.0))
 
 -- of the spans that may leave those that were found loose are those that are loose
-pub loose_exact : (es : List Event) (x y : Words) (far : FarState) (loose : List ℕ)
+pub loose_exact : (es : List Access) (x y : Words) (far : FarState) (loose : List ℕ)
     → Plain x es y → LooksFirst es → AreLoose es far.spans (candidates far) loose
     → loose ≡ loose_frames x far
 loose_exact es x y far loose run first found =

@@ -6,7 +6,7 @@ use Rattle.std.proofs.lemmas.List.Elements.{All-contains}
 use Rattle.cb_class.specs.Class.{pages_of}
 use Rattle.cb_span.specs.Contents.{Contents, handle_at}
 use Rattle.cb_world.specs.declared.leaving.Former.{Former}
-use Rattle.cb_world.specs.declared.event.Event.{Event}
+use Rattle.cb_world.specs.declared.access.Access.{Access}
 use Rattle.cb_world.specs.declared.shown.Shown.{Shown}
 use Rattle.cb_world.specs.Shown.{IsHeld, object_at}
 use Rattle.cb_world.specs.Memory.{window}
@@ -33,7 +33,7 @@ span_stays far s t f pages span sound there long held keeps =
     ])
 
 -- an object that is claimed is held
-pub claimed_held : (es : List Event) (s t : Shown) (formers : List Former) → AreClaimed es s t formers
+pub claimed_held : (es : List Access) (s t : Shown) (formers : List Former) → AreClaimed es s t formers
     → (h : ℕ) → IsOne formers h → IsHeld (object_at t h)
 claimed_held es s t formers a h (f, c, e) =
     let x = All-contains (IsClaimedBy es t) formers f a.taken c in

@@ -3,7 +3,7 @@ use Rattle.std.proofs.Common.{◌≡◌, ◌≢◌, ℕ, List, [], ◌++◌, All
 use Rattle.std.specs.List.{Contains}
 use Rattle.std.proofs.lemmas.List.{ext_get_or}
 use Rattle.std.proofs.lemmas.List.Elements.{All-nil}
-use Rattle.cb_world.specs.declared.event.Event.{Event}
+use Rattle.cb_world.specs.declared.access.Access.{Access}
 use Rattle.cb_world.specs.declared.leaving.Former.{Former}
 use Rattle.cb_world.specs.declared.shown.Shown.{Shown}
 use Rattle.cb_world.specs.Shown.{IsHeld, object_at, never}
@@ -29,7 +29,7 @@ use Rattle.cb_evict.proofs.Events.{are_reads, told_words, steady_append, looks_s
 use Rattle.cb_evict.proofs.Owned.{span_stays}
 
 -- nothing changed
-pub restored : (far : FarState) (es : List Event) (s : Shown) (o p : ℕ → Type 0) → Sound s far
+pub restored : (far : FarState) (es : List Access) (s : Shown) (o p : ℕ → Type 0) → Sound s far
     → AreClaimed es s (played es s) [] → LocalSound (played es s) far → AreSteady es s
     → TouchesOnly o p es → IsStill es s (played es s) × Sound (played es s) far
 restored far es s o p sound claimed here steady touches =
@@ -55,7 +55,7 @@ restored far es s o p sound claimed here steady touches =
     )
 
 -- looks leave everything
-pub looked : (far : FarState) (es : List Event) (s : Shown) → Sound s far → OnlyLooks es
+pub looked : (far : FarState) (es : List Access) (s : Shown) → Sound s far → OnlyLooks es
     → Sound (played es s) far × IsStill es s (played es s)
 looked far es s sound looks =
     let c = looks_change es s looks in
@@ -75,7 +75,7 @@ looked far es s sound looks =
 
 -- a batch that was claimed is given back
 pub batch_back : (far : FarState) (formers : List Former) (q o p : ℕ → Type 0)
-    (before ls bs : List Event) (s : Shown) → Sound s far
+    (before ls bs : List Access) (s : Shown) → Sound s far
     → AreClaimed before s (played before s) formers → AreSteady before s
     → IsEvictEnd q formers ls bs
     → AreBack (played before s) (played bs (played before s)) formers
@@ -95,12 +95,12 @@ batch_back far formers q o p before ls bs s sound claimed steady e back here aft
     touches
 
 -- words are read, and then claimed objects are settled
-pub settled_end : {runsA runsB runsC : List Event → Type 0} {showsA showsB : Shown → Type 0}
-    {so ends : List Event → Type 0} {does : List Event → Shown → Shown → Type 0} (far new : FarState)
+pub settled_end : {runsA runsB runsC : List Access → Type 0} {showsA showsB : Shown → Type 0}
+    {so ends : List Access → Type 0} {does : List Access → Shown → Shown → Type 0} (far new : FarState)
     (frames : List ℕ) (formers : List Former) → Joins runsA runsB runsC showsA showsB
     → All (λ f. IsIn far.spans frames f.handle) formers → (x : ReadsSpans runsA far.spans frames)
     → (y : Settles runsB (IsOne formers) (λ p. ⊥) so)
-    → (IsEvictEnd (LiesInOne far.spans frames) formers x.0 y.events → (before : List Event) (s : Shown)
+    → (IsEvictEnd (LiesInOne far.spans frames) formers x.0 y.events → (before : List Access) (s : Shown)
     → IsReadyToEvict showsA far formers before s → showsB (played before s)
     → IsEnded new before (x.0 ++ y.events) s ends does)
     → EndsClaimed runsC showsA far new frames formers ends does
@@ -109,7 +109,7 @@ settled_end {showsA = showsA} {showsB = showsB} {ends = ends} {does = does} far 
     let end : IsEvictEnd (LiesInOne far.spans frames) formers x.0 y.events =
     record { reads = reads; touches = y.touches; quiet = y.done.0 } in
     part_then (IsIn far.spans frames) (LiesInOne far.spans frames)
-    (λ es. ((k : ℕ) → NoLook k es) × ((before : List Event) (s : Shown)
+    (λ es. ((k : ℕ) → NoLook k es) × ((before : List Access) (s : Shown)
     → IsReadyToEvict showsA far formers before s → IsEnded new before es s ends does)) j
     (reads_part x.0 x.1 reads) y (λ h e. absurd e) (λ p l. l)
     (one_in far frames formers only) (λ p e. absurd e) (inr (λ h e. absurd e)) (
@@ -119,7 +119,7 @@ settled_end {showsA = showsA} {showsB = showsB} {ends = ends} {does = does} far 
     )
 
 -- so they are given back
-pub gives_back_ends : {runsA runsB runsC : List Event → Type 0} {showsA showsB : Shown → Type 0}
+pub gives_back_ends : {runsA runsB runsC : List Access → Type 0} {showsA showsB : Shown → Type 0}
     (far : FarState) (frames : List ℕ) (formers : List Former)
     → Joins runsA runsB runsC showsA showsB → All (Contains (candidates far)) frames
     → All (λ f. IsIn far.spans frames f.handle) formers → ReadsSpans runsA far.spans frames

@@ -7,8 +7,8 @@ use Rattle.cb_world.specs.declared.entry.Entry.{Entry}
 use Rattle.cb_world.specs.declared.leaving.Former.{Former}
 use Rattle.cb_world.specs.declared.object.Object.{Object}
 use Rattle.cb_world.specs.declared.object.Object.TheVariants as is
-use Rattle.cb_world.specs.declared.event.Event.{Event}
-use Rattle.cb_world.specs.declared.event.Event.TheVariants.{Settled}
+use Rattle.cb_world.specs.declared.access.Access.{Access}
+use Rattle.cb_world.specs.declared.access.Access.TheVariants.{Settled}
 use Rattle.cb_world.specs.declared.shown.Shown.{Shown}
 use Rattle.cb_world.specs.Shown.{object_at, version_at, hot_at, never}
 use Rattle.cb_world.specs.Played.{after, played}
@@ -101,7 +101,7 @@ restored_sound far t h w v words sound c =
     ])
     (λ k. omega arith))
 
-pub restoring_more : (far : FarState) (es : List Event) (s : Shown) (fs : List Former) (i : ℕ)
+pub restoring_more : (far : FarState) (es : List Access) (s : Shown) (fs : List Former) (i : ℕ)
     (d : Former) → AreApart fs → i < length fs → All (IsClaimedFrom s) fs
     → (get_or fs i d).handle < length s.versions → IsRestoring far es s (take i fs)
     → IsRestoring far (es ++ Settled (get_or fs i d).handle (get_or fs i d).word ∷ []) s
@@ -138,7 +138,7 @@ claimed_from s fs warm held i d within = let x = held i d within in record {
 }
 
 -- are what they were, hot bits included
-pub back_from : (far : FarState) (es : List Event) (s : Shown) (fs : List Former)
+pub back_from : (far : FarState) (es : List Access) (s : Shown) (fs : List Former)
     → All (IsHeldAt s) fs → IsRestoring far es s fs → TouchesOnly (IsOne fs) (λ p. ⊥) es
     → ((k : ℕ) → NoLook k es)
     → AreBack s (played es s) fs × LocalSound (played es s) far × AreSteady es s

@@ -6,7 +6,7 @@ use Rattle.cb_ptr.specs.Word.{state_of, hot_of, len_of}
 use Rattle.cb_ptr.specs.Steps.{IsFarWord}
 use Rattle.cb_world.specs.declared.leaving.Former.{Former}
 use Rattle.cb_world.specs.declared.object.Object.TheVariants as is
-use Rattle.cb_world.specs.declared.event.Event.TheVariants.{Settled}
+use Rattle.cb_world.specs.declared.access.Access.TheVariants.{Settled}
 use Rattle.cb_world.specs.declared.shown.Shown.{Shown}
 use Rattle.cb_world.specs.Shown.{object_at, version_at, never}
 use Rattle.cb_world.specs.Settling.{MaySettle, MaySettleAs, MayPutAway}

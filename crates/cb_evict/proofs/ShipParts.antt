@@ -10,7 +10,7 @@ use Rattle.cb_node.specs.NodesState.{NodesState}
 use Rattle.cb_span.specs.Contents.{Contents}
 use Rattle.cb_types.specs.declared.reply.Reply.{Reply}
 use Rattle.cb_types.specs.declared.reply.Reply.TheVariants as answer
-use Rattle.cb_world.specs.declared.event.Event.{Event}
+use Rattle.cb_world.specs.declared.access.Access.{Access}
 use Rattle.cb_world.specs.declared.shown.Shown.{Shown}
 use Rattle.cb_world.specs.FarSound.{AreShardRows, of_leaving}
 use Rattle.cb_world.specs.FarState.{FarState, pages_at, span_in}
@@ -116,7 +116,7 @@ parity_at rows parities k p count behind =
     get_or-append_right rows parities k p [] count behind
 
 -- ---- a row is put
-frame_reads : (far : FarState) (batch : LeavingState) (p f : ℕ) (es : List Event)
+frame_reads : (far : FarState) (batch : LeavingState) (p f : ℕ) (es : List Access)
     → far.leaving ≡ Some batch → slice_get batch.frames p ≡ Some f
     → pages_at far.spans f ≡ batch.pages → OnlyLoads (LiesInRun f batch.pages) es
     → ReadsLeaving far es
@@ -130,7 +130,7 @@ frame_reads far batch p f es there at long loads =
       (lies.0, omega (arith, lies.1, long)),
     )) loads)
 
-pub puts_data : (runs : List Event → Type 0) (showsA showsB : Shown → Type 0) (far new : FarState)
+pub puts_data : (runs : List Access → Type 0) (showsA showsB : Shown → Type 0) (far new : FarState)
     (batch : LeavingState) (p f : ℕ) (shard : Shard) (row : List ℕ) → far.leaving ≡ Some batch
     → slice_get batch.frames p ≡ Some f → pages_at far.spans f ≡ batch.pages
     → LoadsRun runs showsA f batch.pages row → ((s : Shown) → showsB s → showsA s)
@@ -156,14 +156,14 @@ puts_data runs showsA showsB far new batch p f shard row there at long x back st
   };
 }
 
-pub puts_nothing : (runs : List Event → Type 0) (shows : Shown → Type 0) (far : FarState)
+pub puts_nothing : (runs : List Access → Type 0) (shows : Shown → Type 0) (far : FarState)
     (batch : LeavingState) (p f : ℕ) (row : List ℕ) → far.leaving ≡ Some batch
     → slice_get batch.frames p ≡ Some f → pages_at far.spans f ≡ batch.pages
     → LoadsRun runs shows f batch.pages row → PutsNothing runs far
 puts_nothing runs shows far batch p f row there at long x =
     (x.events, x.ran, frame_reads far batch p f x.events there at long x.loads)
 
-pub puts_parity : (runs : List Event → Type 0) (shows : Shown → Type 0) (far new : FarState)
+pub puts_parity : (runs : List Access → Type 0) (shows : Shown → Type 0) (far new : FarState)
     (batch : LeavingState) (p : ℕ) (shard : Shard) → batch.made ≡ true → length batch.frames ≤ p
     → runs [] → new ≡ with_shipped far batch p shard (row_at batch.parities (p - length batch.frames))
     → PutsRow runs shows far new batch p shard
@@ -186,7 +186,7 @@ puts_parity runs shows far new batch p shard made behind ran state =
     }
 
 -- the rows that are read of all spans of a batch are those that stand in memory
-rows_all : (runs : List Event → Type 0) (shows : Shown → Type 0) (batch : LeavingState)
+rows_all : (runs : List Access → Type 0) (shows : Shown → Type 0) (batch : LeavingState)
     (rows : List (List ℕ)) → length rows ≡ length batch.frames
     → LoadsRuns runs shows batch.pages batch.frames rows → (s : Shown) → shows s
     → OwnsBatch s batch → rows ≡ rows_known s batch
@@ -195,14 +195,14 @@ rows_all runs shows batch rows count x s shown owns =
     m.made ∙ ap row_of (m.contents s shown (owns f (contains_at batch.frames p f at))))
 
 -- the reads of all spans of a batch
-batch_reads : (runs : List Event → Type 0) (far : FarState) (batch : LeavingState)
-    (es : List Event) → far.leaving ≡ Some batch → AreOfLength far.spans batch.pages batch.frames
+batch_reads : (runs : List Access → Type 0) (far : FarState) (batch : LeavingState)
+    (es : List Access) → far.leaving ≡ Some batch → AreOfLength far.spans batch.pages batch.frames
     → OnlyLoads (LiesInRuns batch.pages batch.frames) es → ReadsLeaving far es
 batch_reads runs far batch es there long loads =
     subst (λ (o : Option LeavingState). OnlyLoads (LiesInOne far.spans (leaving_frames o)) es)
     (sym there) (reads_spans far.spans batch.pages batch.frames long es loads)
 
-pub reads_batch : (runs : List Event → Type 0) (far : FarState) (batch : LeavingState)
+pub reads_batch : (runs : List Access → Type 0) (far : FarState) (batch : LeavingState)
     → far.leaving ≡ Some batch → AreOfLength far.spans batch.pages batch.frames
     → LoadsAny runs batch.pages batch.frames → PutsNothing runs far
 reads_batch runs far batch there long x =
@@ -231,7 +231,7 @@ due_for frames far batch other p a b due =
     due
 
 -- the parities are made, and one of them is put
-pub puts_made : (runs : List Event → Type 0) (shows : Shown → Type 0) (far new : FarState)
+pub puts_made : (runs : List Access → Type 0) (shows : Shown → Type 0) (far new : FarState)
     (frames : ℕ) (batch then_batch : LeavingState) (nodes : NodesState) (p : ℕ) (shard : Shard)
     → far.leaving ≡ Some batch → IsParityDue frames far.spans batch p → batch.made ≡ false
     → PutsMade runs shows far.nodes nodes batch then_batch p shard
@@ -271,7 +271,7 @@ puts_made runs shows far new frames batch then_batch nodes p shard there due unm
     made_now batch rows p parities bare behind x = made_here bare behind parities x refl
 
 -- ---- the whole
-still : (far : FarState) (es : List Event) (s : Shown) → ReadsLeaving far es
+still : (far : FarState) (es : List Access) (s : Shown) → ReadsLeaving far es
     → IsStill es s (played es s)
 still far es s reads =
     let x = are_reads (LiesInOne far.spans (leaving_frames far.leaving)) es reads in
@@ -287,7 +287,7 @@ still far es s reads =
     }
 
 -- nothing but reads, and no change of the far state
-pub reads_alone : (runs : List Event → Type 0) (knows : Shown → Type 0) (far new : FarState)
+pub reads_alone : (runs : List Access → Type 0) (knows : Shown → Type 0) (far new : FarState)
     → new ≡ far → PutsNothing runs far
     → Performs runs (λ s. knows s × Sound s far) (ReadsLeaving far) (λ t. Sound t new) IsStill
 reads_alone runs knows far new same q =
@@ -303,7 +303,7 @@ reads_alone runs knows far new same q =
     }
 
 -- a refusal
-pub refused : (runs : List Event → Type 0) (knows : Shown → Type 0) (far new : FarState) (r : Reply)
+pub refused : (runs : List Access → Type 0) (knows : Shown → Type 0) (far new : FarState) (r : Reply)
     → runs [] → new ≡ far
     → ((rows : LeavingState → List (List ℕ)) → ShipsRow far new r rows)
     → Performs runs (λ s. knows s × Sound s far) (ShipRule far new r) (λ t. Sound t new)
@@ -388,7 +388,7 @@ ready_sound s far batch ready p shard row sound there least named
       bare = λ not. absurd (true_false not);
     }))
 
-pub shipped : (runs : List Event → Type 0) (knows : Shown → Type 0) (far new : FarState)
+pub shipped : (runs : List Access → Type 0) (knows : Shown → Type 0) (far new : FarState)
     (batch : LeavingState) (p : ℕ) (shard : Shard) → far.leaving ≡ Some batch
     → least_waiting far.members batch.shards ≡ Some p → IsShardFor far batch p shard
     → PutsRow runs knows far new batch p shard

@@ -8,8 +8,8 @@ use Rattle.cb_span.specs.Contents.{Contents, handle_at}
 use Rattle.cb_span.proofs.Laws.{slot_in_range}
 use Rattle.cb_world.specs.declared.leaving.Former.{Former}
 use Rattle.cb_world.specs.declared.shown.Shown.{Shown}
-use Rattle.cb_world.specs.declared.event.Event.{Event}
-use Rattle.cb_world.specs.declared.event.Event.TheVariants.{Looked, Claimed, Told, Loaded, Stored, Stamped, Settled}
+use Rattle.cb_world.specs.declared.access.Access.{Access}
+use Rattle.cb_world.specs.declared.access.Access.TheVariants.{Looked, Claimed, Told, Loaded, Stored, Stamped, Settled}
 use Rattle.cb_world.specs.Looks.{AreLooks, IsFound, LooksFirst, NoLook}
 use Rattle.cb_world.specs.Grasped.{IsFree}
 use Rattle.cb_world.proofs.Laws.{found_more}
@@ -26,7 +26,7 @@ use Rattle.cb_evict.proofs.CallParts.{Joins}
 use Rattle.cb_evict.proofs.Gathers.{Gathers, gathers_more}
 use Rattle.cb_evict.proofs.Options.{none_some, some_same}
 
-pub claim_touches : (before : List Event) (h w v : ℕ) (words : List ℕ) → AreLooks h before
+pub claim_touches : (before : List Access) (h w v : ℕ) (words : List ℕ) → AreLooks h before
     → TouchesOnly (λ k. Some h ≡ Some k) (λ p. ⊥) (claim_of before h w v words)
 claim_touches [] h w v words a = (refl, tt)
 claim_touches (Looked k x ∷ es) h w v words a =
@@ -38,7 +38,7 @@ claim_touches (Told k u ∷ es) h w v words a = absurd a
 claim_touches (Stored p x ∷ es) h w v words a = absurd a
 claim_touches (Stamped k u ∷ es) h w v words a = absurd a
 
-pub claim_looks_first : (before : List Event) (h w v : ℕ) (words : List ℕ) → AreLooks h before
+pub claim_looks_first : (before : List Access) (h w v : ℕ) (words : List ℕ) → AreLooks h before
     → LooksFirst (claim_of before h w v words)
 claim_looks_first [] h w v words a = (tt, tt)
 claim_looks_first (Looked k x ∷ es) h w v words a = claim_looks_first es h w v words a.1
@@ -49,7 +49,7 @@ claim_looks_first (Told k u ∷ es) h w v words a = absurd a
 claim_looks_first (Stored p x ∷ es) h w v words a = absurd a
 claim_looks_first (Stamped k u ∷ es) h w v words a = absurd a
 
-pub look_touches : (before : List Event) (h w : ℕ) → AreLooks h before
+pub look_touches : (before : List Access) (h w : ℕ) → AreLooks h before
     → TouchesOnly (λ k. Some h ≡ Some k) (λ p. ⊥) (before ++ Looked h w ∷ [])
 look_touches [] h w a = (refl, tt)
 look_touches (Looked k x ∷ es) h w a = (ap (λ (n : ℕ). Some n) (sym a.0), look_touches es h w a.1)
@@ -60,7 +60,7 @@ look_touches (Told k u ∷ es) h w a = absurd a
 look_touches (Stored p x ∷ es) h w a = absurd a
 look_touches (Stamped k u ∷ es) h w a = absurd a
 
-pub looks_first : (before : List Event) (h w : ℕ) → AreLooks h before
+pub looks_first : (before : List Access) (h w : ℕ) → AreLooks h before
     → LooksFirst (before ++ Looked h w ∷ [])
 looks_first [] h w a = tt
 looks_first (Looked k x ∷ es) h w a = looks_first es h w a.1
@@ -76,7 +76,7 @@ abbrev pub HasBelow : Contents → ℕ → ℕ → Type 0
 HasBelow span i h = (slot : ℕ) × (slot < i) × (handle_at span slot ≡ Some h)
 
 -- ---- the claims of slots
-pub slot_of : (slot : Option ℕ) (es : List Event) (more : List Former) → SlotNotes true es slot more
+pub slot_of : (slot : Option ℕ) (es : List Access) (more : List Former) → SlotNotes true es slot more
     → AreOf (λ h. slot ≡ Some h) more × AreApart more
 slot_of None es more e = subst (λ (l : List Former). AreOf (λ h. None ≡ Some h) l × AreApart l) (sym e) (
   record { all = λ h x. absurd (none_some h x); only = All-nil (λ f. None ≡ Some f.handle) },
@@ -96,12 +96,12 @@ slot_of (Some h) es more (w, e) =
     some_same k e = cc
 
 -- the claimed objects are in order of slot
-slot_noted : (slot : Option ℕ) (es : List Event) (more : List Former) → SlotNotes true es slot more
+slot_noted : (slot : Option ℕ) (es : List Access) (more : List Former) → SlotNotes true es slot more
     → noted_of more ≡ one_of slot
 slot_noted None es more e = ap noted_of e
 slot_noted (Some h) es more (w, e) = ap noted_of e
 
-pub noted_more : (slots : List (Option ℕ)) (i : ℕ) (slot : Option ℕ) (es : List Event)
+pub noted_more : (slots : List (Option ℕ)) (i : ℕ) (slot : Option ℕ) (es : List Access)
     (xs more : List Former) → noted_of xs ≡ objects_in (take i slots) → SlotNotes true es slot more
     → slot ≡ get_or slots i None → i < length slots
     → noted_of (xs ++ more) ≡ objects_in (take (i + 1) slots)
@@ -113,7 +113,7 @@ noted_more slots i slot es xs more was now at within =
     ∙ flat_map_more one_of [] (take i slots) (get_or slots i None)
     ∙ ap objects_in (sym (take_more slots i None within))
 
-pub slot_claimed : (runs : List Event → Type 0) (shows : Shown → Type 0) (slot : Option ℕ)
+pub slot_claimed : (runs : List Access → Type 0) (shows : Shown → Type 0) (slot : Option ℕ)
     (old new : List Former) → (c : ClaimsSlot runs shows slot true old new)
     → Gathers runs shows (λ h. slot ≡ Some h) (λ h. slot ≡ Some h) c.part.events c.more
 slot_claimed runs shows slot old new c = let x = slot_of slot c.part.events c.more c.part.done.0 in record {
@@ -126,7 +126,7 @@ slot_claimed runs shows slot old new c = let x = slot_of slot c.part.events c.mo
   claims = c.part.done.1;
 }
 
-pub slot_left : (runs : List Event → Type 0) (shows : Shown → Type 0) (slot : Option ℕ)
+pub slot_left : (runs : List Access → Type 0) (shows : Shown → Type 0) (slot : Option ℕ)
     (old new : List Former) → (c : ClaimsSlot runs shows slot false old new)
     → Gathers runs shows (λ h. slot ≡ Some h) (λ h. ⊥) c.part.events c.more
 slot_left runs shows slot old new c = record {
@@ -172,7 +172,7 @@ pub below_has : (span : Contents) (n h : ℕ) → HasBelow span n h → SpanHas 
 below_has span n h (slot, less, named) = (slot, named)
 
 -- no slot is below the first
-pub nothing_yet : (runs : List Event → Type 0) (shows : Shown → Type 0) (span : Contents) → runs []
+pub nothing_yet : (runs : List Access → Type 0) (shows : Shown → Type 0) (span : Contents) → runs []
     → ((far : FarState) → ClaimsObjects shows far [] [])
     → Gathers runs shows (HasBelow span 0) (HasBelow span 0) [] []
 nothing_yet runs shows span ran claims = record {
@@ -194,8 +194,8 @@ slot_handle span i n None e below = tt
 slot_handle span i n (Some h) e below = below h (i, sym e)
 
 -- one slot more, whose object could not be claimed
-pub slot_failed : (runsA runsB runsC : List Event → Type 0) (showsA showsB : Shown → Type 0)
-    (span : Contents) (i : ℕ) (slot : Option ℕ) (old new : List Former) (es : List Event)
+pub slot_failed : (runsA runsB runsC : List Access → Type 0) (showsA showsB : Shown → Type 0)
+    (span : Contents) (i : ℕ) (slot : Option ℕ) (old new : List Former) (es : List Access)
     (more : List Former)
     → Gathers runsA showsA (HasBelow span i) (HasBelow span i) es more
     → (x : ClaimsSlot runsB showsB slot false old new) → slot ≡ handle_at span i
@@ -209,16 +209,16 @@ slot_failed runsA runsB runsC showsA showsB span i slot old new es more a x e ap
     (below_more span i) (slot_more span i slot e) (λ h y. y) (λ h y. absurd y) (λ h y. inl y)
 
 -- so those that were noted from the start on are to be given back
-pub record ToUndo (runs : List Event → Type 0) (shows : Shown → Type 0) (span : Contents) (i : ℕ)
-    (old new : List Former) (start : ℕ) (es : List Event) (more : List Former) : Type 0 where
+pub record ToUndo (runs : List Access → Type 0) (shows : Shown → Type 0) (span : Contents) (i : ℕ)
+    (old new : List Former) (start : ℕ) (es : List Access) (more : List Former) : Type 0 where
   pub joint : Gathers runs shows (HasBelow span (i + 1)) (HasBelow span i) es more
   pub whole : new ≡ old ++ more
   pub rest : drop start new ≡ more
   pub kept : take start new ≡ old
 
-pub to_undo : {runsA runsB runsC : List Event → Type 0} {showsA showsB : Shown → Type 0}
+pub to_undo : {runsA runsB runsC : List Access → Type 0} {showsA showsB : Shown → Type 0}
     {span : Contents} {i : ℕ} {slot : Option ℕ} {old mid new : List Former} {start : ℕ}
-    {es : List Event} {more : List Former} → Joins runsA runsB runsC showsA showsB
+    {es : List Access} {more : List Former} → Joins runsA runsB runsC showsA showsB
     → Gathers runsA showsA (HasBelow span i) (HasBelow span i) es more
     → (x : ClaimsSlot runsB showsB slot false mid new) → slot ≡ handle_at span i
     → ((i j h : ℕ) → handle_at span i ≡ Some h → handle_at span j ≡ Some h → i ≡ j)
@@ -235,8 +235,8 @@ to_undo {span = span} {i = i} {slot = slot} {old = old} {mid = mid} {new = new} 
     }
 
 -- one slot more, whose object was claimed, if there is one
-pub slot_succeeded : (runsA runsB runsC : List Event → Type 0) (showsA showsB : Shown → Type 0)
-    (span : Contents) (i : ℕ) (slot : Option ℕ) (old new : List Former) (es : List Event)
+pub slot_succeeded : (runsA runsB runsC : List Access → Type 0) (showsA showsB : Shown → Type 0)
+    (span : Contents) (i : ℕ) (slot : Option ℕ) (old new : List Former) (es : List Access)
     (more : List Former)
     → Gathers runsA showsA (HasBelow span i) (HasBelow span i) es more
     → (x : ClaimsSlot runsB showsB slot true old new) → slot ≡ handle_at span i
@@ -253,16 +253,16 @@ slot_succeeded runsA runsB runsC showsA showsB span i slot old new es more a x e
 
 -- ---- looks at the slots of a span
 -- each object in the first i slots was looked at
-abbrev pub SeesBelow : Contents → ℕ → List Event → Type 0
+abbrev pub SeesBelow : Contents → ℕ → List Access → Type 0
 SeesBelow span i es = (h : ℕ) → HasBelow span i h → (w : ℕ) × IsFound h w es
 
 -- and by the answer each of them can be claimed, or one can't
-abbrev pub FindsBelow : Bool → Contents → ℕ → List Event → Type 0
+abbrev pub FindsBelow : Bool → Contents → ℕ → List Access → Type 0
 FindsBelow true span i es = (h : ℕ) → HasBelow span i h → (w : ℕ) × IsFound h w es × IsFree w
 FindsBelow false span i es = (h w : ℕ) × HasBelow span i h × IsFound h w es × ¬ (IsFree w)
 
 -- one slot more was looked at
-module _ (span : Contents) (i : ℕ) (slot : Option ℕ) (es fs : List Event)
+module _ (span : Contents) (i : ℕ) (slot : Option ℕ) (es fs : List Access)
     (e : slot ≡ handle_at span i)
     (apart : (i j h : ℕ) → handle_at span i ≡ Some h → handle_at span j ≡ Some h → i ≡ j)
     (touches : TouchesOnly (λ h. slot ≡ Some h) (λ p. ⊥) fs) where
@@ -312,7 +312,7 @@ module _ (span : Contents) (i : ℕ) (slot : Option ℕ) (es fs : List Event)
   slot_found false now a b = held_still a
 
 -- all slots were looked at
-pub all_found : (span : Contents) (n : ℕ) (es : List Event) (loose : Bool) → length span.slots ≤ n
+pub all_found : (span : Contents) (n : ℕ) (es : List Access) (loose : Bool) → length span.slots ≤ n
     → FindsBelow loose span n es → SpanFinds loose es span
 all_found span n es true all a = λ h has. a h (below_all span n h all has)
 all_found span n es false all (h, w, below, found, held) =

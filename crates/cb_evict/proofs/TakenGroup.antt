@@ -11,7 +11,7 @@ use Rattle.cb_gf256.specs.InRange.{IsInRange}
 use Rattle.cb_gf256.specs.Rows.{row_at, HoldBytes}
 use Rattle.cb_ptr.specs.Word.{len_of, place_of}
 use Rattle.cb_span.specs.Contents.{Contents, handle_at}
-use Rattle.cb_world.specs.declared.event.Event.{Event}
+use Rattle.cb_world.specs.declared.access.Access.{Access}
 use Rattle.cb_world.specs.declared.leaving.Former.{Former}
 use Rattle.cb_world.specs.declared.object.Object.{Object}
 use Rattle.cb_world.specs.declared.object.Object.TheVariants as is
@@ -51,7 +51,7 @@ frame_rows t pages frames =
 -- in a sound world objects of k spans were claimed; their words were read, and the rows were coded,
 -- or will be
 pub record AreRowsCoded (far : FarState) (frames : List ℕ) (formers : List Former) (made : Bool)
-    (parities : List (List ℕ)) (before : List Event) (s t : Shown) : Type 0 where
+    (parities : List (List ℕ)) (before : List Access) (s t : Shown) : Type 0 where
   pub sound : Sound s far
   pub claimed : AreClaimed before s t formers
   pub here : LocalSound t far
@@ -65,7 +65,7 @@ pub record AreRowsCoded (far : FarState) (frames : List ℕ) (formers : List For
       → All (λ w. w < 2 ^ 64) (window t.memory (512 * f) (512 * taken.pages))
 
 -- what the events told of an object: it was here, and is claimed as they tell
-pub record IsToldOne (es : List Event) (s t : Shown) (batch : LeavingState) (h : ℕ) : Type 0 where
+pub record IsToldOne (es : List Access) (s t : Shown) (batch : LeavingState) (h : ℕ) : Type 0 where
   pub noted : IsNoted t batch h
   pub was : object_at s h ≡ is.Here (len_of noted.former.word) (place_of noted.former.word)
   pub found : IsFound h noted.former.word es
@@ -109,7 +109,7 @@ claimed_same n p v m q w a b e = (ap len_in e, ap place_in e, ap words_of_it e)
     words_of_it (is.Claimed len place v words) = words
 
 module _ (far : FarState) (frames : List ℕ) (formers : List Former) (made : Bool)
-    (parities : List (List ℕ)) (before : List Event) (s t : Shown)
+    (parities : List (List ℕ)) (before : List Access) (s t : Shown)
     (d : AreRowsCoded far frames formers made parities before s t) where
   ready : (f : ℕ) → Contains frames f → IsReadyFrame far f
   ready f x = ready_frame far s f d.sound.here
@@ -144,7 +144,7 @@ module _ (far : FarState) (frames : List ℕ) (formers : List Former) (made : Bo
       (window_length t.memory (512 * f) (512 * d.taken.pages)) (d.small f x) refl
       (omega (arith, inside.0, frame)) (omega (arith, inside.1, frame, long))
 
-  pub told_one : (events : List Event) → ((k : ℕ) → NoLook k events) → (h : ℕ)
+  pub told_one : (events : List Access) → ((k : ℕ) → NoLook k events) → (h : ℕ)
       → IsIn far.spans frames h
       → IsToldOne (before ++ events) s t (new_batch far d.taken.pages frames formers made parities) h
   told_one events quiet h (f, c, named) =
@@ -304,7 +304,7 @@ module _ (far : FarState) (frames : List ℕ) (formers : List Former) (made : Bo
       (get_or_from_slice_get frames p f 0 at)
 
   -- rows with the words of the frames, each at its frame's place, have what the claims told
-  pub rows_told : (events : List Event) → ((k : ℕ) → NoLook k events) → (rows : List (List ℕ))
+  pub rows_told : (events : List Access) → ((k : ℕ) → NoLook k events) → (rows : List (List ℕ))
       → ((p f : ℕ) → slice_get frames p ≡ Some f
       → row_at rows p ≡ row_of (window t.memory (512 * f) (512 * d.taken.pages)))
       → AreInRows (before ++ events) far frames rows

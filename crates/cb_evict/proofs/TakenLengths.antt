@@ -5,7 +5,7 @@ use Rattle.std.proofs.lemmas.List.{append_assoc}
 use Rattle.std.proofs.lemmas.List.Elements.{All-contains, All-nil}
 use Rattle.cb_span.specs.Contents.{Contents}
 use Rattle.cb_types.specs.declared.reply.Reply.TheVariants as answer
-use Rattle.cb_world.specs.declared.event.Event.{Event}
+use Rattle.cb_world.specs.declared.access.Access.{Access}
 use Rattle.cb_world.specs.declared.leaving.Former.{Former}
 use Rattle.cb_world.specs.declared.shown.Shown.{Shown}
 use Rattle.cb_world.specs.Choices.{room_count}
@@ -51,8 +51,8 @@ touched_among far was pages h among (f, c, named) =
     among_spans far was among h (f, filter_in (has_pages far.spans pages) was f c, named)
 
 -- all that is tried are spans that may leave
-abbrev tries_all : {runs : List Event → Type 0} {shows : Shown → Type 0} (far : FarState)
-    (touched : ℕ → Type 0) (finds : List Event → Type 0) (formers : List Former)
+abbrev tries_all : {runs : List Access → Type 0} {shows : Shown → Type 0} (far : FarState)
+    (touched : ℕ → Type 0) (finds : List Access → Type 0) (formers : List Former)
     → ((h : ℕ) → touched h → IsIn far.spans (candidates far) h)
     → ClaimsThese runs shows touched (λ p. ⊥) finds formers
     → TriesSpans runs shows far finds formers
@@ -61,7 +61,7 @@ tries_all far touched finds formers f x =
     (λ p y. absurd y) x.done
 
 -- ---- one length after others
-first_length : {runs : List Event → Type 0} {shows : Shown → Type 0} (far : FarState)
+first_length : {runs : List Access → Type 0} {shows : Shown → Type 0} (far : FarState)
     (was : List ℕ) (pages : ℕ) (lost : ℕ → Bool) (formers : List Former) (touched : ℕ → Type 0)
     → ClaimsThese runs shows touched (λ p. ⊥) (AreLostSince far was pages lost) formers
     → ClaimsThese runs shows touched (λ p. ⊥) (AreLooseStill far was (without lost was)) formers
@@ -69,7 +69,7 @@ first_length far was pages lost formers touched x =
     part_more touched (λ p. ⊥) _ x (λ h y. y) (λ p y. y)
     (λ before had. x.done.0 before was refl had, x.done.1)
 
-next_length : {runsA runsB runsC : List Event → Type 0} {showsA showsB : Shown → Type 0}
+next_length : {runsA runsB runsC : List Access → Type 0} {showsA showsB : Shown → Type 0}
     (far : FarState) (was loose : List ℕ) (pages : ℕ) (lost : ℕ → Bool) (formers : List Former)
     (touchedA touchedB : ℕ → Type 0) → Joins runsA runsB runsC showsA showsB
     → ((h : ℕ) → touchedA h → touchedB h → ⊥)
@@ -93,7 +93,7 @@ next_length {showsB = showsB} far was loose pages lost formers touchedA touchedB
 
 -- ---- the lengths in turn
 -- none of 4 pages was taken: so many are loose, and those of other lengths are as they were
-pub record PastFour (runs : List Event → Type 0) (shows : Shown → Type 0) (far : FarState)
+pub record PastFour (runs : List Access → Type 0) (shows : Shown → Type 0) (far : FarState)
     (was : List ℕ) (fours : ℕ) : Type 0 where
   pub loose : List ℕ
   pub tried : ClaimsThese runs shows (Touched far was 4) (λ p. ⊥) (AreLooseStill far was loose) []
@@ -103,7 +103,7 @@ pub record PastFour (runs : List Event → Type 0) (shows : Shown → Type 0) (f
   pub one : loose_of far.spans 1 loose ≡ loose_of far.spans 1 was
 
 -- nothing changed there
-pub four_sound : {runs : List Event → Type 0} {shows : Shown → Type 0} {far : FarState}
+pub four_sound : {runs : List Access → Type 0} {shows : Shown → Type 0} {far : FarState}
     {was : List ℕ} {fours : ℕ} → All (Contains (candidates far)) was
     → (p : PastFour runs shows far was fours) → (s : Shown) → shows s → Sound s far
     → Sound (played p.tried.events s) far
@@ -112,7 +112,7 @@ four_sound {far = far} {was = was} among p s knows sound =
     (λ h. touched_among far was 4 h among) p.tried) s (knows, sound)).1
 
 -- nor of 2
-pub record PastTwo (runs : List Event → Type 0) (shows : Shown → Type 0) (far : FarState)
+pub record PastTwo (runs : List Access → Type 0) (shows : Shown → Type 0) (far : FarState)
     (was : List ℕ) (fours twos : ℕ) : Type 0 where
   pub loose : List ℕ
   pub tried : ClaimsThese runs shows (λ h. Touched far was 4 h ⊎ Touched far was 2 h) (λ p. ⊥)
@@ -122,7 +122,7 @@ pub record PastTwo (runs : List Event → Type 0) (shows : Shown → Type 0) (fa
   pub two : twos ≡ count_of far.spans 2 loose
   pub one : loose_of far.spans 1 loose ≡ loose_of far.spans 1 was
 
-pub two_sound : {runs : List Event → Type 0} {shows : Shown → Type 0} {far : FarState}
+pub two_sound : {runs : List Access → Type 0} {shows : Shown → Type 0} {far : FarState}
     {was : List ℕ} {fours twos : ℕ} → All (Contains (candidates far)) was
     → (p : PastTwo runs shows far was fours twos) → (s : Shown) → shows s → Sound s far
     → Sound (played p.tried.events s) far
@@ -152,7 +152,7 @@ claimed_all far left pages count frames formers is (inr a) = a
 module _ (far : FarState) (was : List ℕ) (among : All (Contains (candidates far)) was)
     (room : far.code.k + far.code.r ≤ room_count far.nodes far.members) where
   -- ---- 4 pages
-  module _ {runs : List Event → Type 0} {shows : Shown → Type 0} {count : ℕ} {frames : List ℕ}
+  module _ {runs : List Access → Type 0} {shows : Shown → Type 0} {count : ℕ} {frames : List ℕ}
       {formers : List Former} (x : ClaimsLength runs shows far was 4 count frames formers) where
     pub past_four : (count ≡ far.code.k → ⊥) → PastFour runs shows far was count
     past_four off =
@@ -183,7 +183,7 @@ module _ (far : FarState) (was : List ℕ) (among : All (Contains (candidates fa
         }
 
   -- ---- 2 pages
-  module _ {runsA runsB runsC : List Event → Type 0} {showsA showsB : Shown → Type 0}
+  module _ {runsA runsB runsC : List Access → Type 0} {showsA showsB : Shown → Type 0}
       {fours count : ℕ} {frames : List ℕ} {formers : List Former} (n : ℕ)
       (unique : AreUnique far.spans n) (j : Joins runsA runsB runsC showsA showsB)
       (p : PastFour runsA showsA far was fours)
@@ -234,7 +234,7 @@ module _ (far : FarState) (was : List ℕ) (among : All (Contains (candidates fa
         }
 
   -- ---- 1 page
-  module _ {runsA runsB runsC : List Event → Type 0} {showsA showsB : Shown → Type 0}
+  module _ {runsA runsB runsC : List Access → Type 0} {showsA showsB : Shown → Type 0}
       {fours twos count : ℕ} {frames : List ℕ} {formers : List Former} (n : ℕ)
       (unique : AreUnique far.spans n) (j : Joins runsA runsB runsC showsA showsB)
       (p : PastTwo runsA showsA far was fours twos)

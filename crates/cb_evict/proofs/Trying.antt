@@ -7,7 +7,7 @@ use Rattle.std.proofs.lemmas.List.Elements.{All-nil, All-append, All-cons, All-c
 use Rattle.std.proofs.lemmas.List.Quantifiers.{all_pairs_push}
 use Rattle.cb_span.specs.Contents.{Contents}
 use Rattle.cb_world.specs.declared.leaving.Former.{Former}
-use Rattle.cb_world.specs.declared.event.Event.{Event}
+use Rattle.cb_world.specs.declared.access.Access.{Access}
 use Rattle.cb_world.specs.declared.shown.Shown.{Shown}
 use Rattle.cb_world.specs.FarState.{FarState, pages_at, span_in}
 use Rattle.cb_world.specs.Reserved.{table_of}
@@ -23,13 +23,13 @@ use Rattle.cb_evict.proofs.LooseLengths.{at_false, at_true, filter_all, filter_h
 use Rattle.cb_evict.proofs.Loose.{loose_kept, loose_after, barred_after, in_more, in_last, not_before}
 
 -- of the spans in the first i frames those of a length were tried, and some of them are lost
-pub record Tried (runs : List Event → Type 0) (shows : Shown → Type 0)
-    (spans : List (Option Contents)) (loose : List ℕ) (pages i : ℕ) (es : List Event)
+pub record Tried (runs : List Access → Type 0) (shows : Shown → Type 0)
+    (spans : List (Option Contents)) (loose : List ℕ) (pages i : ℕ) (es : List Access)
     (frames : List ℕ) (formers : List Former) : Type 0 where
   pub lost : ℕ → Bool
   pub gathers : Gathers runs shows (IsIn spans (loose_of spans pages (take i loose)))
       (IsIn spans frames) es formers
-  pub found : (before : List Event) (all was : List ℕ) → AllPairs (λ f g. f ≢ g) all
+  pub found : (before : List Access) (all was : List ℕ) → AllPairs (λ f g. f ≢ g) all
       → loose_of spans pages was ≡ loose_of spans pages loose → AreLoose before spans all was
       → AreLoose (before ++ es) spans all (without lost was)
   pub chosen : without lost (loose_of spans pages (take i loose)) ≡ frames
@@ -39,7 +39,7 @@ pub record Tried (runs : List Event → Type 0) (shows : Shown → Type 0)
   pub apart : AllPairs (λ f g. f ≢ g) frames
   pub order : noted_of formers ≡ objects_of spans frames
 
-pub tried_none : (runs : List Event → Type 0) (shows : Shown → Type 0)
+pub tried_none : (runs : List Access → Type 0) (shows : Shown → Type 0)
     (spans : List (Option Contents)) (loose : List ℕ) (pages : ℕ) → runs []
     → ((far : FarState) → ClaimsObjects shows far [] [])
     → Tried runs shows spans loose pages 0 [] [] []
@@ -60,7 +60,7 @@ tried_none runs shows spans loose pages ran claims = record {
   found = λ before all was apart same a.
       subst (λ (l : List ℕ). AreLoose (before ++ []) spans all l)
       (sym (filter_all (λ f. true) was (λ f c. refl)))
-      (subst (λ (l : List Event). AreLoose l spans all was) (sym (append-nil before)) a);
+      (subst (λ (l : List Access). AreLoose l spans all was) (sym (append-nil before)) a);
   chosen = refl;
   long = λ f e. absurd (false≢true e);
   tried = λ f e. absurd (false≢true e);
@@ -70,7 +70,7 @@ tried_none runs shows spans loose pages ran claims = record {
 }
 
 -- what the claim of one frame gathers
-frame_claimed : (runs : List Event → Type 0) (shows : Shown → Type 0)
+frame_claimed : (runs : List Access → Type 0) (shows : Shown → Type 0)
     (spans : List (Option Contents)) (f : ℕ) (old new : List ℕ) (before after : List Former)
     → (x : ClaimsFrame runs shows spans f old new before after) → AreOf (SpanNames spans f) x.more
     → Gathers runs shows (SpanNames spans f) (SpanNames spans f) x.part.events x.more
@@ -84,7 +84,7 @@ frame_claimed runs shows spans f old new before after x of = record {
   claims = x.part.done.1;
 }
 
-frame_left : (runs : List Event → Type 0) (shows : Shown → Type 0)
+frame_left : (runs : List Access → Type 0) (shows : Shown → Type 0)
     (spans : List (Option Contents)) (f : ℕ) (old new : List ℕ) (before after : List Former)
     → (x : ClaimsFrame runs shows spans f old new before after) → x.more ≡ []
     → Gathers runs shows (SpanNames spans f) (λ h. ⊥) x.part.events x.more
@@ -142,8 +142,8 @@ one_other spans loose pages i within other =
 
 -- ---- the tests of one frame
 -- the frame at the next place is loose still, where its span has the length
-module _ (runs : List Event → Type 0) (shows : Shown → Type 0)
-    (spans : List (Option Contents)) (loose : List ℕ) (pages i : ℕ) (es : List Event)
+module _ (runs : List Access → Type 0) (shows : Shown → Type 0)
+    (spans : List (Option Contents)) (loose : List ℕ) (pages i : ℕ) (es : List Access)
     (frames : List ℕ) (formers : List Former)
     (a : Tried runs shows spans loose pages i es frames formers)
     (apart : AllPairs (λ f g. f ≢ g) loose) (within : i < length loose) where
@@ -182,8 +182,8 @@ module _ (runs : List Event → Type 0) (shows : Shown → Type 0)
         (ap not not_lost)
 
 -- one frame more, whose span has another length
-pub tried_passed : (runs : List Event → Type 0) (shows : Shown → Type 0)
-    (spans : List (Option Contents)) (loose : List ℕ) (pages i : ℕ) (es : List Event)
+pub tried_passed : (runs : List Access → Type 0) (shows : Shown → Type 0)
+    (spans : List (Option Contents)) (loose : List ℕ) (pages i : ℕ) (es : List Access)
     (frames : List ℕ) (formers : List Former)
     → Tried runs shows spans loose pages i es frames formers → i < length loose
     → has_pages spans pages (get_or loose i 0) ≡ false
@@ -207,8 +207,8 @@ tried_passed runs shows spans loose pages i es frames formers a within other =
     }
 
 -- one frame more, whose objects were claimed
-tried_claimed : (runsA runsB runsC : List Event → Type 0) (showsA showsB : Shown → Type 0)
-    (spans : List (Option Contents)) (n : ℕ) (loose : List ℕ) (pages i : ℕ) (es : List Event)
+tried_claimed : (runsA runsB runsC : List Access → Type 0) (showsA showsB : Shown → Type 0)
+    (spans : List (Option Contents)) (n : ℕ) (loose : List ℕ) (pages i : ℕ) (es : List Access)
     (frames new : List ℕ) (formers after : List Former)
     → Tried runsA showsA spans loose pages i es frames formers
     → has_pages spans pages (get_or loose i 0) ≡ true
@@ -236,7 +236,7 @@ tried_claimed runsA runsB runsC showsA showsB spans n loose pages i es frames ne
           (in_more spans (loose_of spans pages (take i loose)) f)
           (in_last spans (loose_of spans pages (take i loose)) f) (in_more spans frames f) (in_last spans frames f) (in_split spans frames f));
       found = λ before all was apart_all same had.
-          subst (λ (l : List Event). AreLoose l spans all (without a.lost was))
+          subst (λ (l : List Access). AreLoose l spans all (without a.lost was))
           (append_assoc before es x.part.events)
           (loose_kept (before ++ es) x.part.events spans n f all (without a.lost was)
           unique x.part.touches apart_all (loose_after spans f (before ++ es) x.part.events now)
@@ -269,8 +269,8 @@ one_lost f g lost e P new old = by (nat_eq f g) refl
     by false is = old (sym (ap (λ (b : Bool). b || lost g) is) ∙ e)
 
 -- one frame more, of which an object could not be claimed
-tried_left : (runsA runsB runsC : List Event → Type 0) (showsA showsB : Shown → Type 0)
-    (spans : List (Option Contents)) (n : ℕ) (loose : List ℕ) (pages i : ℕ) (es : List Event)
+tried_left : (runsA runsB runsC : List Access → Type 0) (showsA showsB : Shown → Type 0)
+    (spans : List (Option Contents)) (n : ℕ) (loose : List ℕ) (pages i : ℕ) (es : List Access)
     (frames new : List ℕ) (formers after : List Former)
     → Tried runsA showsA spans loose pages i es frames formers
     → has_pages spans pages (get_or loose i 0) ≡ true
@@ -297,7 +297,7 @@ tried_left runsA runsB runsC showsA showsB spans n loose pages i es frames new f
           (in_last spans (loose_of spans pages (take i loose)) f)
           (λ h y. y) (λ h y. absurd y) (λ h y. inl y));
       found = λ before all was apart_all same had.
-          subst (λ (l : List Event). AreLoose l spans all (without (λ g. nat_eq f g || a.lost g) was))
+          subst (λ (l : List Access). AreLoose l spans all (without (λ g. nat_eq f g || a.lost g) was))
           (append_assoc before es x.part.events)
           (subst (λ (l : List ℕ). AreLoose ((before ++ es) ++ x.part.events) spans all l)
           (sym (without_more f a.lost was))
@@ -328,8 +328,8 @@ tried_left runsA runsB runsC showsA showsB spans n loose pages i es frames new f
     }
 
 -- one frame more
-pub tried_more : (runsA runsB runsC : List Event → Type 0) (showsA showsB : Shown → Type 0)
-    (spans : List (Option Contents)) (n : ℕ) (loose : List ℕ) (pages i : ℕ) (es : List Event)
+pub tried_more : (runsA runsB runsC : List Access → Type 0) (showsA showsB : Shown → Type 0)
+    (spans : List (Option Contents)) (n : ℕ) (loose : List ℕ) (pages i : ℕ) (es : List Access)
     (frames new : List ℕ) (formers after : List Former)
     → Tried runsA showsA spans loose pages i es frames formers
     → has_pages spans pages (get_or loose i 0) ≡ true
@@ -373,8 +373,8 @@ filter_taken p xs i x c = filter_has p xs x (taken_of xs i x (filter_in p (take 
     (All-contains (λ (y : ℕ). p y ≡ true) (filter p (take i xs)) x (filter_passes p (take i xs)) c)
 
 -- the claims of the spans, once no more are tried
-pub all_tried : (runs : List Event → Type 0) (shows : Shown → Type 0)
-    (spans : List (Option Contents)) (loose : List ℕ) (pages k i : ℕ) (es : List Event)
+pub all_tried : (runs : List Access → Type 0) (shows : Shown → Type 0)
+    (spans : List (Option Contents)) (loose : List ℕ) (pages k i : ℕ) (es : List Access)
     (frames : List ℕ) (formers : List Former) → Tried runs shows spans loose pages i es frames formers
     → length frames ≤ k → (length frames ≡ k) ⊎ (drop i loose ≡ [])
     → ClaimsSpans runs shows spans loose pages k frames formers

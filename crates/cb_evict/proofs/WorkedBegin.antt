@@ -12,8 +12,8 @@ use Rattle.cb_types.specs.declared.handle.SetId.{SetId}
 use Rattle.cb_types.specs.declared.reply.Reply.{Reply}
 use Rattle.cb_types.specs.declared.reply.Reply.TheVariants as answer
 use Rattle.cb_world.specs.declared.entry.Entry.{Entry}
-use Rattle.cb_world.specs.declared.event.Event.{Event}
-use Rattle.cb_world.specs.declared.event.Event.TheVariants.{Looked, Claimed, Settled}
+use Rattle.cb_world.specs.declared.access.Access.{Access}
+use Rattle.cb_world.specs.declared.access.Access.TheVariants.{Looked, Claimed, Settled}
 use Rattle.cb_world.specs.declared.leaving.Former.{Former}
 use Rattle.cb_member.specs.Membership.{with_crash}
 use Rattle.cb_set.specs.SetState.{SetState, filled_position, set_of}
@@ -63,13 +63,13 @@ IsBegunTo x y far new frames = BegunTo x y far new true frames
 abbrev pub IsBatchMade : Words → Words → FarState → FarState → Reply → Type 0
 IsBatchMade x y far new r = BatchMade x y far new true (λ rows. Unit {0}) r
 
-abbrev pub HasBegun : FarState → FarState → List ℕ → List Event → Type 0
+abbrev pub HasBegun : FarState → FarState → List ℕ → List Access → Type 0
 HasBegun far new frames es = Begun far new true frames es
 
-abbrev HasBatch : FarState → FarState → Reply → List ℕ → List Event → Type 0
+abbrev HasBatch : FarState → FarState → Reply → List ℕ → List Access → Type 0
 HasBatch far new r loose es = Batch far new true (λ rows. Unit {0}) r loose es
 
-abbrev HasLooked : FarState → FarState → Reply → List Event → Type 0
+abbrev HasLooked : FarState → FarState → Reply → List Access → Type 0
 HasLooked far new r es = Looks far new true (λ rows. Unit {0}) r es
 
 -- ---- words of objects that are claimed
@@ -333,7 +333,7 @@ not_looked : IsLeavingAlready second second (answer.Leaving (record { n = 0 }))
     (Looked 0 moving ∷ []) → ⊥
 not_looked a = let e : Looked 0 moving ∷ [] ≡ [] = a.nothing in cc
 
-not_absent : (r : Reply) (es : List Event) → IsLeavingAlready pair pair r es → ⊥
+not_absent : (r : Reply) (es : List Access) → IsLeavingAlready pair pair r es → ⊥
 not_absent r es a = none_some a.batch a.there
 
 leaving_is : (a b : SetId) → answer.Leaving a ≡ answer.Leaving b → a ≡ b
@@ -362,7 +362,7 @@ here = record {
 abbrev taken : ℕ → ℕ → Shown
 taken version content = record here { objects = is.Claimed 8 0 version (content ∷ []) ∷ [] }
 
-abbrev pub claim : List Event
+abbrev pub claim : List Access
 claim = Claimed 0 calm 3 (7 ∷ []) ∷ []
 
 claimed_now : IsClaimedThere claim here (taken 3 7) 0
@@ -409,7 +409,7 @@ not_before : IsClaimedThere claim (taken 3 7) (taken 3 7) 0 → ⊥
 not_before a = let e : is.Claimed 8 0 3 (7 ∷ []) ≡ is.Here _ _ = a.was in cc
 
 -- ---- the rule
-abbrev pub claim_zeros : List Event
+abbrev pub claim_zeros : List Access
 claim_zeros = Claimed 0 calm 3 (0 ∷ []) ∷ []
 
 in_row : IsInRow claim_zeros (span_with Cold 0) row 1 0
@@ -610,15 +610,15 @@ has_batch = record {
   given = tt;
 }
 
-not_of_none : (new : FarState) (r : Reply) (es : List Event) → HasBatch pair new r [] es → ⊥
+not_of_none : (new : FarState) (r : Reply) (es : List Access) → HasBatch pair new r [] es → ⊥
 unfolding batch_pages
 not_of_none new r es a = none_some a.pages a.longest
 
-not_on_one : (new : FarState) (r : Reply) (es : List Event)
+not_on_one : (new : FarState) (r : Reply) (es : List Access)
     → HasBatch lone new r (0 ∷ []) es → ⊥
 not_on_one new r es a = let l = a.room in absurd (omega (arith, l, one_node))
 
-not_number : (new : FarState) (es : List Event)
+not_number : (new : FarState) (es : List Access)
     → HasBatch pair new (answer.Batch (record { n = 1 })) (0 ∷ []) es → ⊥
 not_number new es a =
     let e : 1 ≡ 0 = ap (λ (id : SetId). id.n) (id_is _ _ a.reply) in absurd (omega (arith, e))
@@ -627,7 +627,7 @@ by_rule : BeginRule second second (answer.Leaving (record { n = 0 })) []
 by_rule = inl told
 
 -- no span is looked at while a batch is leaving
-not_meanwhile : (new : FarState) (r : Reply) (es : List Event) → HasLooked second new r es → ⊥
+not_meanwhile : (new : FarState) (r : Reply) (es : List Access) → HasLooked second new r es → ⊥
 not_meanwhile new r es a = none_some _ (sym a.none)
 
 -- the parities of the row of zeros

@@ -14,8 +14,8 @@ use Rattle.cb_ptr.specs.Word.{len_of}
 use Rattle.cb_span.specs.Contents.{Contents, span_of}
 use Rattle.cb_types.specs.declared.reply.Reply.{Reply}
 use Rattle.cb_types.specs.declared.reply.Reply.TheVariants as answer
-use Rattle.cb_world.specs.declared.event.Event.{Event}
-use Rattle.cb_world.specs.declared.event.Event.TheVariants.{Claimed}
+use Rattle.cb_world.specs.declared.access.Access.{Access}
+use Rattle.cb_world.specs.declared.access.Access.TheVariants.{Claimed}
 use Rattle.cb_world.specs.declared.object.Object.TheVariants as is
 use Rattle.cb_world.specs.declared.shown.Shown.{Shown}
 use Rattle.cb_world.specs.Choices.{room_count}
@@ -103,7 +103,7 @@ not_enough_nodes : HasFewNodes (record far { code = record { k = 0; r = 1 } })
 not_enough_nodes a = let l = a.few in absurd (omega (arith, l, one_node))
 
 -- no set is made where a node is missing
-not_without_room : (r : Reply) (es : List Event) → HasBoth far far r (1 ∷ 3 ∷ []) es → ⊥
+not_without_room : (r : Reply) (es : List Access) → HasBoth far far r (1 ∷ 3 ∷ []) es → ⊥
 not_without_room r es a = let l = a.room in absurd (omega (arith, l, one_node))
 
 -- ---- an object in a row
@@ -111,7 +111,7 @@ not_without_room r es a = let l = a.room in absurd (omega (arith, l, one_node))
 abbrev word : ℕ
 word = 65538
 
-abbrev claim : List ℕ → List Event
+abbrev claim : List ℕ → List Access
 claim words = Claimed 0 word 3 words ∷ []
 
 abbrev span : Contents

@@ -5,8 +5,8 @@ use Rattle.cb_ptr.specs.declared.word.State.TheVariants.{Here, Moving}
 use Rattle.cb_span.specs.declared.temp.Temp.{Temp}
 use Rattle.cb_span.specs.declared.temp.Temp.TheVariants.{Hot, Cold}
 use Rattle.cb_span.specs.Contents.{Contents, span_of}
-use Rattle.cb_world.specs.declared.event.Event.{Event}
-use Rattle.cb_world.specs.declared.event.Event.TheVariants.{Looked, Loaded, Stored, Settled}
+use Rattle.cb_world.specs.declared.access.Access.{Access}
+use Rattle.cb_world.specs.declared.access.Access.TheVariants.{Looked, Loaded, Stored, Settled}
 use Rattle.cb_world.specs.Looks.{IsFound}
 use Rattle.cb_world.specs.Grasped.{IsFree}
 use Rattle.cb_evict.specs.Candidates.{candidates_of, SpanNames, IsLoose, IsHeldUp, AreLoose, AreUnique}
@@ -42,7 +42,7 @@ pinned_word e = let p = e.1 in absurd (omega (arith, p))
 moving_word : IsFree 3 → ⊥
 moving_word e = let e : Moving ≡ Here = e.0 in cc
 
-abbrev looks : List Event
+abbrev looks : List Access
 looks = Looked 1 2 ∷ Looked 0 14 ∷ []
 
 -- the only object that a span names

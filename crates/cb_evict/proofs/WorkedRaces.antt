@@ -10,8 +10,8 @@ use Rattle.cb_class.specs.Class.{pages_of}
 use Rattle.cb_span.specs.Contents.{span_of}
 use Rattle.cb_span.specs.declared.temp.Temp.{Temp}
 use Rattle.cb_span.specs.declared.temp.Temp.TheVariants.{Cold, Hot}
-use Rattle.cb_world.specs.declared.event.Event.{Event}
-use Rattle.cb_world.specs.declared.event.Event.TheVariants.{Looked, Claimed, Told, Loaded, Stored, Stamped, Settled}
+use Rattle.cb_world.specs.declared.access.Access.{Access}
+use Rattle.cb_world.specs.declared.access.Access.TheVariants.{Looked, Claimed, Told, Loaded, Stored, Stamped, Settled}
 use Rattle.cb_world.specs.declared.leaving.Former.{Former}
 use Rattle.cb_world.specs.declared.shown.Shown.{Shown}
 use Rattle.cb_world.specs.FarState.{FarState, handle_in, pages_at, span_in}
@@ -34,7 +34,7 @@ use Rattle.cb_evict.proofs.WorkedThreeLengths.{far, far_with, here, spans, three
 
 -- ---- what some events found, by tests
 -- whether the event is a look at the object that found this word; whether it is none at it
-abbrev looks : ℕ → ℕ → Event → Bool
+abbrev looks : ℕ → ℕ → Access → Bool
 looks h w (Looked k x) = nat_eq k h && nat_eq x w
 looks h w (Claimed k x v words) = nat_eq k h && nat_eq x w
 looks h w (Told k v) = false
@@ -43,7 +43,7 @@ looks h w (Stored p x) = false
 looks h w (Stamped k v) = false
 looks h w (Settled k x) = false
 
-abbrev is_off : ℕ → Event → Bool
+abbrev is_off : ℕ → Access → Bool
 is_off h (Looked k x) = not (nat_eq k h)
 is_off h (Claimed k x v words) = not (nat_eq k h)
 is_off h (Told k v) = true
@@ -52,11 +52,11 @@ is_off h (Stored p x) = true
 is_off h (Stamped k v) = true
 is_off h (Settled k x) = true
 
-abbrev all_off : ℕ → List Event → Bool
+abbrev all_off : ℕ → List Access → Bool
 all_off h [] = true
 all_off h (e ∷ es) = is_off h e && all_off h es
 
-abbrev finds : ℕ → ℕ → List Event → Bool
+abbrev finds : ℕ → ℕ → List Access → Bool
 finds h w [] = false
 finds h w (e ∷ es) = finds h w es || (looks h w e && all_off h es)
 
@@ -71,7 +71,7 @@ one_of false b e = inr e
 differ : (k h : ℕ) → not (nat_eq k h) ≡ true → k ≡ h → ⊥
 differ k h e same = false≢true (sym (ap not (eq-eqb k h same)) ∙ e)
 
-off_look : (h w : ℕ) (e : Event) → is_off h e ≡ true → IsLook h w e → ⊥
+off_look : (h w : ℕ) (e : Access) → is_off h e ≡ true → IsLook h w e → ⊥
 off_look h w (Looked k x) e look = differ k h e look.0
 off_look h w (Claimed k x v words) e look = differ k h e look.0
 off_look h w (Told k v) e look = look
@@ -80,12 +80,12 @@ off_look h w (Stored p x) e look = look
 off_look h w (Stamped k v) e look = look
 off_look h w (Settled k x) e look = look
 
-no_look : (h : ℕ) (es : List Event) → all_off h es ≡ true → NoLook h es
+no_look : (h : ℕ) (es : List Access) → all_off h es ≡ true → NoLook h es
 no_look h [] e = tt
 no_look h (x ∷ es) e =
     let b = both (is_off h x) (all_off h es) e in (λ w. off_look h w x b.0, no_look h es b.1)
 
-look_is : (h w : ℕ) (e : Event) → looks h w e ≡ true → IsLook h w e
+look_is : (h w : ℕ) (e : Access) → looks h w e ≡ true → IsLook h w e
 look_is h w (Looked k x) e =
     let b = both (nat_eq k h) (nat_eq x w) e in (eqb-true k h b.0, eqb-true x w b.1)
 look_is h w (Claimed k x v words) e =
@@ -96,7 +96,7 @@ look_is h w (Stored p x) e = absurd (false≢true e)
 look_is h w (Stamped k v) e = absurd (false≢true e)
 look_is h w (Settled k x) e = absurd (false≢true e)
 
-found : (h w : ℕ) (es : List Event) → finds h w es ≡ true → IsFound h w es
+found : (h w : ℕ) (es : List Access) → finds h w es ≡ true → IsFound h w es
 found h w [] e = absurd (false≢true e)
 found h w (x ∷ es) e = elim (one_of (finds h w es) (looks h w x && all_off h es) e) [
   | inl later ↦ inl (found h w es later)
@@ -110,7 +110,7 @@ abbrev pinned : ℕ
 pinned = here 4096 7 + 8
 
 -- all seven are looked at, and found loose; then those of 4 pages are to be claimed, and of 2 pages
-abbrev raced : List Event
+abbrev raced : List Access
 raced = Looked 0 (here 1024 0) ∷ Looked 2 (here 1536 5) ∷ Looked 3 (here 4096 7)
     ∷ Looked 4 (here 1536 11) ∷ Looked 1 (here 4096 1) ∷ Looked 5 (here 1024 13)
     ∷ Looked 6 (here 1024 14) ∷ Looked 3 pinned ∷ Claimed 1 (here 4096 1) 3 []
@@ -140,7 +140,7 @@ only_of_five temp k (suc (suc (suc zero))) h e = absurd (none_some h e)
 only_of_five temp k (suc (suc (suc (suc zero)))) h e = absurd (none_some h e)
 only_of_five temp k (suc (suc (suc (suc (suc n))))) h e = absurd (none_some h e)
 
-loose_by : (es : List Event) (f k w : ℕ) → ((h : ℕ) → SpanNames spans f h → k ≡ h)
+loose_by : (es : List Access) (f k w : ℕ) → ((h : ℕ) → SpanNames spans f h → k ≡ h)
     → finds k w es ≡ true → IsFree w → IsLoose es spans f
 loose_by es f k w only test free h named =
     (w, subst (λ (j : ℕ). IsFound j w es) (only h named) (found k w es test), free)
@@ -339,7 +339,7 @@ takes = record {
 }
 
 -- ---- the one that was pinned is not taken, though the first look found it loose
-loose_in : (es : List Event) (frames loose : List ℕ) (f : ℕ) → AreLoose es spans frames loose
+loose_in : (es : List Access) (frames loose : List ℕ) (f : ℕ) → AreLoose es spans frames loose
     → Contains loose f → IsLoose es spans f
 loose_in es [] [] f a (k, l, e) = absurd (omega (arith, l))
 loose_in es [] (x ∷ loose) f a c = absurd a
@@ -350,12 +350,12 @@ loose_in es (g ∷ frames) (x ∷ loose) f (inr a) (zero, l, e) =
 loose_in es (g ∷ frames) (x ∷ loose) f (inr a) (suc k, l, e) =
     loose_in es frames loose f a.2 (k, omega (arith, l), e)
 
-not_seen : (h w : ℕ) (es : List Event) → NoLook h es → IsFound h w es → ⊥
+not_seen : (h w : ℕ) (es : List Access) → NoLook h es → IsFound h w es → ⊥
 not_seen h w [] n f = f
 not_seen h w (e ∷ es) n (inl f) = not_seen h w es n.1 f
 not_seen h w (e ∷ es) n (inr f) = n.0 w f.0
 
-one_word : (h w x : ℕ) (e : Event) → IsLook h w e → IsLook h x e → w ≡ x
+one_word : (h w x : ℕ) (e : Access) → IsLook h w e → IsLook h x e → w ≡ x
 one_word h w x (Looked k v) a b = sym a.1 ∙ b.1
 one_word h w x (Claimed k v u words) a b = sym a.1 ∙ b.1
 one_word h w x (Told k v) a b = absurd a
@@ -364,7 +364,7 @@ one_word h w x (Stored p v) a b = absurd a
 one_word h w x (Stamped k v) a b = absurd a
 one_word h w x (Settled k v) a b = absurd a
 
-found_one : (h w x : ℕ) (es : List Event) → IsFound h w es → IsFound h x es → w ≡ x
+found_one : (h w x : ℕ) (es : List Access) → IsFound h w es → IsFound h x es → w ≡ x
 found_one h w x [] a b = absurd a
 found_one h w x (e ∷ es) (inl a) (inl b) = found_one h w x es a b
 found_one h w x (e ∷ es) (inl a) (inr b) = absurd (not_seen h w es b.1 a)
@@ -389,7 +389,7 @@ more = far_with 3 3
 abbrev warm : ℕ
 warm = here 1024 13 + 8
 
-abbrev failed : List Event
+abbrev failed : List Access
 failed = Looked 0 (here 1024 0) ∷ Looked 2 (here 1536 5) ∷ Looked 3 (here 4096 7)
     ∷ Looked 4 (here 1536 11) ∷ Looked 1 (here 4096 1) ∷ Looked 5 (here 1024 13)
     ∷ Looked 6 (here 1024 14) ∷ Claimed 0 (here 1024 0) 3 [] ∷ Looked 5 warm

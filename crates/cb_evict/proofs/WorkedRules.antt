@@ -14,8 +14,8 @@ use Rattle.cb_span.specs.declared.temp.Temp.TheVariants.{Cold}
 use Rattle.cb_types.specs.declared.reply.Reply.{Reply}
 use Rattle.cb_types.specs.declared.reply.Reply.TheVariants as answer
 use Rattle.cb_world.specs.declared.entry.Entry.{Entry}
-use Rattle.cb_world.specs.declared.event.Event.{Event}
-use Rattle.cb_world.specs.declared.event.Event.TheVariants.{Looked, Claimed, Loaded, Stamped, Settled}
+use Rattle.cb_world.specs.declared.access.Access.{Access}
+use Rattle.cb_world.specs.declared.access.Access.TheVariants.{Looked, Claimed, Loaded, Stamped, Settled}
 use Rattle.cb_world.specs.declared.leaving.Former.{Former}
 use Rattle.cb_world.specs.declared.object.Object.TheVariants as is
 use Rattle.cb_world.specs.declared.shown.Shown.{Shown}
@@ -50,7 +50,7 @@ use Rattle.cb_evict.proofs.Options.{none_some, some_same}
 use Rattle.cb_evict.proofs.SmallWorlds.{away, calm, far_with, first_object, heads, homes, is_word, one_page, only_first, only_object, only_second, pair, pinned, row, row_words, span_with}
 
 -- a begin makes the parities
-abbrev HasLooked : FarState → FarState → Reply → List Event → Type 0
+abbrev HasLooked : FarState → FarState → Reply → List Access → Type 0
 HasLooked far new r es = Looks far new true (λ rows. Unit {0}) r es
 
 -- ---- objects of the batch alone are settled by a commit and by an abort
@@ -112,7 +112,7 @@ unfolding window
 abort_effect = record { back = are_restored; nothing = λ old. refl; same_now = now_back }
 
 -- the object is settled at a version of its own
-abbrev stamped : ℕ → List Event
+abbrev stamped : ℕ → List Access
 stamped word = Stamped 0 4 ∷ Settled 0 word ∷ []
 
 abort_writes : ¬ (IsAborted (leaving one_put) (leaving one_put) settled (stamped 65542) claimed
@@ -202,10 +202,10 @@ hot_leaves = far_with pair.spans
       shards = [];
     })) 2
 
-abbrev of_one : List Event
+abbrev of_one : List Access
 of_one = Looked 0 pinned ∷ []
 
-abbrev of_both : List Event
+abbrev of_both : List Access
 of_both = Looked 0 pinned ∷ Looked 1 pinned ∷ []
 
 not_free : IsFree pinned → ⊥
@@ -321,7 +321,7 @@ one_of [] e = absurd (omega (arith, e))
 one_of (r ∷ []) e = refl
 one_of (r ∷ q ∷ l) e = absurd (omega (arith, e))
 
-abbrev claim_sevens : List Event
+abbrev claim_sevens : List Access
 claim_sevens = Claimed 0 calm 3 (7 ∷ []) ∷ []
 
 not_sevens : IsInRow claim_sevens (span_with Cold 0) row 1 0 → ⊥

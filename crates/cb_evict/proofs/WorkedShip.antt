@@ -11,7 +11,7 @@ use Rattle.cb_node.proofs.Laws.{row_is_put}
 use Rattle.cb_span.specs.declared.temp.Temp.TheVariants.{Cold}
 use Rattle.cb_types.specs.declared.reply.Reply.{Reply}
 use Rattle.cb_types.specs.declared.reply.Reply.TheVariants as answer
-use Rattle.cb_world.specs.declared.event.Event.TheVariants.{Looked, Loaded}
+use Rattle.cb_world.specs.declared.access.Access.TheVariants.{Looked, Loaded}
 use Rattle.cb_world.specs.Choices.{numbered, MayPut, IsBefore}
 use Rattle.cb_world.specs.FarState.{FarState, pages_at}
 use Rattle.cb_world.specs.Leaving.{LeavingState}

@@ -7,8 +7,8 @@ use Rattle.cb_class.specs.Class.{pages_of}
 use Rattle.std.specs.List.{Contains}
 use Rattle.std.proofs.lemmas.List.Elements.{All-nil, All-cons}
 use Rattle.cb_types.specs.declared.reply.Reply.TheVariants as answer
-use Rattle.cb_world.specs.declared.event.Event.{Event}
-use Rattle.cb_world.specs.declared.event.Event.TheVariants.{Looked, Claimed, Settled, Stored}
+use Rattle.cb_world.specs.declared.access.Access.{Access}
+use Rattle.cb_world.specs.declared.access.Access.TheVariants.{Looked, Claimed, Settled, Stored}
 use Rattle.cb_world.specs.declared.leaving.Former.{Former}
 use Rattle.cb_world.specs.declared.object.Object.TheVariants as is
 use Rattle.cb_world.specs.declared.shown.Shown.{Shown}
@@ -48,7 +48,7 @@ not_one n e = omega (arith, e)
 
 -- ---- looks
 -- the looks at both spans find the first one loose
-abbrev looks : List Event
+abbrev looks : List Access
 looks = Looked 0 calm ∷ Looked 1 pinned ∷ []
 
 first_loose : IsLoose looks pair.spans 0
@@ -89,22 +89,22 @@ finds_first = record {
 }
 
 -- the spans of each length are counted
-not_other_length : (runs : List Event → Type 0)
+not_other_length : (runs : List Access → Type 0)
     → FindsLoose runs pair (0 ∷ []) (record { fours = 1; twos = 0; ones = 0 }) 2 → ⊥
 unfolding pages_of
 not_other_length runs a = let e : 1 ≡ 0 = a.counted.fours in omega (arith, e)
 
 -- the nodes are counted
-not_other_nodes : (runs : List Event → Type 0) → FindsLoose runs pair (0 ∷ []) one_short 3 → ⊥
+not_other_nodes : (runs : List Access → Type 0) → FindsLoose runs pair (0 ∷ []) one_short 3 → ⊥
 not_other_nodes runs a = let e = a.nodes in absurd (omega (arith, e, two_nodes))
 
 -- too few spans, and then too few nodes, are a refusal
-not_enough : (runs : List Event → Type 0) (n : ℕ) (counts : LengthCounts)
+not_enough : (runs : List Access → Type 0) (n : ℕ) (counts : LengthCounts)
     → FindsLoose runs pair [] counts n → ⊥
 unfolding batch_pages
 not_enough runs n counts a = false≢true a.enough
 
-not_with_room : (runs : List Event → Type 0) (n : ℕ) (counts : LengthCounts)
+not_with_room : (runs : List Access → Type 0) (n : ℕ) (counts : LengthCounts)
     → FindsLoose runs lone (0 ∷ []) counts n → ⊥
 not_with_room runs n counts a = let l = a.room in absurd (omega (arith, l, one_node))
 
@@ -123,7 +123,7 @@ few shows = record {
 }
 
 -- a refusal has its own count
-not_its_count : (runs : List Event → Type 0) (shows : Shown → Type 0)
+not_its_count : (runs : List Access → Type 0) (shows : Shown → Type 0)
     → TakesFew runs shows pair (AreLooseNow pair) (Refused Spans 1 2) → ⊥
 not_its_count runs shows a = by a.few
   where
@@ -140,21 +140,21 @@ not_its_count runs shows a = by a.few
     by (inr x) = spans_nodes 1 _ x.reply
 
 -- and the other one beside it, as it is and not another
-not_other_count : (runs : List Event → Type 0) (shows : Shown → Type 0)
+not_other_count : (runs : List Access → Type 0) (shows : Shown → Type 0)
     → TakesFew runs shows paired (AreLooseNow paired) (Refused Spans 1 1) → ⊥
 not_other_count runs shows a = let e = a.counts.1 in absurd (omega (arith, e, two_nodes))
 
 -- ---- looks, and the claim of the first span
-abbrev tried : List Event
+abbrev tried : List Access
 tried = Looked 0 calm ∷ Looked 1 pinned ∷ Claimed 0 calm 3 (0 ∷ []) ∷ []
 
 -- a claim is no look
-not_only_looks : (objects : ℕ → Type 0) (finds : List Event → Type 0)
+not_only_looks : (objects : ℕ → Type 0) (finds : List Access → Type 0)
     → LooksAt (λ es. es ≡ tried) objects finds → ⊥
 not_only_looks objects finds a = subst OnlyLooks a.ran a.done.0
 
 -- what the desk did not run is no part of a call
-not_run : (objects words : ℕ → Type 0) (so : List Event → Type 0)
+not_run : (objects words : ℕ → Type 0) (so : List Access → Type 0)
     → CallPart (λ es. ⊥) objects words so → ⊥
 not_run objects words so a = a.ran
 
@@ -168,10 +168,10 @@ settles = record {
   done = (λ k. ((λ w look. look), tt), tt);
 }
 
-not_quiet : (objects words : ℕ → Type 0) (so : List Event → Type 0)
+not_quiet : (objects words : ℕ → Type 0) (so : List Access → Type 0)
     → Settles (λ es. es ≡ looks) objects words so → ⊥
 not_quiet objects words so a =
-    (subst (λ (es : List Event). NoLook 0 es) a.ran (a.done.0 0)).0 calm (refl, refl)
+    (subst (λ (es : List Access). NoLook 0 es) a.ran (a.done.0 0)).0 calm (refl, refl)
 
 still_loose : IsLoose tried pair.spans 0
 still_loose h named = (
@@ -231,13 +231,13 @@ enough = record {
 }
 
 -- an object is not looked at again once it is claimed
-not_after : (shows : Shown → Type 0) (finds : List Event → Type 0) (formers : List Former)
+not_after : (shows : Shown → Type 0) (finds : List Access → Type 0) (formers : List Former)
     → TriesSpans (λ es. es ≡ Claimed 0 calm 3 (0 ∷ []) ∷ Looked 0 calm ∷ []) shows pair finds
     formers → ⊥
 not_after shows finds formers a = let x = subst LooksFirst a.ran a.first in x.0.0 calm (refl, refl)
 
 -- nothing is stored
-not_stored : (shows : Shown → Type 0) (finds : List Event → Type 0) (formers : List Former)
+not_stored : (shows : Shown → Type 0) (finds : List Access → Type 0) (formers : List Former)
     → TriesSpans (λ es. es ≡ Stored 0 1 ∷ []) shows pair finds formers → ⊥
 not_stored shows finds formers a = subst (TouchesSpans pair) a.ran a.touches
 
@@ -257,11 +257,11 @@ not_passed_over shows formers a = by (subst (AreLooseNow pair []) a.ran a.done.0
         (refl, refl))
 
 -- looks claim no object
-not_claimed : (s : Shown) (shows : Shown → Type 0) (finds : List Event → Type 0) → shows s
+not_claimed : (s : Shown) (shows : Shown → Type 0) (finds : List Access → Type 0) → shows s
     → LocalSound s pair → object_at s 0 ≡ is.Here 8 0
     → TriesSpans (λ es. es ≡ looks) shows pair finds (former ∷ []) → ⊥
 not_claimed s shows finds known sound was a =
-    let c = subst (λ (es : List Event). AreClaimed es s (played es s) (former ∷ [])) a.ran
+    let c = subst (λ (es : List Access). AreClaimed es s (played es s) (former ∷ [])) a.ran
     (a.done.1 pair s known sound).0 in
     let x = (c.taken 0 former (lit< tt)).at in differ 8 0 x.version x.words (sym was ∙ x.object)
   where
@@ -292,7 +292,7 @@ none_of_two shows = record {
 }
 
 -- a span of another length is not lost
-not_lost : (runs : List Event → Type 0) (shows : Shown → Type 0) (count : ℕ) (frames : List ℕ)
+not_lost : (runs : List Access → Type 0) (shows : Shown → Type 0) (count : ℕ) (frames : List ℕ)
     (formers : List Former)
     → (a : ClaimsLength runs shows pair (0 ∷ []) 2 count frames formers) → a.lost 0 ≡ true → ⊥
 not_lost runs shows count frames formers a is =
@@ -325,7 +325,7 @@ unfolding pages_of
 not_another a = not_one 0 (heads 1 0 a.first)
 
 -- none of a list is too few
-not_of_none : (runs : List Event → Type 0) (shows : Shown → Type 0) (frames : List ℕ)
+not_of_none : (runs : List Access → Type 0) (shows : Shown → Type 0) (frames : List ℕ)
     (formers : List Former)
     → TakesEnough runs shows pair (λ l es. l ≡ []) frames formers → ⊥
 not_of_none runs shows frames formers a =
@@ -334,7 +334,7 @@ not_of_none runs shows frames formers a =
     let e = ap (λ (l : List ℕ). length l) a.tries.done.0 in omega (arith, l, within, e)
 
 -- the first loose span goes
-not_the_other : (runs : List Event → Type 0) (shows : Shown → Type 0) (formers : List Former)
+not_the_other : (runs : List Access → Type 0) (shows : Shown → Type 0) (formers : List Former)
     → TakesEnough runs shows pair (λ l es. l ≡ 0 ∷ []) (1 ∷ []) formers → ⊥
 not_the_other runs shows formers a =
     first_one (subst (λ (l : List ℕ). Contains l 1) a.tries.done.0
@@ -347,14 +347,14 @@ not_the_other runs shows formers a =
     first_one (suc k, l, e) = absurd (omega (arith, l))
 
 -- one node is too few for two rows
-not_on_one : (runs : List Event → Type 0) (shows : Shown → Type 0)
-    (finds : List ℕ → List Event → Type 0) (frames : List ℕ) (formers : List Former)
+not_on_one : (runs : List Access → Type 0) (shows : Shown → Type 0)
+    (finds : List ℕ → List Access → Type 0) (frames : List ℕ) (formers : List Former)
     → TakesEnough runs shows lone finds frames formers → ⊥
 not_on_one runs shows finds frames formers a = let l = a.room in omega (arith, l, one_node)
 
 -- each object of the span is noted
-not_without : (runs : List Event → Type 0) (shows : Shown → Type 0)
-    (finds : List ℕ → List Event → Type 0)
+not_without : (runs : List Access → Type 0) (shows : Shown → Type 0)
+    (finds : List ℕ → List Access → Type 0)
     → TakesEnough runs shows pair finds (0 ∷ []) [] → ⊥
 not_without runs shows finds a =
     let x = a.taken.of.all 0 first_object in let l = x.1.1 in omega (arith, l)
@@ -368,18 +368,18 @@ not_looked_at : ReadsSpans (λ es. es ≡ looks) pair.spans (0 ∷ []) → ⊥
 not_looked_at a = subst (OnlyLoads (LiesInOne pair.spans (0 ∷ []))) a.1 a.2
 
 -- a set is stored
-not_unstored : (runs : List Event → Type 0) (shows : Shown → Type 0)
+not_unstored : (runs : List Access → Type 0) (shows : Shown → Type 0)
     → StoresFrames runs shows pair pair 1 (0 ∷ []) → ⊥
 not_unstored runs shows a =
     let e : 0 ≡ 1 = ap (λ (far : FarState). far.counts.sets) a.kept.state in omega (arith, e)
 
 -- with a row for each frame
-not_two_rows : (runs : List Event → Type 0) (shows : Shown → Type 0) (new : FarState)
+not_two_rows : (runs : List Access → Type 0) (shows : Shown → Type 0) (new : FarState)
     → (a : StoresFrames runs shows pair new 1 (0 ∷ [])) → length a.rows ≡ 2 → ⊥
 not_two_rows runs shows new a two = let e = a.count in omega (arith, e, two)
 
 -- the set is kept that the spans will be
-not_unkept : (runs : List Event → Type 0) (shows : Shown → Type 0) (made : Bool)
+not_unkept : (runs : List Access → Type 0) (shows : Shown → Type 0) (made : Bool)
     (rows : List (List ℕ)) (p : ParitiesState)
     → ReservesFrames runs shows pair pair 1 (0 ∷ []) made rows p → ⊥
 not_unkept runs shows made rows p a =
@@ -388,14 +388,14 @@ not_unkept runs shows made rows p a =
     ∙ reserved_kept pair.sets 0 _)
 
 -- with as many parities as the code has
-not_unparted : (runs : List Event → Type 0) (shows : Shown → Type 0) (new : FarState)
+not_unparted : (runs : List Access → Type 0) (shows : Shown → Type 0) (new : FarState)
     (made : Bool) (rows : List (List ℕ))
     → ReservesFrames runs shows pair new 1 (0 ∷ []) made rows (made_of []) → ⊥
 not_unparted runs shows new made rows a =
     let e : 0 ≡ 1 = a.ready.count in omega (arith, e)
 
 -- made, or not
-not_unmade : (runs : List Event → Type 0) (shows : Shown → Type 0) (new : FarState)
+not_unmade : (runs : List Access → Type 0) (shows : Shown → Type 0) (new : FarState)
     (rows parities : List (List ℕ))
     → ReservesFrames runs shows pair new 1 (0 ∷ []) false rows (made_of parities) → ⊥
 not_unmade runs shows new rows parities a = false≢true (sym a.ready.mark)

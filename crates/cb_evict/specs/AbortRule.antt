@@ -2,7 +2,7 @@
 use Rattle.std.specs.Prelude.{◌≡◌, ◌⊎◌, ℕ, List, [], None, Some}
 use Rattle.cb_types.specs.declared.reply.Reply.{Reply}
 use Rattle.cb_types.specs.declared.reply.Reply.TheVariants as answer
-use Rattle.cb_world.specs.declared.event.Event.{Event}
+use Rattle.cb_world.specs.declared.access.Access.{Access}
 use Rattle.cb_world.specs.declared.shown.Shown.{Shown}
 use Rattle.cb_world.specs.FarState.{FarState}
 use Rattle.cb_world.specs.Leaving.{LeavingState}
@@ -33,20 +33,20 @@ pub record HasGivenUp (far new : FarState) (r : Reply) : Type 0 where
   pub state : new ≡ without_batch far batch
 
 -- the reply of an abort and the far state after it; only objects of the batch are touched
-pub record AbortRule (far new : FarState) (r : Reply) (es : List Event) : Type 0 where
+pub record AbortRule (far new : FarState) (r : Reply) (es : List Access) : Type 0 where
   pub answered : HasNoBatch far new r ⊎ HasGivenUp far new r
   pub touches : TouchesOnly (IsOfBatch far) (λ p. ⊥) es
 
 -- The objects of the batch are here again as they were before the begin, every other object and
 -- every word is as it was, and no version is written. So the last complete contents of every object
 -- stay.
-pub record IsAborted (far new : FarState) (batch : LeavingState) (es : List Event) (s t : Shown)
+pub record IsAborted (far new : FarState) (batch : LeavingState) (es : List Access) (s t : Shown)
     : Type 0 where
   pub back : AreRestored s t batch.words
   pub nothing : Writes es s []
   pub same_now : (h : ℕ) → now t new h ≡ now s far h
 
 -- where a batch was leaving; else nothing changes
-pub record AbortEffect (far new : FarState) (es : List Event) (s t : Shown) : Type 0 where
+pub record AbortEffect (far new : FarState) (es : List Access) (s t : Shown) : Type 0 where
   pub aborted : (batch : LeavingState) → far.leaving ≡ Some batch → IsAborted far new batch es s t
   pub left : far.leaving ≡ None → IsStill es s t

@@ -5,7 +5,7 @@ use Rattle.cb_types.specs.declared.handle.SetId.{SetId}
 use Rattle.cb_types.specs.declared.reply.Reply.{Reply}
 use Rattle.cb_types.specs.declared.reply.Reply.TheVariants as answer
 use Rattle.cb_world.specs.declared.object.Object.TheVariants as is
-use Rattle.cb_world.specs.declared.event.Event.{Event}
+use Rattle.cb_world.specs.declared.access.Access.{Access}
 use Rattle.cb_world.specs.declared.shown.Shown.{Shown}
 use Rattle.cb_world.specs.Shown.{object_at}
 use Rattle.cb_world.specs.Looks.{IsFound, IsTaken, told_by}
@@ -22,7 +22,7 @@ IsInLeavingSpan far h = IsIn far.spans (leaving_frames far.leaving) h
 
 -- the object was here and is claimed at its place, with the version and the words that its claim
 -- told
-pub record IsClaimedThere (es : List Event) (s t : Shown) (h : ℕ) : Type 0 where
+pub record IsClaimedThere (es : List Access) (s t : Shown) (h : ℕ) : Type 0 where
   pub word : ℕ
   pub version : ℕ
   pub words : List ℕ
@@ -34,7 +34,7 @@ pub record IsClaimedThere (es : List Event) (s t : Shown) (h : ℕ) : Type 0 whe
 -- The objects of the spans that are leaving are claimed, every other object is as it was, words and
 -- hot bits are as the events told of them, and no version is written. So the last complete contents
 -- of every object stay.
-pub record IsBatchBegun (far new : FarState) (es : List Event) (s t : Shown) : Type 0 where
+pub record IsBatchBegun (far new : FarState) (es : List Access) (s t : Shown) : Type 0 where
   pub claimed : (h : ℕ) → IsInLeavingSpan new h → IsClaimedThere es s t h
   pub others : (h : ℕ) → ¬ (IsInLeavingSpan new h) → object_at t h ≡ object_at s h
   pub hots : t.hots ≡ (told_by es s).hots
@@ -46,7 +46,7 @@ pub record IsBatchBegun (far new : FarState) (es : List Event) (s t : Shown) : T
   pub same_now : (h : ℕ) → now t new h ≡ now (told_by es s) far h
 
 -- by the reply; a refusal changes nothing
-pub record BeginEffect (far new : FarState) (r : Reply) (es : List Event) (s t : Shown)
+pub record BeginEffect (far new : FarState) (r : Reply) (es : List Access) (s t : Shown)
     : Type 0 where
   pub begun : (id : SetId) → r ≡ answer.Batch id → IsBatchBegun far new es s t
   pub left : ((id : SetId) → r ≡ answer.Batch id → ⊥) → IsStill es s t

@@ -4,7 +4,7 @@ use Rattle.std.specs.FinMap as map
 use Rattle.cb_member.specs.declared.names.Shard.{Shard}
 use Rattle.cb_types.specs.declared.reply.Reply.{Reply}
 use Rattle.cb_types.specs.declared.reply.Reply.TheVariants as answer
-use Rattle.cb_world.specs.declared.event.Event.{Event}
+use Rattle.cb_world.specs.declared.access.Access.{Access}
 use Rattle.cb_world.specs.declared.leaving.Former.{Former}
 use Rattle.cb_world.specs.Choices.{room_count}
 use Rattle.cb_world.specs.FarState.{FarState}
@@ -62,7 +62,7 @@ with_batch far pages frames words made parities = record far {
 -- their objects found are noted, each once, in order of frame and slot. The parities, where they
 -- are made, are those of the rows with the words of their objects. Nothing else of the far state
 -- changed.
-pub record HasBegun (far new : FarState) (made : Bool) (frames : List ℕ) (es : List Event)
+pub record HasBegun (far new : FarState) (made : Bool) (frames : List ℕ) (es : List Access)
     : Type 0 where
   pub pages : ℕ
   pub long : AreOfLength far.spans pages frames
@@ -80,7 +80,7 @@ pub record HasBegun (far new : FarState) (made : Bool) (frames : List ℕ) (es :
   pub state : new ≡ with_batch far pages frames words made parities
 
 -- a batch is leaving: nothing is looked at, and nothing changes
-pub record IsLeavingAlready (far new : FarState) (r : Reply) (es : List Event) : Type 0 where
+pub record IsLeavingAlready (far new : FarState) (r : Reply) (es : List Access) : Type 0 where
   pub batch : LeavingState
   pub there : far.leaving ≡ Some batch
   pub reply : r ≡ answer.Leaving (record { n = batch.set })
@@ -90,7 +90,7 @@ pub record IsLeavingAlready (far new : FarState) (r : Reply) (es : List Event) :
 -- enough spans of a length are loose and enough nodes have room: of the greatest such length the
 -- first k loose spans are leaving, and so much is so of the rows that were read of them
 pub record HasBatch (far new : FarState) (made : Bool) (so : List (List ℕ) → Type 0) (r : Reply)
-    (loose : List ℕ) (es : List Event) : Type 0 where
+    (loose : List ℕ) (es : List Access) : Type 0 where
   pub pages : ℕ
   pub longest : batch_pages far.code.k far.spans loose ≡ Some pages
   pub room : far.code.k + far.code.r ≤ room_count far.nodes far.members
@@ -101,7 +101,7 @@ pub record HasBatch (far new : FarState) (made : Bool) (so : List (List ℕ) →
 -- No batch is leaving: the reply and the far state after it, by which spans are loose by the last
 -- looks. Only objects and words of spans that may leave are touched.
 pub record HasLooked (far new : FarState) (made : Bool) (so : List (List ℕ) → Type 0) (r : Reply)
-    (es : List Event) : Type 0 where
+    (es : List Access) : Type 0 where
   pub none : far.leaving ≡ None
   pub loose : List ℕ
   pub found : AreLoose es far.spans (candidates far) loose
@@ -112,10 +112,10 @@ pub record HasLooked (far new : FarState) (made : Bool) (so : List (List ℕ) �
 
 -- The reply and the far state after it, where the parities of a batch that begins are made or not,
 -- and so much is so of the rows that were read.
-abbrev pub BeginsBy : FarState → FarState → Bool → (List (List ℕ) → Type 0) → Reply → List Event
+abbrev pub BeginsBy : FarState → FarState → Bool → (List (List ℕ) → Type 0) → Reply → List Access
     → Type 0
 BeginsBy far new made so r es = IsLeavingAlready far new r es ⊎ HasLooked far new made so r es
 
 -- the reply of a begin and the far state after it: the parities are made
-abbrev pub BeginRule : FarState → FarState → Reply → List Event → Type 0
+abbrev pub BeginRule : FarState → FarState → Reply → List Access → Type 0
 BeginRule far new r es = BeginsBy far new true (λ rows. Unit {0}) r es

@@ -4,7 +4,7 @@ use Rattle.std.specs.FinMap as map
 use Rattle.cb_gf256.specs.CodeWord.{IsCodeWord}
 use Rattle.cb_gf256.specs.Rows.{HaveLength, HoldBytes}
 use Rattle.cb_member.specs.declared.names.Shard.{Shard}
-use Rattle.cb_world.specs.declared.event.Event.{Event}
+use Rattle.cb_world.specs.declared.access.Access.{Access}
 use Rattle.cb_world.specs.declared.leaving.Former.{Former}
 use Rattle.cb_world.specs.declared.shown.Shown.{Shown}
 use Rattle.cb_types.specs.declared.order.EncodeOrder.{EncodeOrder}
@@ -44,7 +44,7 @@ pub record AreReady (made : Bool) (r : ℕ) (rows : List (List ℕ)) (p : Pariti
 
 -- the frames are read, these are the parities of their rows or the room for them, and the set is
 -- kept that they will be
-pub record ReservesFrames (runs : List Event → Type 0) (shows : Shown → Type 0)
+pub record ReservesFrames (runs : List Access → Type 0) (shows : Shown → Type 0)
     (far new : FarState) (pages : ℕ) (frames : List ℕ) (made : Bool) (rows : List (List ℕ))
     (p : ParitiesState) : Type 0 where
   pub loads : LoadsRuns runs shows pages frames rows
@@ -55,18 +55,18 @@ pub record ReservesFrames (runs : List Event → Type 0) (shows : Shown → Type
 
 -- spans are leaving from here, and this is the order of the rows that were read
 pub record HasOrdered (far new : FarState) (made : Bool) (o : EncodeOrder) (frames : List ℕ)
-    (es : List Event) : Type 0 where
+    (es : List Access) : Type 0 where
   pub begun : HasBegun far new made frames es
   pub order : o ≡ order_for far begun.rows
 
 -- the batch is begun, and the order is kept
-pub record IsOrdered (far new : FarState) (o : EncodeOrder) (es : List Event) (s t : Shown)
+pub record IsOrdered (far new : FarState) (o : EncodeOrder) (es : List Access) (s t : Shown)
     : Type 0 where
   pub begun : IsBatchBegun far new es s t
   pub kept : IsEncodeKept t new o
 
 -- claimed spans are leaving from here
-abbrev pub BeginsClaimed : (List Event → Type 0) → (Shown → Type 0) → FarState → FarState
+abbrev pub BeginsClaimed : (List Access → Type 0) → (Shown → Type 0) → FarState → FarState
     → Bool → EncodeOrder → List ℕ → List Former → Type 0
 BeginsClaimed runs shows far new made o frames formers =
     EndsClaimed runs shows far new frames formers (HasOrdered far new made o frames)

@@ -4,7 +4,7 @@ use Rattle.std.specs.List.{list_any, range_with_len}
 use Rattle.cb_span.specs.declared.temp.Temp.{Temp}
 use Rattle.cb_span.specs.declared.temp.Temp.TheVariants.{Hot, Cold}
 use Rattle.cb_span.specs.Contents.{Contents}
-use Rattle.cb_world.specs.declared.event.Event.{Event}
+use Rattle.cb_world.specs.declared.access.Access.{Access}
 use Rattle.cb_world.specs.Placed.{leaving_frames}
 use Rattle.cb_world.specs.FarState.{FarState, span_in, resident}
 use Rattle.cb_world.specs.Looks.{IsFound}
@@ -57,25 +57,25 @@ SpanNames spans f h = (slot : ℕ) × (resident spans f slot ≡ Some h)
 
 -- the span in the frame is loose by the last looks: each of its objects was found at a word at
 -- which it can be claimed, so neither pinned nor claimed
-abbrev pub IsLoose : List Event → List (Option Contents) → ℕ → Type 0
+abbrev pub IsLoose : List Access → List (Option Contents) → ℕ → Type 0
 IsLoose es spans f = (h : ℕ) → SpanNames spans f h → (w : ℕ) × IsFound h w es × IsFree w
 
 -- each of its objects was looked at
-abbrev pub IsSeen : List Event → List (Option Contents) → ℕ → Type 0
+abbrev pub IsSeen : List Access → List (Option Contents) → ℕ → Type 0
 IsSeen es spans f = (h : ℕ) → SpanNames spans f h → (w : ℕ) × IsFound h w es
 
 -- one of its objects was found at a word at which it can't be claimed
-abbrev pub IsBarred : List Event → List (Option Contents) → ℕ → Type 0
+abbrev pub IsBarred : List Access → List (Option Contents) → ℕ → Type 0
 IsBarred es spans f = (h w : ℕ) × SpanNames spans f h × IsFound h w es × ¬ (IsFree w)
 
 -- the span in the frame is held up by the last looks: each of its objects was looked at, and one of
 -- them can't be claimed
-pub record IsHeldUp (es : List Event) (spans : List (Option Contents)) (f : ℕ) : Type 0 where
+pub record IsHeldUp (es : List Access) (spans : List (Option Contents)) (f : ℕ) : Type 0 where
   pub seen : IsSeen es spans f
   pub barred : IsBarred es spans f
 
 -- of some frames in order these are the loose ones; each other one is held up
-abbrev pub AreLoose : List Event → List (Option Contents) → List ℕ → List ℕ → Type 0
+abbrev pub AreLoose : List Access → List (Option Contents) → List ℕ → List ℕ → Type 0
 AreLoose es spans [] [] = Unit {0}
 AreLoose es spans [] (g ∷ loose) = ⊥
 AreLoose es spans (f ∷ frames) [] = IsHeldUp es spans f × AreLoose es spans frames []

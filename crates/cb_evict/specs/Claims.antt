@@ -4,7 +4,7 @@ use Rattle.std.specs.List.{AllPairs}
 use Rattle.cb_ptr.specs.Word.{hot_of, len_of, place_of}
 use Rattle.cb_world.specs.declared.leaving.Former.{Former}
 use Rattle.cb_world.specs.declared.object.Object.TheVariants as is
-use Rattle.cb_world.specs.declared.event.Event.{Event}
+use Rattle.cb_world.specs.declared.access.Access.{Access}
 use Rattle.cb_world.specs.declared.shown.Shown.{Shown}
 use Rattle.cb_world.specs.Shown.{Owns, IsHeld, object_at, version_at, hot_at}
 use Rattle.cb_world.specs.Memory.{window, words_for}
@@ -38,7 +38,7 @@ pub record IsHeldAt (t : Shown) (former : Former) : Type 0 where
   pub handle : former.handle < length t.objects
 
 -- it was claimed by these events, which told its version and its words
-pub record IsClaimedBy (es : List Event) (t : Shown) (former : Former) : Type 0 where
+pub record IsClaimedBy (es : List Access) (t : Shown) (former : Former) : Type 0 where
   pub at : IsHeldAt t former
   pub found : IsFound former.handle former.word es
   pub told : IsTaken former.handle at.version at.words es
@@ -53,7 +53,7 @@ abbrev pub IsNone : List Former → ℕ → Type 0
 IsNone formers h = All (λ former. former.handle ≢ h) formers
 
 -- these objects were claimed by the events, and all else is as it was
-pub record AreClaimed (es : List Event) (s t : Shown) (formers : List Former) : Type 0 where
+pub record AreClaimed (es : List Access) (s t : Shown) (formers : List Former) : Type 0 where
   pub taken : All (IsClaimedBy es t) formers
   pub were : All (WasHere s) formers
   pub others : (h : ℕ) → IsNone formers h → object_at t h ≡ object_at s h

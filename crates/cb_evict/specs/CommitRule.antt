@@ -4,7 +4,7 @@ use Rattle.std.specs.FinMap as map
 use Rattle.cb_types.specs.declared.handle.SetId.{SetId}
 use Rattle.cb_types.specs.declared.reply.Reply.{Reply}
 use Rattle.cb_types.specs.declared.reply.Reply.TheVariants as answer
-use Rattle.cb_world.specs.declared.event.Event.{Event}
+use Rattle.cb_world.specs.declared.access.Access.{Access}
 use Rattle.cb_world.specs.declared.shown.Shown.{Shown}
 use Rattle.cb_world.specs.FarState.{FarState}
 use Rattle.cb_world.specs.Leaving.{LeavingState}
@@ -48,14 +48,14 @@ pub record HasCommitted (far new : FarState) (r : Reply) : Type 0 where
   pub state : new ≡ with_homes (with_committed far batch) batch.frames new.homes
 
 -- the reply of a commit and the far state after it; only objects of the batch are touched
-pub record CommitRule (far new : FarState) (r : Reply) (es : List Event) : Type 0 where
+pub record CommitRule (far new : FarState) (r : Reply) (es : List Access) : Type 0 where
   pub answered : HasNoBatch far new r ⊎ (HasShort far new r ⊎ HasCommitted far new r)
   pub touches : TouchesOnly (IsOfBatch far) (λ p. ⊥) es
 
 -- The objects of the batch are away, cold, with the versions and the words that they had, every
 -- other object and every word is as it was, and no version is written. So the last complete
 -- contents of every object stay.
-pub record IsBatchCommitted (far new : FarState) (batch : LeavingState) (es : List Event)
+pub record IsBatchCommitted (far new : FarState) (batch : LeavingState) (es : List Access)
     (s t : Shown)
     : Type 0 where
   pub sent : AreSent s t batch.words
@@ -63,7 +63,7 @@ pub record IsBatchCommitted (far new : FarState) (batch : LeavingState) (es : Li
   pub same_now : (h : ℕ) → now t new h ≡ now s far h
 
 -- by the reply; a refusal changes nothing
-pub record CommitEffect (far new : FarState) (r : Reply) (es : List Event) (s t : Shown) : Type 0 where
+pub record CommitEffect (far new : FarState) (r : Reply) (es : List Access) (s t : Shown) : Type 0 where
   pub committed : (batch : LeavingState) (id : SetId) → far.leaving ≡ Some batch
       → r ≡ answer.Set id → IsBatchCommitted far new batch es s t
   pub left : ((id : SetId) → r ≡ answer.Set id → ⊥) → IsStill es s t

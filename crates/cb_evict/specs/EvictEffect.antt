@@ -8,7 +8,7 @@ use Rattle.cb_types.specs.declared.handle.SetId.{SetId}
 use Rattle.cb_types.specs.declared.reply.Reply.{Reply}
 use Rattle.cb_types.specs.declared.reply.Reply.TheVariants as answer
 use Rattle.cb_world.specs.declared.object.Object.TheVariants as is
-use Rattle.cb_world.specs.declared.event.Event.{Event}
+use Rattle.cb_world.specs.declared.access.Access.{Access}
 use Rattle.cb_world.specs.declared.homes.Home.{Home}
 use Rattle.cb_world.specs.declared.shown.Shown.{Shown}
 use Rattle.cb_world.specs.Shown.{object_at, hot_at}
@@ -28,7 +28,7 @@ abbrev pub HasLeft : FarState → FarState → ℕ → Type 0
 HasLeft far new h = (f : ℕ) × SpanNames far.spans f h × (span_in new.spans f ≡ None)
 
 -- the object is away, cold, with the version and the words that its claim told
-pub record IsAway (es : List Event) (t : Shown) (h : ℕ) : Type 0 where
+pub record IsAway (es : List Access) (t : Shown) (h : ℕ) : Type 0 where
   pub word : ℕ
   pub version : ℕ
   pub words : List ℕ
@@ -49,7 +49,7 @@ HaveFrameRows far new memory = (h f : ℕ) (home : Home) (set : SetState) (shard
 -- The objects of the spans that are gone are away, and their rows are those of their frames; every
 -- other object is as it was, words are as the events told of them, and no version is written. So
 -- the last complete contents of every object stay.
-pub record IsEvicted (far new : FarState) (es : List Event) (s t : Shown) : Type 0 where
+pub record IsEvicted (far new : FarState) (es : List Access) (s t : Shown) : Type 0 where
   pub away : (h : ℕ) → HasLeft far new h → IsAway es t h
   pub others : (h : ℕ) → ¬ (HasLeft far new h) → object_at t h ≡ object_at s h
   pub hots : (h : ℕ) → ¬ (HasLeft far new h) → hot_at t h ≡ hot_at (told_by es s) h
@@ -62,6 +62,6 @@ pub record IsEvicted (far new : FarState) (es : List Event) (s t : Shown) : Type
   pub same_now : (h : ℕ) → now t new h ≡ now (told_by es s) far h
 
 -- by the reply; a refusal changes nothing
-pub record EvictEffect (far new : FarState) (r : Reply) (es : List Event) (s t : Shown) : Type 0 where
+pub record EvictEffect (far new : FarState) (r : Reply) (es : List Access) (s t : Shown) : Type 0 where
   pub evicted : (id : SetId) → r ≡ answer.Set id → IsEvicted far new es s t
   pub left : ((id : SetId) → r ≡ answer.Set id → ⊥) → IsStill es s t

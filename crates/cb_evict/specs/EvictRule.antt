@@ -7,7 +7,7 @@ use Rattle.cb_ptr.specs.Word.{len_of}
 use Rattle.cb_span.specs.Contents.{Contents, handle_at}
 use Rattle.cb_types.specs.declared.reply.Reply.{Reply}
 use Rattle.cb_types.specs.declared.reply.Reply.TheVariants as answer
-use Rattle.cb_world.specs.declared.event.Event.{Event}
+use Rattle.cb_world.specs.declared.access.Access.{Access}
 use Rattle.cb_world.specs.Choices.{room_count}
 use Rattle.cb_world.specs.FarState.{FarState, span_in}
 use Rattle.cb_world.specs.Looks.{IsFound, IsTaken}
@@ -23,7 +23,7 @@ use Rattle.cb_evict.specs.Storing.{AreShards, with_set}
 use Rattle.cb_evict.specs.Closing.{HaveHomes, with_homes}
 
 -- the object was claimed, and the words that the claim told stand in its slot of the row
-pub record IsInRow (es : List Event) (span : Contents) (row : List ℕ) (slot h : ℕ) : Type 0 where
+pub record IsInRow (es : List Access) (span : Contents) (row : List ℕ) (slot h : ℕ) : Type 0 where
   pub word : ℕ
   pub version : ℕ
   pub words : List ℕ
@@ -32,7 +32,7 @@ pub record IsInRow (es : List Event) (span : Contents) (row : List ℕ) (slot h 
   pub contents : words ≡ window (words_in row) (slot * words_of span.class) (words_for (len_of word))
 
 -- the rows have the words of the objects of the spans in these frames, each at its frame's place
-abbrev pub AreInRows : List Event → FarState → List ℕ → List (List ℕ) → Type 0
+abbrev pub AreInRows : List Access → FarState → List ℕ → List (List ℕ) → Type 0
 AreInRows es far frames rows = (p f slot h : ℕ) (span : Contents) → slice_get frames p ≡ Some f
     → span_in far.spans f ≡ Some span → handle_at span slot ≡ Some h
     → IsInRow es span (row_at rows p) slot h
@@ -40,7 +40,7 @@ AreInRows es far frames rows = (p f slot h : ℕ) (span : Contents) → slice_ge
 -- The spans in these frames, of one length, left local memory as a new set of the code in force: a
 -- code word whose rows have the words of their objects stands at the nodes of the set's shards, the
 -- objects' homes are in the set, and their frames are free. Nothing else of the far state changed.
-pub record HasEvicted (far new : FarState) (frames : List ℕ) (es : List Event)
+pub record HasEvicted (far new : FarState) (frames : List ℕ) (es : List Access)
     : Type 0 where
   pub pages : ℕ
   pub long : AreOfLength far.spans pages frames
@@ -67,7 +67,7 @@ pub record HasFewNodes (far new : FarState) (r : Reply) (loose : List ℕ) : Typ
 
 -- enough spans of a length are loose and enough nodes have room: of the greatest such length the
 -- first k loose spans are evicted
-pub record HasBoth (far new : FarState) (r : Reply) (loose : List ℕ) (es : List Event)
+pub record HasBoth (far new : FarState) (r : Reply) (loose : List ℕ) (es : List Access)
     : Type 0 where
   pub pages : ℕ
   pub longest : batch_pages far.code.k far.spans loose ≡ Some pages
@@ -77,7 +77,7 @@ pub record HasBoth (far new : FarState) (r : Reply) (loose : List ℕ) (es : Lis
 
 -- The reply of an eviction and the far state after it, by which spans are loose by the last looks.
 -- Only objects and words of spans that may leave are touched.
-pub record EvictRule (far new : FarState) (r : Reply) (es : List Event) : Type 0 where
+pub record EvictRule (far new : FarState) (r : Reply) (es : List Access) : Type 0 where
   pub loose : List ℕ
   pub found : AreLoose es far.spans (candidates far) loose
   pub answered : HasFewSpans far new r loose ⊎ (HasFewNodes far new r loose

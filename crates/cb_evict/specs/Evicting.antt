@@ -2,7 +2,7 @@
 use Rattle.std.specs.Prelude.{◌≡◌, ◌≢◌, ℕ, ◌+◌, ◌++◌, All, List, Option, length}
 use Rattle.std.specs.List.{Contains, AllPairs}
 use Rattle.cb_member.specs.declared.names.Shard.{Shard}
-use Rattle.cb_world.specs.declared.event.Event.{Event}
+use Rattle.cb_world.specs.declared.access.Access.{Access}
 use Rattle.cb_world.specs.declared.leaving.Former.{Former}
 use Rattle.cb_world.specs.declared.shown.Shown.{Shown}
 use Rattle.cb_world.specs.Played.{played}
@@ -25,7 +25,7 @@ use Rattle.cb_evict.specs.EvictRule.{HasEvicted}
 use Rattle.cb_evict.specs.EvictEffect.{IsEvicted}
 
 -- only objects and words of spans that may leave are touched
-abbrev pub TouchesSpans : FarState → List Event → Type 0
+abbrev pub TouchesSpans : FarState → List Access → Type 0
 TouchesSpans far es = TouchesOnly (IsIn far.spans (candidates far))
     (LiesInOne far.spans (candidates far)) es
 
@@ -44,7 +44,7 @@ pub record AreSpansTaken (far : FarState) (frames : List ℕ) (formers : List Fo
 -- the desk shows what is known after these events, by which these objects were claimed in a sound
 -- world
 pub record IsReadyToEvict (shows : Shown → Type 0) (far : FarState) (formers : List Former)
-    (before : List Event) (s : Shown) : Type 0 where
+    (before : List Access) (s : Shown) : Type 0 where
   pub shown : shows (played before s)
   pub sound : Sound s far
   pub claimed : AreClaimed before s (played before s) formers
@@ -53,8 +53,8 @@ pub record IsReadyToEvict (shows : Shown → Type 0) (far : FarState) (formers :
   pub touches : TouchesSpans far before
 
 -- what is so of all events, those before a part too, and what they do
-pub record IsEnded (new : FarState) (before es : List Event) (s : Shown)
-    (ends : List Event → Type 0) (does : List Event → Shown → Shown → Type 0) : Type 0 where
+pub record IsEnded (new : FarState) (before es : List Access) (s : Shown)
+    (ends : List Access → Type 0) (does : List Access → Shown → Shown → Type 0) : Type 0 where
   pub allowed : Allowed (played before s) es
   pub rule : ends (before ++ es)
   pub sound : Sound (played (before ++ es) s) new
@@ -62,32 +62,32 @@ pub record IsEnded (new : FarState) (before es : List Event) (s : Shown)
 
 -- Claimed spans are brought to an end: evicted, begun or given back. All events, those before this
 -- part too, meet the rule, and lead to what the effect says.
-abbrev pub EndsClaimed : (List Event → Type 0) → (Shown → Type 0) → FarState → FarState → List ℕ
-    → List Former → (List Event → Type 0) → (List Event → Shown → Shown → Type 0) → Type 0
+abbrev pub EndsClaimed : (List Access → Type 0) → (Shown → Type 0) → FarState → FarState → List ℕ
+    → List Former → (List Access → Type 0) → (List Access → Shown → Shown → Type 0) → Type 0
 EndsClaimed runs shows far new frames formers ends does =
     Settles runs (IsIn far.spans frames) (LiesInOne far.spans frames)
-    (λ es. (before : List Event) (s : Shown)
+    (λ es. (before : List Access) (s : Shown)
     → IsReadyToEvict shows far formers before s → IsEnded new before es s ends does)
 
 -- claimed spans are evicted
-abbrev pub EvictsClaimed : (List Event → Type 0) → (Shown → Type 0) → FarState → FarState
+abbrev pub EvictsClaimed : (List Access → Type 0) → (Shown → Type 0) → FarState → FarState
     → List ℕ → List Former → Type 0
 EvictsClaimed runs shows far new frames formers =
     EndsClaimed runs shows far new frames formers (HasEvicted far new frames) (IsEvicted far new)
 
 -- claimed spans are given back
-abbrev pub LeavesClaimed : (List Event → Type 0) → (Shown → Type 0) → FarState → List ℕ
+abbrev pub LeavesClaimed : (List Access → Type 0) → (Shown → Type 0) → FarState → List ℕ
     → List Former → Type 0
 LeavesClaimed runs shows far frames formers =
     EndsClaimed runs shows far far frames formers (λ es. Unit {0}) IsStill
 
 -- words of the spans in these frames are read, and nothing else is done
-abbrev pub ReadsSpans : (List Event → Type 0) → List (Option Contents) → List ℕ → Type 0
-ReadsSpans runs spans frames = (es : List Event) × runs es × OnlyLoads (LiesInOne spans frames) es
+abbrev pub ReadsSpans : (List Access → Type 0) → List (Option Contents) → List ℕ → Type 0
+ReadsSpans runs spans frames = (es : List Access) × runs es × OnlyLoads (LiesInOne spans frames) es
 
 -- the spans in these frames, of so many pages each, are read, and their rows are stored with their
 -- parities as the next set
-pub record StoresFrames (runs : List Event → Type 0) (shows : Shown → Type 0)
+pub record StoresFrames (runs : List Access → Type 0) (shows : Shown → Type 0)
     (far new : FarState) (pages : ℕ) (frames : List ℕ) : Type 0 where
   pub rows : List (List ℕ)
   pub shards : List Shard

@@ -2,7 +2,7 @@
 use Rattle.std.specs.Prelude.{◌≡◌, ℕ, List}
 use Rattle.cb_types.specs.declared.reply.Reply.{Reply}
 use Rattle.cb_types.specs.declared.reply.Reply.TheVariants as answer
-use Rattle.cb_world.specs.declared.event.Event.{Event}
+use Rattle.cb_world.specs.declared.access.Access.{Access}
 use Rattle.cb_world.specs.Choices.{room_count}
 use Rattle.cb_world.specs.FarState.{FarState}
 use Rattle.cb_evict.specs.declared.eviction.Eviction.{Eviction}
@@ -25,7 +25,7 @@ TellsCounts far loose (eviction.Refused why n m) =
 
 -- The rule of an eviction, by its reply; a refusal tells both counts, of the spans that were found
 -- loose and of the nodes as they are.
-pub record CountsRule (far new : FarState) (e : Eviction) (es : List Event) : Type 0
+pub record CountsRule (far new : FarState) (e : Eviction) (es : List Access) : Type 0
   where
     pub rule : EvictRule far new (reply_of e) es
     pub counts : TellsCounts far rule.loose e

@@ -1,6 +1,6 @@
 -- The spans that can leave now.
 use Rattle.std.specs.Prelude.{◌≡◌, ℕ, ◌+◌, ◌≤◌, true, List, is_some}
-use Rattle.cb_world.specs.declared.event.Event.{Event}
+use Rattle.cb_world.specs.declared.access.Access.{Access}
 use Rattle.cb_world.specs.declared.shown.Shown.{Shown}
 use Rattle.cb_world.specs.Choices.{room_count}
 use Rattle.cb_world.specs.FarState.{FarState}
@@ -15,7 +15,7 @@ use Rattle.cb_evict.specs.Taking.{AreLooseNow, TakesFew}
 
 -- by looks these spans are loose, so many of each length, which are enough of one, and so many nodes
 -- have room, which are enough
-pub record FindsLoose (runs : List Event → Type 0) (far : FarState) (loose : List ℕ)
+pub record FindsLoose (runs : List Access → Type 0) (far : FarState) (loose : List ℕ)
     (counts : LengthCounts) (n : ℕ) : Type 0 where
   pub looks : LooksOver runs far.spans (candidates far) loose
   pub counted : AreLengthCounts far.spans loose counts
@@ -24,7 +24,7 @@ pub record FindsLoose (runs : List Event → Type 0) (far : FarState) (loose : L
   pub nodes : n ≡ room_count far.nodes far.members
 
 -- by the answer: there is too little, or the spans are loose
-abbrev pub FindsSpans : (List Event → Type 0) → (Shown → Type 0) → FarState → Found → Type 0
+abbrev pub FindsSpans : (List Access → Type 0) → (Shown → Type 0) → FarState → Found → Type 0
 FindsSpans runs shows far (Few lack loose nodes) =
     TakesFew runs shows far (AreLooseNow far) (Refused lack loose nodes)
 FindsSpans runs shows far (Loose frames counts nodes) =

@@ -5,7 +5,7 @@ use Rattle.cb_types.specs.declared.order.Kept.{Kept}
 use Rattle.cb_types.specs.declared.order.Kept.TheVariants.{Encode}
 use Rattle.cb_types.specs.declared.reply.Reply.{Reply}
 use Rattle.cb_types.specs.declared.reply.Reply.TheVariants as answer
-use Rattle.cb_world.specs.declared.event.Event.{Event}
+use Rattle.cb_world.specs.declared.access.Access.{Access}
 use Rattle.cb_world.specs.declared.shown.Shown.{Shown}
 use Rattle.cb_world.specs.FarState.{FarState}
 use Rattle.cb_world.specs.Orders.{IsEncodeKept}
@@ -40,11 +40,11 @@ abbrev pub HandsOut : FarState → Gathered → List (List ℕ) → Type 0
 HandsOut far g rows = g ≡ gathered.Order (order_for far rows)
 
 -- what a gather answers, and the far state after it
-abbrev pub GatherRule : FarState → FarState → Gathered → List Event → Type 0
+abbrev pub GatherRule : FarState → FarState → Gathered → List Access → Type 0
 GatherRule far new g es = BeginsBy far new false (HandsOut far g) (gathered_reply g) es
 
 -- what it does: what a begin does, and the order that is handed out is kept then
-pub record GatherEffect (far new : FarState) (g : Gathered) (es : List Event) (s t : Shown)
+pub record GatherEffect (far new : FarState) (g : Gathered) (es : List Access) (s t : Shown)
     : Type 0 where
   pub did : BeginEffect far new (gathered_reply g) es s t
   pub kept : (o : EncodeOrder) → g ≡ gathered.Order o → IsEncodeKept t new o

@@ -3,8 +3,8 @@ use Rattle.std.specs.Prelude.{◌≡◌, ℕ, ◌*◌, ◌^◌, ◌<◌, List, [
 use Rattle.std.specs.List.{Contains}
 use Rattle.cb_gf256.specs.Rows.{row_at}
 use Rattle.cb_span.specs.Contents.{Contents}
-use Rattle.cb_world.specs.declared.event.Event.{Event}
-use Rattle.cb_world.specs.declared.event.Event.TheVariants.{Loaded}
+use Rattle.cb_world.specs.declared.access.Access.{Access}
+use Rattle.cb_world.specs.declared.access.Access.TheVariants.{Loaded}
 use Rattle.cb_world.specs.declared.shown.Shown.{Shown}
 use Rattle.cb_world.specs.FarState.{pages_at}
 use Rattle.cb_world.specs.FrameWords.{LiesInRun, OwnsRun}
@@ -24,7 +24,7 @@ abbrev pub LiesInOne : List (Option Contents) → List ℕ → ℕ → Type 0
 LiesInOne spans frames p = (f : ℕ) × Contains frames f × LiesInRun f (pages_at spans f) p
 
 -- each event reads a word at one of these places
-abbrev pub OnlyLoads : (ℕ → Type 0) → List Event → Type 0
+abbrev pub OnlyLoads : (ℕ → Type 0) → List Access → Type 0
 OnlyLoads places [] = Unit {0}
 OnlyLoads places (Loaded p x ∷ es) = places p × OnlyLoads places es
 OnlyLoads places (e ∷ es) = ⊥
@@ -39,17 +39,17 @@ pub record IsRowOfRun (shows : Shown → Type 0) (f pages : ℕ) (row : List ℕ
       → words ≡ window s.memory (512 * f) (512 * pages)
 
 -- each word of the run is read once, into a row
-pub record LoadsRun (runs : List Event → Type 0) (shows : Shown → Type 0) (f pages : ℕ)
+pub record LoadsRun (runs : List Access → Type 0) (shows : Shown → Type 0) (f pages : ℕ)
     (row : List ℕ) : Type 0 where
-  pub events : List Event
+  pub events : List Access
   pub ran : runs events
   pub loads : OnlyLoads (LiesInRun f pages) events
   pub made : IsRowOfRun shows f pages row
 
 -- so of each run of so many frames, into the row at its place
-pub record LoadsRuns (runs : List Event → Type 0) (shows : Shown → Type 0) (pages : ℕ)
+pub record LoadsRuns (runs : List Access → Type 0) (shows : Shown → Type 0) (pages : ℕ)
     (frames : List ℕ) (rows : List (List ℕ)) : Type 0 where
-  pub events : List Event
+  pub events : List Access
   pub ran : runs events
   pub loads : OnlyLoads (LiesInRuns pages frames) events
   pub made : (p f : ℕ) → slice_get frames p ≡ Some f → IsRowOfRun shows f pages (row_at rows p)

@@ -3,7 +3,7 @@ use Rattle.std.specs.Prelude.{◌≡◌, ℕ, ◌^◌, ◌<◌, List, [], length
 use Rattle.cb_ptr.specs.Word.{hot_of, len_of, place_of}
 use Rattle.cb_world.specs.declared.leaving.Former.{Former}
 use Rattle.cb_world.specs.declared.object.Object.TheVariants as is
-use Rattle.cb_world.specs.declared.event.Event.{Event}
+use Rattle.cb_world.specs.declared.access.Access.{Access}
 use Rattle.cb_world.specs.declared.shown.Shown.{Shown}
 use Rattle.cb_world.specs.Shown.{object_at, hot_at}
 use Rattle.cb_world.specs.Memory.{window, words_for}
@@ -41,7 +41,7 @@ abbrev pub AreRestored : Shown → Shown → List Former → Type 0
 AreRestored s t formers = ChangesObjects s t formers (IsHereAt t)
 
 -- what is known, once the events settled these objects
-pub record IsRestoring (far : FarState) (es : List Event) (s : Shown) (formers : List Former)
+pub record IsRestoring (far : FarState) (es : List Access) (s : Shown) (formers : List Former)
     : Type 0 where
   pub restored : AreRestored s (played es s) formers
   pub sound : LocalSound (played es s) far
@@ -49,7 +49,7 @@ pub record IsRestoring (far : FarState) (es : List Event) (s : Shown) (formers :
   pub nothing : Writes es s []
 
 -- claimed objects are settled at the words that are noted
-abbrev pub RestoresClaims : (List Event → Type 0) → (Shown → Type 0) → List Former → Type 0
+abbrev pub RestoresClaims : (List Access → Type 0) → (Shown → Type 0) → List Former → Type 0
 RestoresClaims runs shows formers = Settles runs (IsOne formers) (λ p. ⊥)
     (λ es. (s : Shown) (far : FarState) → shows s → LocalSound s far → All (IsClaimedFrom s) formers
     → IsRestoring far es s formers)

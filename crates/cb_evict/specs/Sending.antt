@@ -3,7 +3,7 @@ use Rattle.std.specs.Prelude.{◌≡◌, ℕ, ◌<◌, false, List, [], length, 
 use Rattle.cb_ptr.specs.Word.{len_of, place_of}
 use Rattle.cb_world.specs.declared.leaving.Former.{Former}
 use Rattle.cb_world.specs.declared.object.Object.TheVariants as is
-use Rattle.cb_world.specs.declared.event.Event.{Event}
+use Rattle.cb_world.specs.declared.access.Access.{Access}
 use Rattle.cb_world.specs.declared.shown.Shown.{Shown}
 use Rattle.cb_world.specs.Shown.{object_at, version_at, hot_at}
 use Rattle.cb_world.specs.Played.{played}
@@ -38,12 +38,12 @@ abbrev pub AreSent : Shown → Shown → List Former → Type 0
 AreSent s t formers = ChangesObjects s t formers (IsSent s t)
 
 -- what is known, once the events put these objects away
-pub record IsSending (es : List Event) (s : Shown) (formers : List Former) : Type 0 where
+pub record IsSending (es : List Access) (s : Shown) (formers : List Former) : Type 0 where
   pub sent : AreSent s (played es s) formers
   pub allowed : Allowed s es
   pub nothing : Writes es s []
 
 -- claimed objects are settled as away
-abbrev pub Sends : (List Event → Type 0) → (Shown → Type 0) → List Former → Type 0
+abbrev pub Sends : (List Access → Type 0) → (Shown → Type 0) → List Former → Type 0
 Sends runs shows formers = Settles runs (IsOne formers) (λ p. ⊥)
     (λ es. (s : Shown) → shows s → All (IsFormerTold s) formers → IsSending es s formers)

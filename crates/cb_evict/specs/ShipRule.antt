@@ -8,7 +8,7 @@ use Rattle.cb_member.specs.Membership.{incarnation}
 use Rattle.cb_node.specs.NodesState.{with_row}
 use Rattle.cb_types.specs.declared.reply.Reply.{Reply}
 use Rattle.cb_types.specs.declared.reply.Reply.TheVariants as answer
-use Rattle.cb_world.specs.declared.event.Event.{Event}
+use Rattle.cb_world.specs.declared.access.Access.{Access}
 use Rattle.cb_world.specs.declared.shown.Shown.{Shown}
 use Rattle.cb_world.specs.Choices.{IsLeastNode, MayPut}
 use Rattle.cb_world.specs.FarSound.{rows_in}
@@ -110,17 +110,17 @@ ShipsRow far new r rows =
     ⊎ HasShipped far new r rows))
 
 -- nothing is done but that words of frames that are leaving are read
-abbrev pub ReadsLeaving : FarState → List Event → Type 0
+abbrev pub ReadsLeaving : FarState → List Access → Type 0
 ReadsLeaving far es = OnlyLoads (LiesInOne far.spans (leaving_frames far.leaving)) es
 
 -- so, whatever was read
-pub record ShipRule (far new : FarState) (r : Reply) (es : List Event) : Type 0 where
+pub record ShipRule (far new : FarState) (r : Reply) (es : List Access) : Type 0 where
   pub rows : LeavingState → List (List ℕ)
   pub ships : ShipsRow far new r rows
   pub reads : ReadsLeaving far es
 
 -- no object and no word changes, and the data rows are those of the spans as they stand in memory
-pub record ShipEffect (far new : FarState) (r : Reply) (es : List Event) (s t : Shown) : Type 0
+pub record ShipEffect (far new : FarState) (r : Reply) (es : List Access) (s t : Shown) : Type 0
   where
     pub still : IsStill es s t
     pub ships : ShipsRow far new r (λ batch. rows_in s batch.pages batch.frames)

@@ -7,7 +7,7 @@ use Rattle.cb_member.specs.declared.names.NodeId.{NodeId}
 use Rattle.cb_member.specs.declared.names.Shard.{Shard}
 use Rattle.cb_node.specs.NodesState.{NodesState, with_row}
 use Rattle.cb_span.specs.Contents.{Contents}
-use Rattle.cb_world.specs.declared.event.Event.{Event}
+use Rattle.cb_world.specs.declared.access.Access.{Access}
 use Rattle.cb_world.specs.declared.shown.Shown.{Shown}
 use Rattle.cb_world.specs.Choices.{MayPut}
 use Rattle.cb_world.specs.FarSound.{rows_in}
@@ -56,9 +56,9 @@ pub record IsPutOf (s : Shown) (batch : LeavingState) (rows : List (List ℕ)) (
       ≡ row_at (rows_in s batch.pages batch.frames ++ ready.parities) p
 
 -- the row of a position of the batch is put under the shard
-pub record PutsRow (runs : List Event → Type 0) (shows : Shown → Type 0) (far new : FarState)
+pub record PutsRow (runs : List Access → Type 0) (shows : Shown → Type 0) (far new : FarState)
     (batch : LeavingState) (p : ℕ) (shard : Shard) : Type 0 where
-  pub events : List Event
+  pub events : List Access
   pub ran : runs events
   pub reads : ReadsLeaving far events
   pub rows : List (List ℕ)
@@ -82,11 +82,11 @@ pub record IsParityDue (frames : ℕ) (spans : List (Option Contents)) (batch : 
   pub long : AreOfLength spans batch.pages batch.frames
 
 -- words of the runs of so many frames from these on are read, and nothing else is done
-abbrev pub LoadsAny : (List Event → Type 0) → ℕ → List ℕ → Type 0
-LoadsAny runs pages frames = (es : List Event) × runs es × OnlyLoads (LiesInRuns pages frames) es
+abbrev pub LoadsAny : (List Access → Type 0) → ℕ → List ℕ → Type 0
+LoadsAny runs pages frames = (es : List Access) × runs es × OnlyLoads (LiesInRuns pages frames) es
 
 -- the runs of so many frames from these on are read into rows, of which these are the parities
-pub record LoadsParities (runs : List Event → Type 0) (shows : Shown → Type 0) (pages : ℕ)
+pub record LoadsParities (runs : List Access → Type 0) (shows : Shown → Type 0) (pages : ℕ)
     (frames : List ℕ) (parities : List (List ℕ)) : Type 0 where
   pub rows : List (List ℕ)
   pub loads : LoadsRuns runs shows pages frames rows
@@ -94,7 +94,7 @@ pub record LoadsParities (runs : List Event → Type 0) (shows : Shown → Type 
   pub word : IsSpanWord pages (length frames) (length parities) (rows ++ parities)
 
 -- the parities of the batch are made, and the one of a position is put under the shard
-pub record PutsMade (runs : List Event → Type 0) (shows : Shown → Type 0)
+pub record PutsMade (runs : List Access → Type 0) (shows : Shown → Type 0)
     (nodes new_nodes : NodesState) (batch new_batch : LeavingState) (p : ℕ) (shard : Shard)
     : Type 0 where
   pub parities : List (List ℕ)
@@ -105,5 +105,5 @@ pub record PutsMade (runs : List Event → Type 0) (shows : Shown → Type 0)
       (row_at parities (p - length batch.frames))
 
 -- nothing is put, and words of frames that are leaving are read
-abbrev pub PutsNothing : (List Event → Type 0) → FarState → Type 0
+abbrev pub PutsNothing : (List Access → Type 0) → FarState → Type 0
 PutsNothing runs far = ReadsSpans runs far.spans (leaving_frames far.leaving)

@@ -1,6 +1,6 @@
 -- The front of an eviction and of a begin: k spans are claimed, or it is refused.
 use Rattle.std.specs.Prelude.{◌≡◌, ◌⊎◌, ℕ, ◌+◌, ◌<◌, ◌≤◌, Bool, true, ◌++◌, List, [], Some, take}
-use Rattle.cb_world.specs.declared.event.Event.{Event}
+use Rattle.cb_world.specs.declared.access.Access.{Access}
 use Rattle.cb_world.specs.declared.leaving.Former.{Former}
 use Rattle.cb_world.specs.declared.shown.Shown.{Shown}
 use Rattle.cb_world.specs.Choices.{room_count}
@@ -19,24 +19,24 @@ use Rattle.cb_evict.specs.Loading.{LiesInOne}
 use Rattle.cb_evict.specs.Looking.{IsIn}
 
 -- of the spans that may leave these are loose by the last looks
-abbrev pub AreLooseNow : FarState → List ℕ → List Event → Type 0
+abbrev pub AreLooseNow : FarState → List ℕ → List Access → Type 0
 AreLooseNow far loose es = AreLoose es far.spans (candidates far) loose
 
 -- where those were loose before, these are so behind the events
-abbrev pub AreLooseStill : FarState → List ℕ → List ℕ → List Event → Type 0
-AreLooseStill far was loose es = (before : List Event) → AreLooseNow far was before
+abbrev pub AreLooseStill : FarState → List ℕ → List ℕ → List Access → Type 0
+AreLooseStill far was loose es = (before : List Access) → AreLooseNow far was before
     → AreLooseNow far loose (before ++ es)
 
 -- the same of any spans that have those of one length of some that were loose; of this length some are
 -- lost then
-abbrev pub AreLostSince : FarState → List ℕ → ℕ → (ℕ → Bool) → List Event → Type 0
-AreLostSince far loose pages lost es = (before : List Event) (was : List ℕ)
+abbrev pub AreLostSince : FarState → List ℕ → ℕ → (ℕ → Bool) → List Access → Type 0
+AreLostSince far loose pages lost es = (before : List Access) (was : List ℕ)
     → loose_of far.spans pages was ≡ loose_of far.spans pages loose → AreLooseNow far was before
     → AreLooseNow far (without lost was) (before ++ es)
 
 -- Spans that may leave are looked at and claimed, and this is found. In the end these objects are
 -- claimed, and all else is as it was.
-abbrev pub TriesSpans : (List Event → Type 0) → (Shown → Type 0) → FarState → (List Event → Type 0)
+abbrev pub TriesSpans : (List Access → Type 0) → (Shown → Type 0) → FarState → (List Access → Type 0)
     → List Former → Type 0
 TriesSpans runs shows far finds formers = ClaimsThese runs shows (IsIn far.spans (candidates far))
     (LiesInOne far.spans (candidates far)) finds formers
@@ -58,7 +58,7 @@ pub record ClaimsAll (far : FarState) (left : List ℕ) (pages count : ℕ) (fra
 
 -- Of these spans the first k that have so many pages are claimed, or none. Those of this length of
 -- which an object could not be claimed are lost.
-pub record ClaimsLength (runs : List Event → Type 0) (shows : Shown → Type 0) (far : FarState)
+pub record ClaimsLength (runs : List Access → Type 0) (shows : Shown → Type 0) (far : FarState)
     (loose : List ℕ) (pages count : ℕ) (frames : List ℕ) (formers : List Former) : Type 0 where
   pub lost : ℕ → Bool
   pub long : (f : ℕ) → lost f ≡ true → pages_at far.spans f ≡ pages
@@ -69,8 +69,8 @@ pub record ClaimsLength (runs : List Event → Type 0) (shows : Shown → Type 0
 
 -- of no length are k spans loose, or fewer than k + r nodes have room; this refusal tells so, and no
 -- object is claimed
-pub record TakesFew (runs : List Event → Type 0) (shows : Shown → Type 0)
-    (far : FarState) (finds : List ℕ → List Event → Type 0) (e : Eviction) : Type 0 where
+pub record TakesFew (runs : List Access → Type 0) (shows : Shown → Type 0)
+    (far : FarState) (finds : List ℕ → List Access → Type 0) (e : Eviction) : Type 0 where
   pub loose : List ℕ
   pub tries : TriesSpans runs shows far (finds loose) []
   pub few : HasFewSpans far far (reply_of e) loose ⊎ HasFewNodes far far (reply_of e) loose
@@ -78,8 +78,8 @@ pub record TakesFew (runs : List Event → Type 0) (shows : Shown → Type 0)
 
 -- enough spans of a length are loose and enough nodes have room: of the greatest such length the
 -- first k loose spans are claimed
-pub record TakesEnough (runs : List Event → Type 0) (shows : Shown → Type 0)
-    (far : FarState) (finds : List ℕ → List Event → Type 0) (frames : List ℕ)
+pub record TakesEnough (runs : List Access → Type 0) (shows : Shown → Type 0)
+    (far : FarState) (finds : List ℕ → List Access → Type 0) (frames : List ℕ)
     (formers : List Former) : Type 0 where
   pub loose : List ℕ
   pub tries : TriesSpans runs shows far (finds loose) formers
@@ -90,8 +90,8 @@ pub record TakesEnough (runs : List Event → Type 0) (shows : Shown → Type 0)
   pub taken : AreSpansTaken far frames formers
 
 -- by the answer
-abbrev pub Takes : (List Event → Type 0) → (Shown → Type 0) → FarState
-    → (List ℕ → List Event → Type 0) → Taken → Type 0
+abbrev pub Takes : (List Access → Type 0) → (Shown → Type 0) → FarState
+    → (List ℕ → List Access → Type 0) → Taken → Type 0
 Takes runs shows far finds (Few lack loose nodes) =
     TakesFew runs shows far finds (Refused lack loose nodes)
 Takes runs shows far finds (Enough frames formers) =

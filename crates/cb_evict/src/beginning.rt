@@ -5,7 +5,7 @@ ghost use Rattle.cb_types.specs.declared.handle.SetId.{SetId};
 ghost use Rattle.cb_gf256.specs.InRange.{IsInRange};
 ghost use Rattle.cb_gf256.specs.Rows.{row_at, HaveLength};
 ghost use Rattle.cb_span.specs.Contents.{Contents};
-ghost use Rattle.cb_world.specs.declared.event.Event.{Event};
+ghost use Rattle.cb_world.specs.declared.access.Access.{Access};
 ghost use Rattle.cb_world.specs.declared.shown.Shown.{Shown};
 ghost use Rattle.cb_world.specs.World.{IsConfigured};
 ghost use Rattle.cb_world.specs.Still.{IsStill};
@@ -212,7 +212,7 @@ fn begin_claimed<D: Desk>(
     requires counts { far.old.counts.sets < 2 ^ 62 }
     requires none { far.old.leaving ≡ None }
     requires taken { AreSpansTaken far.old frames.items formers.items }
-    requires ready { (before : List Event) × (s : Shown)
+    requires ready { (before : List Access) × (s : Shown)
         × IsReadyToEvict (λ t. D.shows desk.old t) far.old formers.items before s }
     ensures begun { IfOk result (λ o. BeginsClaimed (λ es. D.run desk.old es desk.new)
         (λ s. D.shows desk.old s) far.old far.new made o frames.items formers.items) }

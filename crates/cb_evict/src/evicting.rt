@@ -2,7 +2,7 @@ ghost use Rattle.std.specs.Prelude.{◌≡◌, ◌^◌, ◌+◌, ◌*◌, ◌<�
 ghost use Rattle.cb_types.specs.Config.{IsAccepted};
 ghost use Rattle.cb_gf256.specs.Rows.{HaveLength};
 ghost use Rattle.cb_span.specs.Contents.{Contents};
-ghost use Rattle.cb_world.specs.declared.event.Event.{Event};
+ghost use Rattle.cb_world.specs.declared.access.Access.{Access};
 ghost use Rattle.cb_world.specs.declared.shown.Shown.{Shown};
 ghost use Rattle.cb_world.specs.World.{IsConfigured};
 ghost use Rattle.cb_world.specs.Still.{IsStill};
@@ -22,11 +22,11 @@ use crate::closing::close_spans;
 use crate::eviction::{Eviction, reply_of};
 use crate::loading::load_spans;
 use crate::sending::send;
-use crate::storing::{choose_shards, keep_set, next_number, span_pages};
+use crate::storing::{choose_shards, keep_set, span_pages};
 use crate::taking::{Taken, take_spans};
 use cb_class::PAGE_BYTES;
 use cb_types::{NoMemory, Reply, Rows, SetId};
-use cb_world::{Desk, Far, Former};
+use cb_world::{Desk, Far, Former, next_number};
 
 /// Evicts k spans at once, as many as the code in force has data positions. Of the spans none of
 /// whose objects is pinned or claimed, and which are not leaving, the first k go, the cold ones
@@ -154,7 +154,7 @@ fn evict_claimed<D: Desk>(
     requires counts { (far.old.counts.sets < 2 ^ 62) × (far.old.counts.keys < 2 ^ 62) }
     requires room { far.old.code.k + far.old.code.r ≤ room_count far.old.nodes far.old.members }
     requires taken { AreSpansTaken far.old frames.now formers.now }
-    requires ready { (before : List Event) × (s : Shown)
+    requires ready { (before : List Access) × (s : Shown)
         × IsReadyToEvict (λ t. D.shows desk.old t) far.old formers.now before s }
     ensures set { IfOk result (λ eviction.
         eviction ≡ Eviction.Set (record { n = far.old.counts.sets })) }

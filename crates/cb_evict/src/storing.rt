@@ -16,7 +16,7 @@ use cb_member::Shard;
 use cb_node::Nodes;
 use cb_set::SpanSet;
 use cb_types::{NoMemory, Rows};
-use cb_world::{Far, KeptSet, Spans, least_node, put_row};
+use cb_world::{Far, KeptSet, Spans, least_node, next_number, put_row};
 use std::alloc::Global;
 
 /// The shards of a new set: for each of `n` positions, in order, the node with the fewest rows of
@@ -53,8 +53,8 @@ fn row_at<'a>(rows: &'a Rows, parities: &'a Rows, p: u32) -> &'a [u8]
     }
 }
 
-/// Drops the rows that were put for these shards, the last one first. Takes no memory.
-fn drop_rows(nodes: &mut Nodes, shards: &[Shard])
+/// Takes the rows back that were put for these shards, the last one first. Takes no memory.
+fn take_rows_back(nodes: &mut Nodes, shards: &[Shard])
     requires within { All (λ shard. shard.node.n < length nodes.old.nodes) shards.now }
     ensures dropped { (before : NodesState) (rows : List (List ℕ)) → CanPut before shards.now
         → length shards.now ≤ length rows → nodes.old ≡ all_put before shards.now rows
@@ -81,7 +81,7 @@ fn put_rows(
     for (p, shard) in shards.iter().enumerate() {
         let row = row_at(rows, parities, p as u32);
         let Ok(()) = put_row(nodes, *shard, row) else {
-            drop_rows(nodes, &shards[..p]);
+            take_rows_back(nodes, &shards[..p]);
             return Err(NoMemory);
         };
     }
@@ -128,13 +128,6 @@ fn make_set(
     let mut set = SpanSet::new(alloc, id, k, r, pages, shards)?;
     fill(&mut set, spans, frames)?;
     Ok(set)
-}
-
-/// The number of the next set.
-pub(crate) fn next_number(far: &Far) -> u64
-    ensures { result ≡ far.now.counts.sets }
-{
-    far.counts.sets
 }
 
 /// The set of the spans in these frames, of so many pages each, with the next set number.
@@ -210,7 +203,7 @@ fn store_set(
     match keep_committed(far, set, shards.len() as u32) {
         Ok(()) => Ok(()),
         Err(_) => {
-            drop_rows(&mut far.nodes, shards);
+            take_rows_back(&mut far.nodes, shards);
             Err(NoMemory)
         }
     }

@@ -9,7 +9,7 @@ use Rattle.cb_types.specs.declared.job.Job.{Job}
 use Rattle.cb_types.specs.declared.job.Job.TheVariants.{Make, Write}
 use Rattle.cb_types.specs.declared.reply.Reply.{Reply}
 use Rattle.cb_types.specs.declared.reply.Reply.TheVariants as answer
-use Rattle.cb_world.specs.declared.event.Event.{Event}
+use Rattle.cb_world.specs.declared.access.Access.{Access}
 use Rattle.cb_world.specs.FarState.{FarState}
 use Rattle.cb_mutate.specs.Answered.{AnsweredAs}
 use Rattle.cb_mutate.specs.MakeRule.{MakeRule}
@@ -48,7 +48,7 @@ IsOfMake (answer.NoRoom frames loose nodes) = Unit {0}
 IsOfMake answer.Worn = Unit {0}
 IsOfMake other = ⊥
 
-make_rule : (n : ℕ) (bytes : List ℕ) (far new : FarState) (r : Reply) (es : List Event)
+make_rule : (n : ℕ) (bytes : List ℕ) (far new : FarState) (r : Reply) (es : List Access)
     → (r ≡ answer.NoFrame → ⊥) → MakeRule n bytes far new r es → IsOfMake r
 make_rule n bytes far new (answer.Full handles) es off x = tt
 make_rule n bytes far new answer.NoFrame es off x = absurd (off refl)
@@ -89,7 +89,7 @@ module _ (at : ℕ) (bytes : List ℕ) where
   next_past v r (inl x) = other r answer.Worn refl x.1
   next_past v r (inr x) = other r (answer.Version (v + 1)) refl x.1
 
-  write_past : (s : State) (h w : ℕ) (es : List Event) (r : Reply) → (r ≡ answer.NotHere → ⊥)
+  write_past : (s : State) (h w : ℕ) (es : List Access) (r : Reply) → (r ≡ answer.NotHere → ⊥)
       → AnsweredAs s (WriteHere h at bytes es r) w h es r → PastEnd r
   write_past state.Here h w es r off (inl (less, is)) = past r (len_of w) is less
   write_past state.Here h w es r off (inr (fits, inl (some, is))) = other r (answer.Pinned _) refl is
@@ -118,7 +118,7 @@ module _ (at : ℕ) (bytes : List ℕ) where
       (λ n b r y off out. swap_past h n b r off out y)
       (λ loose nodes out. other _ _ refl refl) most_evictions a b r x never
 
-  declined_past : (h : ℕ) (far : FarState) (r : Reply) (es : List Event)
+  declined_past : (h : ℕ) (far : FarState) (r : Reply) (es : List Access)
       → IsDeclined h at (length bytes) far (Some r) es → PastEnd r
   declined_past h far r es (inl (gone, none, nothing)) = absurd cc
   declined_past h far r es (inr (stays, (w, v, found, far_word, told, last, is))) =

@@ -6,8 +6,8 @@ use Rattle.cb_ptr.specs.Word.{state_of, len_of, place_of}
 use Rattle.cb_ptr.specs.Steps.{Claims, Settles}
 use Rattle.cb_world.specs.declared.object.Object.{Object}
 use Rattle.cb_world.specs.declared.object.Object.TheVariants as is
-use Rattle.cb_world.specs.declared.event.Event.{Event}
-use Rattle.cb_world.specs.declared.event.Event.TheVariants.{Settled}
+use Rattle.cb_world.specs.declared.access.Access.{Access}
+use Rattle.cb_world.specs.declared.access.Access.TheVariants.{Settled}
 use Rattle.cb_world.specs.declared.shown.Shown.{Shown}
 use Rattle.cb_world.specs.Memory.{window, put, words_for}
 use Rattle.cb_world.specs.Shown.{Covers, Owns, MayLie, object_at, version_at}
@@ -165,6 +165,6 @@ carried s h w v place n words copied x k =
     }
 
 -- what agrees with what is known does so in its first part
-pub agree_first : (es fs : List Event) (s : Shown) → Agree s (es ++ fs) → Agree s es
+pub agree_first : (es fs : List Access) (s : Shown) → Agree s (es ++ fs) → Agree s es
 agree_first [] fs s a = tt
 agree_first (e ∷ es) fs s a = (a.0, agree_first es fs (after e s) a.1)

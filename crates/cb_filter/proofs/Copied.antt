@@ -3,8 +3,8 @@ use Rattle.std.proofs.Common.{◌≡◌, ℕ, suc, ◌+◌, ◌<◌, ◌≤◌, 
 use native.Mathlib.Decide.{ℕ_discrete}
 use Rattle.cb_world.specs.declared.object.Object.{Object}
 use Rattle.cb_world.specs.declared.object.Object.TheVariants as is
-use Rattle.cb_world.specs.declared.event.Event.{Event}
-use Rattle.cb_world.specs.declared.event.Event.TheVariants.{Loaded, Stored}
+use Rattle.cb_world.specs.declared.access.Access.{Access}
+use Rattle.cb_world.specs.declared.access.Access.TheVariants.{Loaded, Stored}
 use Rattle.cb_world.specs.declared.entry.Entry.{Entry}
 use Rattle.cb_world.specs.declared.shown.Shown.{Shown}
 use Rattle.cb_world.specs.Memory.{window, put}
@@ -29,7 +29,7 @@ copied_then from to [] x =
 copied_then from to (y ∷ ys) x =
     let e : from + suc (length ys) ≡ (from + 1) + length ys = omega arith in
     let d : to + suc (length ys) ≡ (to + 1) + length ys = omega arith in
-    ap (λ (es : List Event). Loaded from y ∷ Stored to y ∷ es)
+    ap (λ (es : List Access). Loaded from y ∷ Stored to y ∷ es)
     ((λ i. copied_from (from + 1) (to + 1) ys ++ Loaded (e i) x ∷ Stored (d i) x ∷ [])
     ∙ copied_then (from + 1) (to + 1) ys x)
 
@@ -107,23 +107,23 @@ owns_lie s h p held may = (may.0, λ k. spares k (ℕ_discrete k h))
     spares k (no off) = of_avoids (object_at s k) (may.1 k off)
 
 -- nothing but memory words is touched
-pub copied_no_look : (h from to : ℕ) (words : List ℕ) (fs : List Event) → NoLook h fs
+pub copied_no_look : (h from to : ℕ) (words : List ℕ) (fs : List Access) → NoLook h fs
     → NoLook h (copied_from from to words ++ fs)
 copied_no_look h from to [] fs a = a
 copied_no_look h from to (x ∷ xs) fs a =
     ((λ w e. e), ((λ w e. e), copied_no_look h (from + 1) (to + 1) xs fs a))
 
-pub copied_told : (from to : ℕ) (words : List ℕ) (fs : List Event) (s : Shown)
+pub copied_told : (from to : ℕ) (words : List ℕ) (fs : List Access) (s : Shown)
     → told_by (copied_from from to words ++ fs) s ≡ told_by fs s
 copied_told from to [] fs s = refl
 copied_told from to (x ∷ xs) fs s = copied_told (from + 1) (to + 1) xs fs s
 
-copied_no_claim : (from to : ℕ) (words : List ℕ) (fs : List Event) → NoClaim fs
+copied_no_claim : (from to : ℕ) (words : List ℕ) (fs : List Access) → NoClaim fs
     → NoClaim (copied_from from to words ++ fs)
 copied_no_claim from to [] fs a = a
 copied_no_claim from to (x ∷ xs) fs a = copied_no_claim (from + 1) (to + 1) xs fs a
 
-pub copied_first : (from to : ℕ) (words : List ℕ) (fs : List Event) → NoClaim fs → LooksFirst fs
+pub copied_first : (from to : ℕ) (words : List ℕ) (fs : List Access) → NoClaim fs → LooksFirst fs
     → LooksFirst (copied_from from to words ++ fs)
 copied_first from to [] fs a b = b
 copied_first from to (x ∷ xs) fs a b = (
@@ -131,12 +131,12 @@ copied_first from to (x ∷ xs) fs a b = (
   copied_first (from + 1) (to + 1) xs fs a b,
 )
 
-pub copied_settle_last : (from to : ℕ) (words : List ℕ) (fs : List Event) → SettlesLast fs
+pub copied_settle_last : (from to : ℕ) (words : List ℕ) (fs : List Access) → SettlesLast fs
     → SettlesLast (copied_from from to words ++ fs)
 copied_settle_last from to [] fs a = a
 copied_settle_last from to (x ∷ xs) fs a = copied_settle_last (from + 1) (to + 1) xs fs a
 
-pub copied_written : (from to : ℕ) (words : List ℕ) (fs : List Event) (s : Shown)
+pub copied_written : (from to : ℕ) (words : List ℕ) (fs : List Access) (s : Shown)
     (old : List Entry) → written_by (copied_from from to words ++ fs) s old
     ≡ written_by fs (played (copied_from from to words) s) old
 copied_written from to [] fs s old = refl

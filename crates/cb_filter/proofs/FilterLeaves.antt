@@ -4,7 +4,7 @@ use Rattle.cb_ptr.specs.declared.word.State.{State}
 use Rattle.cb_ptr.specs.declared.word.State.TheVariants as state
 use Rattle.cb_ptr.specs.Word.{hot_of, state_of}
 use Rattle.cb_types.specs.declared.reply.Reply.{Reply}
-use Rattle.cb_world.specs.declared.event.Event.{Event}
+use Rattle.cb_world.specs.declared.access.Access.{Access}
 use Rattle.cb_world.specs.FarState.{FarState}
 use Rattle.cb_world.specs.Orders.{LeavesWords}
 use Rattle.cb_world.proofs.Laws.{alike_leaves_words, words_stay}
@@ -14,7 +14,7 @@ use Rattle.cb_filter.specs.Seats.{Seat, temp_for, with_moved}
 same_leaves : (far new : FarState) → new ≡ far → LeavesWords far new
 same_leaves far new e = subst (LeavesWords far) (sym e) (words_stay far)
 
-pub filter_leaves_words : (frames h : ℕ) (far new : FarState) (r : Reply) (es : List Event)
+pub filter_leaves_words : (frames h : ℕ) (far new : FarState) (r : Reply) (es : List Access)
     → FilterRule frames h far new r es → LeavesWords far new
 filter_leaves_words frames h far new r es x = by (state_of x.word) x.answer
   where

@@ -9,7 +9,7 @@ use Rattle.cb_span.specs.Contents.{Contents}
 use Rattle.cb_types.specs.declared.reply.Reply.{Reply}
 use Rattle.cb_types.specs.declared.reply.Reply.TheVariants as answer
 use Rattle.cb_world.specs.declared.object.Object.TheVariants as is
-use Rattle.cb_world.specs.declared.event.Event.{Event}
+use Rattle.cb_world.specs.declared.access.Access.{Access}
 use Rattle.cb_world.specs.declared.shown.Shown.{Shown}
 use Rattle.cb_world.specs.Memory.{window, put, words_for}
 use Rattle.cb_world.specs.Shown.{never}
@@ -35,7 +35,7 @@ use Rattle.cb_filter.proofs.Moved.{IsReadyToMove, seat_of, seat_lies, vacant_at,
 use Rattle.cb_filter.proofs.Settled.{claimed_words, told_objects, settled_well, back_now, is_cooled, is_still, still_now, moved_now}
 
 -- What holds where a filter begins with a claim.
-pub record IsFilterBegun (far : FarState) (s : Shown) (first done : List Event) (h w v : ℕ)
+pub record IsFilterBegun (far : FarState) (s : Shown) (first done : List Access) (h w v : ℕ)
     (words : List ℕ) : Type 0 where
   pub sound : Sound s far
   pub claim : IsAfterClaim s h w v words first done
@@ -47,15 +47,15 @@ pub record IsFilterBegun (far : FarState) (s : Shown) (first done : List Event) 
   pub c : HasSlot far.spans h (len_of w) (place_of w)
 
 -- What holds after it.
-pub record IsFilterDone (frames : ℕ) (far new : FarState) (s t : Shown) (es : List Event) (h w : ℕ)
+pub record IsFilterDone (frames : ℕ) (far new : FarState) (s t : Shown) (es : List Access) (h w : ℕ)
     (r : Reply) : Type 0 where
   pub sound : Sound t new
   pub effect : FilterEffect h far new r es s t
   pub rule : FilterHere frames h w far new r es
 
-module _ (far : FarState) (s : Shown) (first done : List Event) (h w v : ℕ) (words : List ℕ)
+module _ (far : FarState) (s : Shown) (first done : List Access) (h w v : ℕ) (words : List ℕ)
     (b : IsFilterBegun far s first done h w v words) where
-  abbrev es : List Event
+  abbrev es : List Access
   es = first ++ done
 
   abbrev pub seat : Seat
@@ -194,7 +194,7 @@ module _ (far : FarState) (s : Shown) (first done : List Event) (h w v : ℕ) (w
   }
 
 -- the claimed object may lie in each slot that it could get
-pub known_at : (far : FarState) (s : Shown) (first done : List Event) (h w v : ℕ) (words : List ℕ)
+pub known_at : (far : FarState) (s : Shown) (first done : List Access) (h w v : ℕ) (words : List ℕ)
     → IsFilterBegun far s first done h w v words → IsKnownAt (played first s) far h w v words
 known_at far s first done h w v words b = record {
   claimed = b.claim.claimed;
@@ -228,12 +228,12 @@ known_at far s first done h w v words b = record {
     t = claimed_from s b.claim.hots h w v words
 
 -- a filter that found no free word changes nothing
-still_effect : (h : ℕ) (far : FarState) (es : List Event) (s t : Shown) (r q : Reply) → r ≡ q
+still_effect : (h : ℕ) (far : FarState) (es : List Access) (s t : Shown) (r q : Reply) → r ≡ q
     → FilterEffect h far far q es s t → FilterEffect h far far r es s t
 still_effect h far es s t r q e x =
     subst (λ (z : Reply). FilterEffect h far far z es s t) (sym e) x
 
-empty_effect : (v h : ℕ) (far : FarState) (es : List Event) (s t : Shown) (r : Reply)
+empty_effect : (v h : ℕ) (far : FarState) (es : List Access) (s t : Shown) (r : Reply)
     → EmptyToFilter v r → IsStill es s t → FilterEffect h far far r es s t
 empty_effect zero h far es s t r e x = still_effect h far es s t r answer.Unmade e (record {
   change = x;
@@ -244,7 +244,7 @@ empty_effect (suc v) h far es s t r e x = still_effect h far es s t r answer.Not
   same_now = λ k. still_now far s t es k x;
 })
 
-pub refused_effect : (q : State) (h w : ℕ) (far : FarState) (reads es : List Event) (s t : Shown)
+pub refused_effect : (q : State) (h w : ℕ) (far : FarState) (reads es : List Access) (s t : Shown)
     (r : Reply) → RefusedAs q h w reads r → IsStill es s t → FilterEffect h far far r es s t
 refused_effect state.Empty h w far reads es s t r a x = empty_effect a.0 h far es s t r a.2 x
 refused_effect state.Far h w far reads es s t r a x =
@@ -263,7 +263,7 @@ refused_effect state.Moving h w far reads es s t r a x =
       same_now = λ k. still_now far s t es k x;
     })
 
-pub refused_rule : (q : State) (frames h w : ℕ) (far : FarState) (first reads : List Event)
+pub refused_rule : (q : State) (frames h w : ℕ) (far : FarState) (first reads : List Access)
     (r : Reply) → RefusedAs q h w reads r → FilterAs q frames h w far far r (first ++ reads)
 refused_rule state.Empty frames h w far first reads r a =
     ((a.0, told_before h a.0 first reads a.1, a.2), refl)

@@ -5,14 +5,14 @@ use Rattle.cb_ptr.specs.declared.word.State.TheVariants as state
 use Rattle.cb_ptr.specs.Word.{hot_of, state_of}
 use Rattle.cb_types.specs.declared.config.Config.{Config}
 use Rattle.cb_types.specs.declared.reply.Reply.{Reply}
-use Rattle.cb_world.specs.declared.event.Event.{Event}
+use Rattle.cb_world.specs.declared.access.Access.{Access}
 use Rattle.cb_world.specs.FarState.{FarState}
 use Rattle.cb_world.specs.Placed.{with_object}
 use Rattle.cb_world.proofs.Laws.{codes_stay, IsLike, StaysIf, stays_like, stays_same}
 use Rattle.cb_filter.specs.FilterRule.{FilterAs, FilterRule, FilterSeated}
 use Rattle.cb_filter.specs.Seats.{Seat, temp_for, with_moved}
 
-pub filter_stays : (c : Config) (frames h : ℕ) (far new : FarState) (r : Reply) (es : List Event)
+pub filter_stays : (c : Config) (frames h : ℕ) (far new : FarState) (r : Reply) (es : List Access)
     → FilterRule frames h far new r es → StaysIf c 1 far new
 filter_stays c frames h far new r es x = by (state_of x.word) x.answer
   where

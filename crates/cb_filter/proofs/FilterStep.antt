@@ -10,7 +10,7 @@ use Rattle.cb_types.specs.declared.reply.Reply.{Reply}
 use Rattle.cb_types.specs.declared.reply.Reply.TheVariants as answer
 use Rattle.cb_world.specs.declared.object.Object.{Object}
 use Rattle.cb_world.specs.declared.object.Object.TheVariants as is
-use Rattle.cb_world.specs.declared.event.Event.{Event}
+use Rattle.cb_world.specs.declared.access.Access.{Access}
 use Rattle.cb_world.specs.declared.shown.Shown.{Shown}
 use Rattle.cb_world.specs.Shown.{Fits, object_at, hot_at, never}
 use Rattle.cb_world.specs.Grasped.{IsFree}
@@ -63,14 +63,14 @@ free_here : (x : Words) (far : FarState) (s : Shown) (h : ℕ) → IsKnown x far
 free_here x far s h k free =
     fits_here (object_at s h) (word_at x h) (k.shows.fit h (in_range x h free.0)) free.0
 
-still_count : (x y : Words) (far : FarState) (s : Shown) (es : List Event) → IsKnown x far s
+still_count : (x y : Words) (far : FarState) (s : Shown) (es : List Access) → IsKnown x far s
     → Plain x es y → length (played es s).objects ≡ length s.objects
     → length y.words ≡ length x.words
 still_count x y far s es k run same =
     sym (plain_follows es x y s run k.shows).1.objects ∙ same ∙ k.shows.objects
 
 -- a free object that is settled at a place, not hot, and nothing else of the objects changes
-cool_exact : (x y : Words) (far : FarState) (s : Shown) (es : List Event) (h place : ℕ)
+cool_exact : (x y : Words) (far : FarState) (s : Shown) (es : List Access) (h place : ℕ)
     → IsKnown x far s → Plain x es y → Allowed s es → IsFree (word_at x h)
     → (played es s).objects ≡ set s.objects h (is.Here (len_of (word_at x h)) place)
     → (played es s).hots ≡ set s.hots h false
@@ -116,7 +116,7 @@ cool_exact x y far s es h place k run ok free objects hots =
         (sym (seen_then.hot h still) ∙ cold) free
 
 -- ---- the changes
-cooled_words : (x y : Words) (far : FarState) (s : Shown) (es : List Event) (h : ℕ)
+cooled_words : (x y : Words) (far : FarState) (s : Shown) (es : List Access) (h : ℕ)
     → RunsStill x y far s es → IsFree (word_at x h) → IsCooled h es s (played es s)
     → y ≡ with_cooled x h
 cooled_words x y far s es h r free z =
@@ -139,7 +139,7 @@ cooled_words x y far s es h r free z =
       memory = memory i;
     })
 
-moved_words : (x y : Words) (far new : FarState) (s : Shown) (es : List Event) (h : ℕ)
+moved_words : (x y : Words) (far new : FarState) (s : Shown) (es : List Access) (h : ℕ)
     → RunsStill x y far s es → IsFree (word_at x h) → (z : IsMoved h far new es s (played es s))
     → (z.word ≡ word_at x h) × (y ≡ with_carried_to x h (place_in z.slot))
 moved_words x y far new s es h r free z =
@@ -170,7 +170,7 @@ moved_words x y far new s es h r free z =
     )
 
 -- ---- the step
-step_here : (x y : Words) (far new : FarState) (s : Shown) (es : List Event) (h : ℕ) (r : Reply)
+step_here : (x y : Words) (far new : FarState) (s : Shown) (es : List Access) (h : ℕ) (r : Reply)
     → RunsStill x y far s es → FilterEffect h far new r es s (played es s)
     → state_of (word_at x h) ≡ state.Here
     → FilterHere x.settings.frames h (word_at x h) far new r es → IsFilterStep x y far new h r
@@ -204,7 +204,7 @@ step_here x y far new s es h r runs effect here (inr (claim, (seat, stands, seat
           state = z.state;
         }) m.1
 
-step_empty : (x y : Words) (far new : FarState) (s : Shown) (es : List Event) (h v : ℕ) (r : Reply)
+step_empty : (x y : Words) (far new : FarState) (s : Shown) (es : List Access) (h v : ℕ) (r : Reply)
     → RunsStill x y far s es → FilterEffect h far new r es s (played es s) → EmptyToFilter v r
     → y ≡ x
 step_empty x y far new s es h zero r runs effect e = stays_still x y far s es runs
@@ -213,7 +213,7 @@ step_empty x y far new s es h (suc v) r runs effect e = stays_still x y far s es
     (subst (λ (q : Reply). FilterEffect h far new q es s (played es s)) e effect).change
 
 -- by the state of the word
-step_by : (q : State) (x y : Words) (far new : FarState) (s : Shown) (es : List Event) (h : ℕ)
+step_by : (q : State) (x y : Words) (far new : FarState) (s : Shown) (es : List Access) (h : ℕ)
     (r : Reply) → RunsStill x y far s es → SettlesLast es
     → FilterEffect h far new r es s (played es s) → state_of (word_at x h) ≡ q
     → FilterAs q x.settings.frames h (word_at x h) far new r es → IsFilterStep x y far new h r

@@ -6,8 +6,8 @@ use Rattle.std.proofs.lemmas.List.{set-set}
 use Rattle.cb_ptr.specs.Word.{hot_of, len_of, place_of}
 use Rattle.cb_world.specs.declared.object.Object.{Object}
 use Rattle.cb_world.specs.declared.object.Object.TheVariants as is
-use Rattle.cb_world.specs.declared.event.Event.{Event}
-use Rattle.cb_world.specs.declared.event.Event.TheVariants.{Looked, Claimed}
+use Rattle.cb_world.specs.declared.access.Access.{Access}
+use Rattle.cb_world.specs.declared.access.Access.TheVariants.{Looked, Claimed}
 use Rattle.cb_world.specs.declared.shown.Shown.{Shown}
 use Rattle.cb_world.specs.Memory.{window, put, words_for, bytes_in}
 use Rattle.cb_world.specs.Shown.{Covers, Avoids, object_at, version_at, never}
@@ -31,7 +31,7 @@ claimed_words t h w v words c =
     ap length (sym c.contents) ∙ window_length _ (place_of w) (words_for (len_of w))
 
 -- what is told changes no object
-pub told_objects : (es : List Event) (s : Shown) → (told_by es s).objects ≡ s.objects
+pub told_objects : (es : List Access) (s : Shown) → (told_by es s).objects ≡ s.objects
 told_objects [] s = refl
 told_objects (Looked k w ∷ es) s = told_objects es _
 told_objects (Claimed k w v words ∷ es) s = told_objects es _
@@ -46,7 +46,7 @@ now_fields t q far k objects versions memory = now_kept q t far far k
     (λ len place here. ap (λ (l : List ℕ). window l place (words_for len)) memory) refl
 
 -- What holds once a claimed object is settled where it was.
-pub record IsWellBack (far : FarState) (s t : Shown) (es : List Event) (h : ℕ) (hots : List Bool)
+pub record IsWellBack (far : FarState) (s t : Shown) (es : List Access) (h : ℕ) (hots : List Bool)
     : Type 0 where
   pub sound : Sound t far
   pub objects : t.objects ≡ s.objects
@@ -55,7 +55,7 @@ pub record IsWellBack (far : FarState) (s t : Shown) (es : List Event) (h : ℕ)
   pub memory : t.memory ≡ (told_by es s).memory
   pub nothing : Writes es s []
 
-pub settled_well : (far : FarState) (s t : Shown) (first done : List Event) (h w v : ℕ)
+pub settled_well : (far : FarState) (s t : Shown) (first done : List Access) (h w v : ℕ)
     (words : List ℕ) (hot : Bool) → Sound s far → IsAfterClaim s h w v words first done
     → IsSettledBack (played first s) h w hot done t
     → IsWellBack far s t (first ++ done) h (set (told_by (first ++ done) s).hots h hot)
@@ -80,12 +80,12 @@ settled_well far s t first done h w v words hot sound a back =
       nothing = λ old. a.writes old ∙ back.nothing old;
     })
 
-pub back_now : (far : FarState) (s t : Shown) (es : List Event) (h k : ℕ) (hots : List Bool)
+pub back_now : (far : FarState) (s t : Shown) (es : List Access) (h k : ℕ) (hots : List Bool)
     → IsWellBack far s t es h hots → now t far k ≡ now (told_by es s) far k
 back_now far s t es h k hots x = now_fields t (told_by es s) far k
     (x.objects ∙ sym (told_objects es s)) x.versions x.memory
 
-pub is_cooled : (far : FarState) (s t : Shown) (es : List Event) (h : ℕ)
+pub is_cooled : (far : FarState) (s t : Shown) (es : List Access) (h : ℕ)
     → IsWellBack far s t es h (set (told_by es s).hots h false) → IsCooled h es s t
 is_cooled far s t es h x = record {
   objects = x.objects;
@@ -96,7 +96,7 @@ is_cooled far s t es h x = record {
 }
 
 -- settled as hot as it was, nothing has changed
-pub is_still : (far : FarState) (s t : Shown) (first done : List Event) (h w v : ℕ)
+pub is_still : (far : FarState) (s t : Shown) (first done : List Access) (h w v : ℕ)
     (words : List ℕ) → IsAfterClaim s h w v words first done
     → IsWellBack far s t (first ++ done) h (set (told_by (first ++ done) s).hots h (hot_of w))
     → IsStill (first ++ done) s t
@@ -109,7 +109,7 @@ is_still far s t first done h w v words a x = record {
   nothing = x.nothing;
 }
 
-pub still_now : (far : FarState) (s t : Shown) (es : List Event) (k : ℕ) → IsStill es s t
+pub still_now : (far : FarState) (s t : Shown) (es : List Access) (k : ℕ) → IsStill es s t
     → now t far k ≡ now (told_by es s) far k
 still_now far s t es k x = now_fields t (told_by es s) far k
     (x.objects ∙ sym (told_objects es s)) x.versions x.memory

@@ -8,8 +8,8 @@ use Rattle.cb_span.specs.declared.temp.Temp.TheVariants.{Hot, Cold}
 use Rattle.cb_world.specs.declared.entry.Entry.{Entry}
 use Rattle.cb_world.specs.declared.object.Object.{Object}
 use Rattle.cb_world.specs.declared.object.Object.TheVariants as is
-use Rattle.cb_world.specs.declared.event.Event.{Event}
-use Rattle.cb_world.specs.declared.event.Event.TheVariants.{Looked, Claimed, Loaded, Stored, Stamped, Settled}
+use Rattle.cb_world.specs.declared.access.Access.{Access}
+use Rattle.cb_world.specs.declared.access.Access.TheVariants.{Looked, Claimed, Loaded, Stored, Stamped, Settled}
 use Rattle.cb_world.specs.declared.shown.Shown.{Shown}
 use Rattle.cb_world.specs.Memory.{put}
 use Rattle.cb_world.specs.Shown.{Avoids, object_at, never}
@@ -46,7 +46,7 @@ abbrev hot_word : ℕ
 hot_word = cold_word + 4
 
 -- its claim tells the version 7
-abbrev cooling : List Event
+abbrev cooling : List Access
 cooling = Claimed 0 hot_word 7 [] ∷ Settled 0 cold_word ∷ []
 
 abbrev t : Shown
@@ -93,7 +93,7 @@ cooled_and_written x = absurd (let z : 1 ≡ 0 = ap (λ (l : List Entry). length
     in omega (arith, z))
 
 -- ---- moved
-abbrev moving : List Event
+abbrev moving : List Access
 moving = Claimed 0 cold_word 7 (5 ∷ 6 ∷ []) ∷ Settled 0 (2 + 16 * 8192) ∷ []
 
 abbrev there : Shown
@@ -332,7 +332,7 @@ ends_same_of_a_cold_one (inr (inr x)) = absurd (let z : answer.Same ≡ answer.M
     cc)
 
 -- ---- the events behind a claim
-abbrev Ending : (List Event → Type 0) → (Shown → Type 0) → Type 0
+abbrev Ending : (List Access → Type 0) → (Shown → Type 0) → Type 0
 Ending runs knows = ClaimEnds runs (λ q v words. knows q) 0 (λ es q u words. u ≡ played es q)
 
 ends : Ending (λ es. es ≡ Settled 0 cold_word ∷ []) (λ q. MaySettle q 0 cold_word)

@@ -9,8 +9,8 @@ use Rattle.cb_types.specs.declared.reply.Reply.{Reply}
 use Rattle.cb_types.specs.declared.reply.Reply.TheVariants as answer
 use Rattle.cb_span.specs.declared.temp.Temp.TheVariants.{Hot, Cold}
 use Rattle.cb_span.specs.Contents.{Contents}
-use Rattle.cb_world.specs.declared.event.Event.{Event}
-use Rattle.cb_world.specs.declared.event.Event.TheVariants.{Looked, Claimed, Told, Stored, Settled}
+use Rattle.cb_world.specs.declared.access.Access.{Access}
+use Rattle.cb_world.specs.declared.access.Access.TheVariants.{Looked, Claimed, Told, Stored, Settled}
 use Rattle.cb_world.specs.Empty.{empty_far}
 use Rattle.cb_world.specs.FarState.{FarState}
 use Rattle.cb_world.specs.Placed.{HasRoom, Slot, IsChosen}
@@ -209,7 +209,7 @@ word = 2 + 1024 * 8192 + 512 * 536870912
 abbrev pinned_word : ℕ
 pinned_word = word + 4 + 2 * 8
 
-abbrev pub claim : List Event
+abbrev pub claim : List Access
 claim = Claimed 0 word 7 [] ∷ Settled 0 word ∷ []
 
 was_claimed : WasClaimed 0 word claim

@@ -3,7 +3,7 @@ use Rattle.std.specs.Prelude.{◌≡◌, ◌≢◌, ◌⊎◌, ℕ, Bool, false,
 use Rattle.cb_ptr.specs.Word.{hot_of, len_of, place_of}
 use Rattle.cb_types.specs.declared.reply.Reply.{Reply}
 use Rattle.cb_world.specs.declared.object.Object.TheVariants as is
-use Rattle.cb_world.specs.declared.event.Event.{Event}
+use Rattle.cb_world.specs.declared.access.Access.{Access}
 use Rattle.cb_world.specs.declared.shown.Shown.{Shown}
 use Rattle.cb_world.specs.Memory.{put}
 use Rattle.cb_world.specs.Played.{played}
@@ -29,9 +29,9 @@ pub record IsKnownAt (s : Shown) (far : FarState) (h word v : ℕ) (words : List
 
 -- The events after the claim, which the desk ran: none looks at the object or claims one, and its
 -- word is settled last. And for all that is known: they are allowed, and end so.
-pub record ClaimEnds (runs : List Event → Type 0) (knows : Shown → ℕ → List ℕ → Type 0) (h : ℕ)
-    (ends : List Event → Shown → Shown → List ℕ → Type 0) : Type 0 where
-  pub events : List Event
+pub record ClaimEnds (runs : List Access → Type 0) (knows : Shown → ℕ → List ℕ → Type 0) (h : ℕ)
+    (ends : List Access → Shown → Shown → List ℕ → Type 0) : Type 0 where
+  pub events : List Access
   pub ran : runs events
   pub no_look : NoLook h events
   pub looks_first : LooksFirst events
@@ -42,7 +42,7 @@ pub record ClaimEnds (runs : List Event → Type 0) (knows : Shown → ℕ → L
       → ends events s (played events s) words
 
 -- the object is settled where it was, hot or not, and no version is written
-pub record IsSettledBack (s : Shown) (h word : ℕ) (hot : Bool) (es : List Event) (t : Shown)
+pub record IsSettledBack (s : Shown) (h word : ℕ) (hot : Bool) (es : List Access) (t : Shown)
     : Type 0 where
   pub settled : t ≡ with_settled s h word hot
   pub nothing : Writes es s []
@@ -55,13 +55,13 @@ with_carried s h word place words = record s {
   memory = put s.memory place words;
 }
 
-pub record IsCarried (s : Shown) (h word place : ℕ) (words : List ℕ) (es : List Event) (t : Shown)
+pub record IsCarried (s : Shown) (h word place : ℕ) (words : List ℕ) (es : List Access) (t : Shown)
     : Type 0 where
   pub settled : t ≡ with_carried s h word place words
   pub nothing : Writes es s []
 
 -- by what becomes of the object, which stands in this slot
-abbrev pub SeatEnds : ℕ → FarState → FarState → ℕ → ℕ → Seat → Reply → List Event → Shown → Shown
+abbrev pub SeatEnds : ℕ → FarState → FarState → ℕ → ℕ → Seat → Reply → List Access → Shown → Shown
     → List ℕ → Type 0
 SeatEnds frames far new h w seat r es s t words =
     (IsInPlace far new (temp_for (hot_of w)) seat r × IsSettledBack s h w false es t)
@@ -70,7 +70,7 @@ SeatEnds frames far new h w seat r es s t words =
     × IsCarried s h w (place_in slot) words es t))
 
 -- whichever slot is known to lie at the object's place
-abbrev pub FilterEnds : ℕ → FarState → FarState → ℕ → ℕ → Reply → List Event → Shown → Shown
+abbrev pub FilterEnds : ℕ → FarState → FarState → ℕ → ℕ → Reply → List Access → Shown → Shown
     → List ℕ → Type 0
 FilterEnds frames far new h w r es s t words = (seat : Seat) → LiesAtPlace far (place_of w) seat
     → SeatEnds frames far new h w seat r es s t words

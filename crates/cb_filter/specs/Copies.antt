@@ -2,14 +2,14 @@
 use Rattle.std.specs.Prelude.{◌≡◌, ℕ, false, ◌+◌, ◌^◌, ◌<◌, ◌≤◌, List, [], ◌∷◌, length}
 use Rattle.cb_ptr.specs.declared.word.State.TheVariants as word
 use Rattle.cb_ptr.specs.Word.{state_of, hot_of, pins_of, len_of, place_of}
-use Rattle.cb_world.specs.declared.event.Event.{Event}
-use Rattle.cb_world.specs.declared.event.Event.TheVariants.{Loaded, Stored}
+use Rattle.cb_world.specs.declared.access.Access.{Access}
+use Rattle.cb_world.specs.declared.access.Access.TheVariants.{Loaded, Stored}
 use Rattle.cb_world.specs.declared.shown.Shown.{Shown}
 use Rattle.cb_world.specs.Memory.{words_for}
 use Rattle.cb_world.specs.Shown.{Covers, MayLie}
 
 -- each word is read at one place and stored at the other, in order
-abbrev pub copied_from : ℕ → ℕ → List ℕ → List Event
+abbrev pub copied_from : ℕ → ℕ → List ℕ → List Access
 copied_from place to [] = []
 copied_from place to (x ∷ xs) = Loaded place x ∷ Stored to x ∷ copied_from (place + 1) (to + 1) xs
 

@@ -4,7 +4,7 @@ use Rattle.cb_ptr.specs.Word.{hot_of, len_of}
 use Rattle.cb_types.specs.declared.reply.Reply.{Reply}
 use Rattle.cb_types.specs.declared.reply.Reply.TheVariants as answer
 use Rattle.cb_world.specs.declared.object.Object.TheVariants as is
-use Rattle.cb_world.specs.declared.event.Event.{Event}
+use Rattle.cb_world.specs.declared.access.Access.{Access}
 use Rattle.cb_world.specs.declared.shown.Shown.{Shown}
 use Rattle.cb_world.specs.Memory.{put}
 use Rattle.cb_world.specs.Looks.{IsFound, IsTaken, told_by}
@@ -16,7 +16,7 @@ use Rattle.cb_world.specs.Placed.{Slot, IsChosen, place_in}
 use Rattle.cb_filter.specs.Seats.{Seat, IsSeatOf, temp_for, with_moved}
 
 -- the object is not hot, all else is as it was, and no version is written
-pub record IsCooled (h : ℕ) (es : List Event) (s t : Shown) : Type 0 where
+pub record IsCooled (h : ℕ) (es : List Access) (s t : Shown) : Type 0 where
   pub objects : t.objects ≡ s.objects
   pub hots : t.hots ≡ slice_set (told_by es s).hots h false
   pub versions : t.versions ≡ (told_by es s).versions
@@ -25,7 +25,7 @@ pub record IsCooled (h : ℕ) (es : List Event) (s t : Shown) : Type 0 where
 
 -- the object is here with its length in the slot that it gets, and not hot, and the words that its
 -- claim told stand there; all else is as it was, and no version is written
-pub record IsMoved (h : ℕ) (far new : FarState) (es : List Event) (s t : Shown) : Type 0 where
+pub record IsMoved (h : ℕ) (far new : FarState) (es : List Access) (s t : Shown) : Type 0 where
   pub word : ℕ
   pub version : ℕ
   pub words : List ℕ
@@ -44,13 +44,13 @@ pub record IsMoved (h : ℕ) (far new : FarState) (es : List Event) (s t : Shown
   pub nothing : Writes es s []
 
 -- what a filter with this reply changes; a refusal changes nothing
-abbrev pub FilterChange : ℕ → FarState → FarState → Reply → List Event → Shown → Shown → Type 0
+abbrev pub FilterChange : ℕ → FarState → FarState → Reply → List Access → Shown → Shown → Type 0
 FilterChange h far new answer.Moved es s t = IsMoved h far new es s t
 FilterChange h far new answer.Same es s t = IsCooled h es s t
 FilterChange h far new r es s t = IsStill es s t
 
 -- The change by the reply; and the last complete contents of every object stay.
-pub record FilterEffect (h : ℕ) (far new : FarState) (r : Reply) (es : List Event) (s t : Shown)
+pub record FilterEffect (h : ℕ) (far new : FarState) (r : Reply) (es : List Access) (s t : Shown)
     : Type 0 where
   pub change : FilterChange h far new r es s t
   pub same_now : (k : ℕ) → now t new k ≡ now (told_by es s) far k

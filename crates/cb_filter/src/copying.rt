@@ -1,7 +1,7 @@
 ghost use Rattle.std.specs.Prelude.{◌≡◌, ℕ, ◌+◌, ◌*◌, ◌<◌, ◌≤◌, List, ◌∷◌, [], ◌++◌, length};
 ghost use Rattle.cb_ptr.specs.Word.{len_of, place_of};
 ghost use Rattle.cb_types.specs.Config.{IsAccepted};
-ghost use Rattle.cb_world.specs.declared.event.Event.TheVariants.{Settled};
+ghost use Rattle.cb_world.specs.declared.access.Access.TheVariants.{Settled};
 ghost use Rattle.cb_world.specs.declared.shown.Shown.{Shown};
 ghost use Rattle.cb_world.specs.Memory.{words_for};
 ghost use Rattle.cb_world.specs.Shown.{Owns};

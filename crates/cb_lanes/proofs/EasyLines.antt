@@ -10,7 +10,7 @@ use Rattle.cb_types.specs.declared.job.Job.TheVariants as job
 use Rattle.cb_types.specs.declared.request.Request.{Request}
 use Rattle.cb_types.specs.declared.reply.Reply.{Reply}
 use Rattle.cb_script.specs.Roomy.{is_crash, is_step}
-use Rattle.cb_world.specs.declared.seats.Pin.{Pin as SeatPin}
+use Rattle.cb_world.specs.declared.seats.SeatPin.{SeatPin}
 use Rattle.cb_world.specs.FarState.{FarState}
 use Rattle.cb_world.specs.Seats.{SeatState, idle_seat, seat_at, with_pins}
 use Rattle.cb_world.specs.World.{WorldState, empty_world}

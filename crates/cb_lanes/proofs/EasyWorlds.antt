@@ -28,7 +28,7 @@ use Rattle.cb_script.specs.Roomy.{IsAtEase, crashing, has_crash, has_pin, is_cra
 use Rattle.cb_script.specs.Roomy.{has_long_make, is_long_make, is_step, makes_in, page_bytes}
 use Rattle.cb_script.specs.Roomy.{pinning}
 use Rattle.cb_world.specs.Codes.{HaveCodes, IsConfiguredCode}
-use Rattle.cb_world.specs.declared.seats.Pin.{Pin}
+use Rattle.cb_world.specs.declared.seats.SeatPin.{SeatPin}
 use Rattle.cb_world.specs.Seats.{SeatState, idle_seat, pins_of_seat}
 use Rattle.cb_world.specs.World.{WorldState}
 use Rattle.cb_world.specs.Plain.{Words}
@@ -164,7 +164,7 @@ module _ (side : Side) (s : Script) (i : ℕ) (later : List ℕ) (answers : List
       → length (pins_of_seat w.seats k) ≤ 16 * (if b then 1 else 0)
   few_at k below true e = let most = along.sound.pinned.few k idle_seat below in omega (arith, most)
   few_at k below false e =
-      let none = ap (λ (ps : List Pin). length ps) (no_pins k e) in omega (arith, none)
+      let none = ap (λ (ps : List SeatPin). length ps) (no_pins k e) in omega (arith, none)
 
   few_pins : sum_by (λ (seat : SeatState). length seat.pins) w.seats
       ≤ 16 * pinning s.lines
@@ -174,7 +174,7 @@ module _ (side : Side) (s : Script) (i : ℕ) (later : List ℕ) (answers : List
         subst (λ (j : ℕ). length (pins_of_seat w.seats k) ≤ 16 *
         (if has_pin s.lines j then 1 else 0)) zero_
         (few_at k below (has_pin s.lines k) refl);
-    none = λ k high below. ap (λ (ps : List Pin). length ps)
+    none = λ k high below. ap (λ (ps : List SeatPin). length ps)
         (along.scopes.gone k (along.scopes.low k high));
   })
 

@@ -9,8 +9,8 @@ use Rattle.cb_types.specs.declared.handle.Handle.{Handle}
 use Rattle.cb_types.specs.declared.job.Job.TheVariants as job
 use Rattle.cb_types.specs.declared.reply.Reply.{Reply}
 use Rattle.cb_types.specs.declared.reply.Reply.TheVariants as answer
-use Rattle.cb_world.specs.declared.event.Event.{Event}
-use Rattle.cb_world.specs.declared.event.Event.TheVariants.{Looked, Told, Loaded}
+use Rattle.cb_world.specs.declared.access.Access.{Access}
+use Rattle.cb_world.specs.declared.access.Access.TheVariants.{Looked, Told, Loaded}
 use Rattle.cb_world.specs.declared.object.Object.{Object}
 use Rattle.cb_world.specs.declared.object.Object.TheVariants as is
 use Rattle.cb_world.specs.declared.shown.Shown.{Shown}
@@ -44,7 +44,7 @@ fits_empty (is.Here len place) w (low, long, at, inr moving) empty =
     absurd (empty_moving (sym empty ∙ moving))
 fits_empty (is.Claimed len place v words) w fits empty = tt
 
-held_by_look : (h w : ℕ) (es : List Event) (s : Shown) → OnlyTell es → Agree s es
+held_by_look : (h w : ℕ) (es : List Access) (s : Shown) → OnlyTell es → Agree s es
     → IsFound h w es → state_of w ≡ state.Empty → IsHeld (object_at s h)
 held_by_look h w [] s only agree found empty = absurd found
 held_by_look h w (Looked k x ∷ es) s only agree (inl later) empty =
@@ -61,7 +61,7 @@ held_by_look h w (Loaded p x ∷ es) s only agree (inr here) empty = absurd here
 held_by_look h w (e ∷ es) s only agree found empty = absurd only
 
 -- what its version word is told to be was known
-told_by_word : (h v : ℕ) (es : List Event) (s : Shown) → OnlyTell es → Agree s es
+told_by_word : (h v : ℕ) (es : List Access) (s : Shown) → OnlyTell es → Agree s es
     → IsHeld (object_at s h) → IsTold h v es → v ≡ version_at s h
 told_by_word h v [] s only agree held told = absurd told
 told_by_word h v (Told k u ∷ es) s only agree held (inl later) =
@@ -76,7 +76,7 @@ told_by_word h v (Loaded p x ∷ es) s only agree held told =
 told_by_word h v (e ∷ es) s only agree held told = absurd only
 
 -- nothing was claimed
-none_taken : (h v : ℕ) (words : List ℕ) (es : List Event) → OnlyTell es → IsTaken h v words es → ⊥
+none_taken : (h v : ℕ) (words : List ℕ) (es : List Access) → OnlyTell es → IsTaken h v words es → ⊥
 none_taken h v words [] only taken = taken
 none_taken h v words (Looked k x ∷ es) only taken = none_taken h v words es only taken
 none_taken h v words (Told k u ∷ es) only taken = none_taken h v words es only taken
@@ -95,7 +95,7 @@ empty_unmade : (v : ℕ) → EmptyToFilter v answer.Unmade → v ≡ 0
 empty_unmade zero e = refl
 empty_unmade (suc v) e = absurd (not_unmade answer.NotHere refl e)
 
-filter_is : (frames h w : ℕ) (far new : FarState) (es : List Event) (s : Shown) (q : State)
+filter_is : (frames h w : ℕ) (far new : FarState) (es : List Access) (s : Shown) (q : State)
     → state_of w ≡ q → OnlyTell es → Agree s es → IsFound h w es
     → FilterAs q frames h w far new answer.Unmade es → version_at s h ≡ 0
 filter_is frames h w far new es s state.Empty at only agree found ((v, told, e), same) =
@@ -110,7 +110,7 @@ filter_is frames h w far new es s state.Here at only agree found (inl x) =
 filter_is frames h w far new es s state.Here at only agree found (inr x) =
     let claimed = x.0.1 in absurd (none_taken h claimed.0 claimed.1 es only claimed.2)
 
-rule_is : (frames h : ℕ) (far new : FarState) (es : List Event) (s : Shown)
+rule_is : (frames h : ℕ) (far new : FarState) (es : List Access) (s : Shown)
     → FilterRule frames h far new answer.Unmade es → Agree s es → version_at s h ≡ 0
 rule_is frames h far new es s x agree = filter_is frames h x.word far new es s
     (state_of x.word) refl

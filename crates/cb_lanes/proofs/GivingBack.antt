@@ -12,7 +12,7 @@ use Rattle.cb_ptr.specs.declared.word.State.TheVariants as word
 use Rattle.cb_ptr.specs.Word.{state_of}
 use Rattle.cb_types.specs.declared.reply.Reply.{Reply}
 use Rattle.cb_types.specs.declared.reply.Reply.TheVariants as answer
-use Rattle.cb_world.specs.declared.seats.Pin.{Pin}
+use Rattle.cb_world.specs.declared.seats.SeatPin.{SeatPin}
 use Rattle.cb_world.specs.declared.shown.Shown.{Shown}
 use Rattle.cb_world.specs.FarState.{FarState}
 use Rattle.cb_world.specs.Now.{now}
@@ -61,12 +61,12 @@ stands_on seat w mid new a b = record {
       ∙ a.holds s a.sound.shown k known a.sound.known;
 }
 
-pub pins_other : (seats : List SeatState) (seat k : ℕ) (pins : List Pin) → k ≢ seat
+pub pins_other : (seats : List SeatState) (seat k : ℕ) (pins : List SeatPin) → k ≢ seat
     → pins_of_seat (with_pins seats seat pins) k ≡ pins_of_seat seats k
 pins_other seats seat k pins off = ap (λ (x : SeatState). x.pins)
     (get_or-set_other seats seat k _ idle_seat off)
 
-pub pins_own : (seats : List SeatState) (seat : ℕ) (pins : List Pin) → seat < length seats
+pub pins_own : (seats : List SeatState) (seat : ℕ) (pins : List SeatPin) → seat < length seats
     → pins_of_seat (with_pins seats seat pins) seat ≡ pins
 pins_own seats seat pins lt = ap (λ (x : SeatState). x.pins)
     (get_or-set_same seats seat _ idle_seat lt)
@@ -76,13 +76,13 @@ pub pin_below : (w : WorldState) (seat at h : ℕ) → IsSoundWorld w → seat <
     → IsNewestOf (pins_of_seat w.seats seat) h at → h < length w.desk.words
 pin_below w seat at h sound lt n =
     let pins = pins_of_seat w.seats seat in
-    let below = All-get_or (λ (y : Pin). y.handle < length w.desk.words) pins at n.pin
+    let below = All-get_or (λ (y : SeatPin). y.handle < length w.desk.words) pins at n.pin
     (slice_get_within pins at n.pin n.there)
-    (All-get_or (λ (x : SeatState). (k : ℕ) (d : Pin) → k < length x.pins
+    (All-get_or (λ (x : SeatState). (k : ℕ) (d : SeatPin) → k < length x.pins
     → (get_or x.pins k d).handle < length w.desk.words)
     w.seats seat idle_seat (omega (arith, lt, sound.pinned.count)) sound.pinned.known) in
     subst (λ (y : ℕ). y < length w.desk.words)
-    (ap (λ (p : Pin). p.handle) (get_or_from_slice_get pins at n.pin n.pin n.there) ∙ n.on) below
+    (ap (λ (p : SeatPin). p.handle) (get_or_from_slice_get pins at n.pin n.pin n.there) ∙ n.on) below
 
 -- a pinned object is here
 pub pinned_here : (w : WorldState) (seat at h : ℕ) → IsSoundWorld w → seat < 64
@@ -144,7 +144,7 @@ pub record Gave (seat count : ℕ) (w new : WorldState) : Type 0 where
   pub stands : StandsWithout seat w new
   pub fewer : length (pins_of_seat new.seats seat) + count ≡ length (pins_of_seat w.seats seat)
 
-gave_by : (seat : ℕ) (pins : List Pin) (w new : WorldState) → IsSoundWorld w → seat < 64
+gave_by : (seat : ℕ) (pins : List SeatPin) (w new : WorldState) → IsSoundWorld w → seat < 64
     → Leads w (map (unpin_event seat) pins) (replicate (length pins) answer.Done) new
     → Gave seat (length pins) w new
 gave_by seat [] w new sound lt leads = record {
@@ -193,14 +193,14 @@ pub record GaveNewest (seat : ℕ) (w new : WorldState) : Type 0 where
   pub goes : (end : WorldState) → GivesAll seat new end → GivesAll seat w end
   pub fewer : length (pins_of_seat w.seats seat) ≡ length (pins_of_seat new.seats seat) + 1
 
-gave_last : (seat : ℕ) (w new : WorldState) (front : List Pin) (pin : Pin) (r : Reply)
+gave_last : (seat : ℕ) (w new : WorldState) (front : List SeatPin) (pin : SeatPin) (r : Reply)
     → IsSoundWorld w → seat < 64 → pins_of_seat w.seats seat ≡ front ++ pin ∷ []
     → UnpinStep seat pin.handle w r new → GaveNewest seat w new
 gave_last seat w new front pin r sound lt e (not_pinned none is same) =
     absurd ((none_last front pin pin.handle
-    (subst (λ (ps : List Pin). NoneOn ps pin.handle) e none)).1 refl)
+    (subst (λ (ps : List SeatPin). NoneOn ps pin.handle) e none)).1 refl)
 gave_last seat w new front pin r sound lt e (given is t) = record {
-  goes = λ end leads. subst (λ (ps : List Pin).
+  goes = λ end leads. subst (λ (ps : List SeatPin).
       Leads w (map (unpin_event seat) (reverse ps)) (replicate (length ps) answer.Done) end) (sym e)
       (subst (λ (es : List Event). Leads w es (replicate (length (front ++ pin ∷ [])) answer.Done)
       end)
@@ -209,24 +209,24 @@ gave_last seat w new front pin r sound lt e (given is t) = record {
       (replicate n answer.Done) end) (sym long) (
         new,
         subst (λ (q : Reply). UnpinStep seat pin.handle w q new) is (given is t),
-        subst (λ (ps : List Pin). Leads new (map (unpin_event seat) (reverse ps))
+        subst (λ (ps : List SeatPin). Leads new (map (unpin_event seat) (reverse ps))
             (replicate (length ps) answer.Done) end) own leads,
       )));
-  fewer = ap length e ∙ length_push front pin ∙ sym (ap (λ (ps : List Pin). length ps + 1) own);
+  fewer = ap length e ∙ length_push front pin ∙ sym (ap (λ (ps : List SeatPin). length ps + 1) own);
 }
   where
     m : IsNewestOf (front ++ pin ∷ []) pin.handle t.at
-    m = subst (λ (ps : List Pin). IsNewestOf ps pin.handle t.at) e t.newest
+    m = subst (λ (ps : List SeatPin). IsNewestOf ps pin.handle t.at) e t.newest
 
     own : pins_of_seat new.seats seat ≡ front
-    own = given_pins w new seat pin.handle sound lt t ∙ ap (λ (ps : List Pin). remove ps t.at) e
+    own = given_pins w new seat pin.handle sound lt t ∙ ap (λ (ps : List SeatPin). remove ps t.at) e
         ∙ remove_last front pin t.at (newest_last front pin pin.handle t.at refl m).0
 
     long : length (front ++ pin ∷ []) ≡ suc (length front)
     long = omega (arith, length_push front pin)
 
 -- the seat's last pin was given back
-pub gave_newest : (seat : ℕ) (w new : WorldState) (pins : List Pin) (d : Pin) (r : Reply)
+pub gave_newest : (seat : ℕ) (w new : WorldState) (pins : List SeatPin) (d : SeatPin) (r : Reply)
     → IsSoundWorld w
     → seat < 64 → 1 ≤ length (pins_of_seat w.seats seat) → pins ≡ pins_of_seat w.seats seat
     → UnpinStep seat (get_or pins (length pins - 1) d).handle w r new → GaveNewest seat w new
@@ -235,7 +235,7 @@ gave_newest seat w new pins d r sound lt some same step =
     (sym same ∙ split) step
   where
     more : 1 ≤ length pins
-    more = subst (λ (ps : List Pin). 1 ≤ length ps) (sym same) some
+    more = subst (λ (ps : List SeatPin). 1 ≤ length ps) (sym same) some
 
     split : pins ≡ take (length pins - 1) pins ++ get_or pins (length pins - 1) d ∷ []
     split = sym (take_all (length pins - 1 + 1) pins (omega (arith, more)))

@@ -21,7 +21,7 @@ use Rattle.cb_types.specs.declared.request.Request.TheVariants as line
 use Rattle.cb_types.specs.Requests.{name_of}
 use Rattle.cb_types.specs.Table.{IsReplyOf}
 use Rattle.cb_world.specs.declared.entry.Entry.{Entry}
-use Rattle.cb_world.specs.declared.event.Event.{Event}
+use Rattle.cb_world.specs.declared.access.Access.{Access}
 use Rattle.cb_world.specs.declared.shown.Shown.{Shown}
 use Rattle.cb_world.specs.FarState.{FarState}
 use Rattle.cb_world.specs.Memory.{bytes_in, memory_byte, words_for}
@@ -301,7 +301,7 @@ in_place_backs h name answer.Freed v d (word, version, empty, newest, is) =
 in_place_backs h name r v d x = absurd x
 
 -- what the pin of a turn Read read
-module _ (c : Config) (h version : ℕ) (bytes : List ℕ) (es : List Event) (v : View) (within : Part)
+module _ (c : Config) (h version : ℕ) (bytes : List ℕ) (es : List Access) (v : View) (within : Part)
     (x : JobReads (job.Read (the_handle h)) es (Ok (answer.Bytes version bytes)) v within) where
   pinned_part : FindsAtLast h (found.Bytes version bytes) v within
   pinned_part = by x
@@ -509,7 +509,7 @@ free_line c h name r v w (d, x, is) = (
 )
 
 -- ---- a filter, which is never told that its object was freed
-freed_filter : (s : State) (frames h word : ℕ) (far new : FarState) (es : List Event)
+freed_filter : (s : State) (frames h word : ℕ) (far new : FarState) (es : List Access)
     → FilterAs s frames h word far new answer.Freed es → ⊥
 freed_filter state.Here frames h word far new es (inl (pinned, is, same)) = absurd cc
 freed_filter state.Here frames h word far new es (inr (claimed, (seat, of, inl x))) =
@@ -523,7 +523,7 @@ freed_filter state.Empty frames h word far new es ((suc version, told, is), same
 freed_filter state.Far frames h word far new es (is, same) = absurd cc
 freed_filter state.Moving frames h word far new es (is, same) = absurd cc
 
-filter_off : (c : Config) (h : ℕ) (start : Shown) (es : List Event) (took gave : FarState)
+filter_off : (c : Config) (h : ℕ) (start : Shown) (es : List Access) (took gave : FarState)
     → DidAs c (job.Filter (the_handle h)) (Some answer.Freed) start es took gave → ⊥
 filter_off c h start es took gave (worn n is same ran) = absurd cc
 filter_off c h start es took gave (done few does) =

@@ -8,7 +8,7 @@ use Rattle.cb_types.specs.declared.reply.Reply.TheVariants as answer
 use Rattle.cb_types.specs.declared.request.Request.{Request}
 use Rattle.cb_types.specs.declared.request.Request.TheVariants.{Make, Read, Write, Free, Pin, Peek}
 use Rattle.cb_types.specs.declared.request.Request.TheVariants.{Unpin, Filter}
-use Rattle.cb_world.specs.declared.event.Event.{Event as Acted}
+use Rattle.cb_world.specs.declared.access.Access.{Access}
 use Rattle.cb_rule.specs.declared.view.View.{View}
 use Rattle.cb_rule.specs.Steps.{with_look}
 use Rattle.cb_model.specs.Event.{Event, event_of}
@@ -48,7 +48,7 @@ read_least : (c : Config) (h version : ℕ) (bytes : List ℕ) (u : View) (d : P
 read_least c h version bytes u d (inl here) = here_least h version bytes u d here
 read_least c h version bytes u d (inr x) = by (read_own c h (answer.Bytes version bytes) u d x)
   where
-    least : (es : List Acted) (within : Part) → JobReads (job.Read (the_handle h)) es
+    least : (es : List Access) (within : Part) → JobReads (job.Read (the_handle h)) es
         (Ok (answer.Bytes version bytes)) u within → IsAtLeast u h version
     least es within (inl z) = absurd z.1
     least es within (inr z) = λ n freed has. here_least h version bytes (grown z.before u) z.last

@@ -15,7 +15,7 @@ use Rattle.cb_types.specs.declared.request.Request.TheVariants.{Unpin, Filter, L
 use Rattle.cb_types.specs.Requests.{name_of}
 use Rattle.cb_script.specs.declared.script.Line.{Line}
 use Rattle.cb_model.specs.Called.{handle_named}
-use Rattle.cb_world.specs.declared.seats.Pin.{Pin as Held}
+use Rattle.cb_world.specs.declared.seats.SeatPin.{SeatPin}
 use Rattle.cb_world.specs.Memory.{bytes_in}
 use Rattle.cb_world.specs.Seats.{pins_of_seat}
 use Rattle.cb_world.specs.StillWords.{contents_at}
@@ -44,7 +44,7 @@ abbrev AreOneEnd : Reply → Reply → WorldState → WorldState → Type 0
 AreOneEnd r q a b = (r ≡ q) × (a ≡ b)
 
 -- ---- pins that are given back
-ends_fixed : (seat : ℕ) (pins : List Held) (rs qs : List Reply) (w a b : WorldState)
+ends_fixed : (seat : ℕ) (pins : List SeatPin) (rs qs : List Reply) (w a b : WorldState)
     → Leads w (map (unpin_event seat) pins) rs a → Leads w (map (unpin_event seat) pins) qs b
     → a ≡ b
 ends_fixed seat [] [] [] w a b x y = x ∙ sym y
@@ -78,7 +78,7 @@ peek_fixed seat h w a b r q (shown at x e s) (shown to y f t) =
     let same : x.pin ≡ y.pin = same_Some x.pin y.pin
     (sym x.there ∙ ap (λ (i : ℕ). slice_get pins i) (newest_fixed pins h at to x y) ∙ y.there) in (
       e
-          ∙ ap (λ (pin : Held). answer.Bytes pin.version
+          ∙ ap (λ (pin : SeatPin). answer.Bytes pin.version
           (bytes_in (contents_at w.desk h) (len_of (word_at w.desk h)))) same
           ∙ sym f,
       s ∙ sym t,

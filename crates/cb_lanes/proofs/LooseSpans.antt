@@ -26,7 +26,7 @@ use Rattle.cb_span.specs.Contents.{Contents}
 use Rattle.cb_span.specs.Places.{slot_place}
 use Rattle.cb_world.specs.declared.object.Object.{Object}
 use Rattle.cb_world.specs.declared.object.Object.TheVariants as is
-use Rattle.cb_world.specs.declared.seats.Pin.{Pin}
+use Rattle.cb_world.specs.declared.seats.SeatPin.{SeatPin}
 use Rattle.cb_world.specs.declared.shown.Shown.{Shown}
 use Rattle.cb_world.specs.FarState.{FarState, handle_in, pages_at, pages_if, span_in, resident}
 use Rattle.cb_world.specs.LocalSound.{LiesAt, LocalSound}
@@ -116,7 +116,7 @@ frame_of s far sound h = by (object_at s h) refl
 -- ---- the frames of all pins
 
 module _ (s : Shown) (far : FarState) (frame : (h : ℕ) → HasFrame far h) where
-  abbrev pub pin_frames : List Pin → List ℕ
+  abbrev pub pin_frames : List SeatPin → List ℕ
   pin_frames [] = []
   pin_frames (pin ∷ pins) = (frame pin.handle).0 ∷ pin_frames pins
 
@@ -124,7 +124,7 @@ module _ (s : Shown) (far : FarState) (frame : (h : ℕ) → HasFrame far h) whe
   seat_frames [] = []
   seat_frames (seat ∷ seats) = pin_frames seat.pins ++ seat_frames seats
 
-  pin_count : (pins : List Pin) → length (pin_frames pins) ≡ length pins
+  pin_count : (pins : List SeatPin) → length (pin_frames pins) ≡ length pins
   pin_count [] = refl
   pin_count (pin ∷ pins) = ap suc (pin_count pins)
 
@@ -137,7 +137,7 @@ module _ (s : Shown) (far : FarState) (frame : (h : ℕ) → HasFrame far h) whe
       let all = sum_by-cons pins_in seat seats in
       omega (arith, both, one, more, all)
 
-  pin_there : (f slot h : ℕ) (pins : List Pin) → resident far.spans f slot ≡ Some h
+  pin_there : (f slot h : ℕ) (pins : List SeatPin) → resident far.spans f slot ≡ Some h
       → 1 ≤ pins_among h pins → list_any (nat_eq f) (pin_frames pins) ≡ true
   pin_there f slot h [] r some = absurd (omega (arith, some))
   pin_there f slot h (pin ∷ pins) r some =
@@ -153,7 +153,7 @@ module _ (s : Shown) (far : FarState) (frame : (h : ℕ) → HasFrame far h) whe
           (eq-eqb f (frame pin.handle).0 ((frame pin.handle).1 f slot (r ∙ ap Some (sym e))))
       by later (inr off) = or_right (here (frame pin.handle).0)
           (list_any (nat_eq f) (pin_frames pins))
-          (later (let all = sum_by-cons (λ (p : Pin). one_if (nat_eq p.handle h)) pin pins in
+          (later (let all = sum_by-cons (λ (p : SeatPin). one_if (nat_eq p.handle h)) pin pins in
           let none : one_if (nat_eq pin.handle h) ≡ 0 = ap one_if (ne_eqb pin.handle h off) in
           omega (arith, all, none, some)))
 

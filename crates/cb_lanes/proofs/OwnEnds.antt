@@ -11,7 +11,7 @@ use Rattle.cb_types.specs.declared.config.Config.{Config}
 use Rattle.cb_types.specs.declared.job.Job.TheVariants as job
 use Rattle.cb_types.specs.declared.reply.Reply.{Reply}
 use Rattle.cb_types.specs.declared.reply.Reply.TheVariants as answer
-use Rattle.cb_world.specs.declared.event.Event.{Event}
+use Rattle.cb_world.specs.declared.access.Access.{Access}
 use Rattle.cb_world.specs.FarState.{FarState}
 use Rattle.cb_world.specs.Looks.{IsFound, IsLook}
 use Rattle.cb_world.specs.Played.{played}
@@ -56,7 +56,7 @@ SaysOf at count (answer.Range len) w = (len_of w ≡ len) × (len < at + count)
 SaysOf at count (answer.Pinned pins) w = at + count ≤ len_of w
 SaysOf at count r w = Unit {0}
 
-look_of : (h w : ℕ) (es : List Event) → IsFound h w es → (e : Event) × Has e es × IsLook h w e
+look_of : (h w : ℕ) (es : List Access) → IsFound h w es → (e : Access) × Has e es × IsLook h w e
 look_of h w [] found = absurd found
 look_of h w (e ∷ es) (inl later) = let z = look_of h w es later in (z.0, inr z.1, z.2)
 look_of h w (e ∷ es) (inr here) = (e, inl refl, here.0)
@@ -78,15 +78,15 @@ module _ (h at : ℕ) (bytes : List ℕ) (r : Reply) (of_word : IsOfWord r) wher
   not_so q is off = off (subst IsOfWord is of_word)
 
   -- ---- such a word is among these events, and is not empty
-  pub record FoundIn (es : List Event) : Type 0 where
+  pub record FoundIn (es : List Access) : Type 0 where
     pub word : ℕ
-    pub event : Event
+    pub event : Access
     pub there : Has event es
     pub looks : IsLook h word event
     pub some : state_of word ≢ state.Empty
     pub says : Says word
 
-  found_in : (w : ℕ) (es : List Event) → IsFound h w es → state_of w ≢ state.Empty → Says w
+  found_in : (w : ℕ) (es : List Access) → IsFound h w es → state_of w ≢ state.Empty → Says w
       → FoundIn es
   found_in w es found some says = let z = look_of h w es found in record {
     word = w;
@@ -98,7 +98,7 @@ module _ (h at : ℕ) (bytes : List ℕ) (r : Reply) (of_word : IsOfWord r) wher
   }
 
   -- so it is among more of them
-  more_in : (before es all : List Event) → all ≡ before ++ es → FoundIn es → FoundIn all
+  more_in : (before es all : List Access) → all ≡ before ++ es → FoundIn es → FoundIn all
   more_in before es all is x = record {
     word = x.word;
     event = x.event;
@@ -113,7 +113,7 @@ module _ (h at : ℕ) (bytes : List ℕ) (r : Reply) (of_word : IsOfWord r) wher
   next_none v (inl x) = not_so answer.Worn x.1 (λ z. z)
   next_none v (inr x) = not_so (answer.Version (v + 1)) x.1 (λ z. z)
 
-  absent_none : (q : State) (es : List Event) → AbsentAs q h es r → ⊥
+  absent_none : (q : State) (es : List Access) → AbsentAs q h es r → ⊥
   absent_none state.Empty es (v, told, e) = by v e
     where
       by : (v : ℕ) → EmptyAnswer v r → ⊥
@@ -123,7 +123,7 @@ module _ (h at : ℕ) (bytes : List ℕ) (r : Reply) (of_word : IsOfWord r) wher
   absent_none state.Here es e = e
   absent_none state.Moving es e = not_so answer.Moving e (λ z. z)
 
-  here_in : (w : ℕ) (es : List Event) → IsFound h w es → state_of w ≡ state.Here
+  here_in : (w : ℕ) (es : List Access) → IsFound h w es → state_of w ≡ state.Here
       → WriteHere h at bytes es r w → FoundIn es
   here_in w es found is (inl x) = found_in w es found (λ e. here_some (sym is ∙ e))
       (so (answer.Range (len_of w)) x.1 w (refl, x.0))
@@ -132,7 +132,7 @@ module _ (h at : ℕ) (bytes : List ℕ) (r : Reply) (of_word : IsOfWord r) wher
   here_in w es found is (inr (fits, inr (none, (v, words, taken, next)))) =
       absurd (next_none v next)
 
-  rule_in : (es : List Event) → WriteRule h at bytes r es → FoundIn es
+  rule_in : (es : List Access) → WriteRule h at bytes r es → FoundIn es
   rule_in es a = by (state_of a.word) refl a.answer
     where
       by : (q : State) → state_of a.word ≡ q
@@ -148,7 +148,7 @@ module _ (h at : ℕ) (bytes : List ℕ) (r : Reply) (of_word : IsOfWord r) wher
       (rule_in x.events x.rule.1)
 
   -- ---- a write that is declined
-  declined_in : (far : FarState) (es : List Event) → IsDeclined h at (length bytes) far (Some r) es
+  declined_in : (far : FarState) (es : List Access) → IsDeclined h at (length bytes) far (Some r) es
       → FoundIn es
   declined_in far es (inl (gone, none, nothing)) = absurd (none-some _ (sym none))
   declined_in far es (inr (stays, (w, v, found, is_far, told, last, is))) =
@@ -164,7 +164,7 @@ module _ (h at : ℕ) (bytes : List ℕ) (r : Reply) (of_word : IsOfWord r) wher
       by false is_so false e = absurd (none-some _ (sym e))
 
   -- ---- no bringing in is answered so
-  swap_none : (id p : ℕ) (far new : FarState) (es : List Event) → SwapRule id p far new r es → ⊥
+  swap_none : (id p : ℕ) (far new : FarState) (es : List Access) → SwapRule id p far new r es → ⊥
   swap_none id p far new es x =
       by_answer (λ (q : Reply). r ≡ q → ⊥) far id x.set (λ broken e. not_so _ e (λ z. z))
       (λ fine free e. not_so answer.NoFrame e (λ z. z))

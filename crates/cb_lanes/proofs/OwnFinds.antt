@@ -6,7 +6,7 @@ use Rattle.cb_types.specs.declared.job.Job.{Job}
 use Rattle.cb_types.specs.declared.job.Job.TheVariants as job
 use Rattle.cb_types.specs.declared.reply.Reply.TheVariants as answer
 use Rattle.cb_world.specs.declared.entry.Entry.{Entry}
-use Rattle.cb_world.specs.declared.event.Event.{Event}
+use Rattle.cb_world.specs.declared.access.Access.{Access}
 use Rattle.cb_rule.specs.declared.turn.Turn.{Turn}
 use Rattle.cb_rule.specs.declared.view.Stand.{Stand}
 use Rattle.cb_rule.specs.declared.view.View.{View}
@@ -159,7 +159,7 @@ read_saw c h version bytes v before last none (inr x) =
     u : View
     u = grown before v
 
-    seen : (es : List Event) (d : Part) → JobReads (job.Read (the_handle h)) es
+    seen : (es : List Access) (d : Part) → JobReads (job.Read (the_handle h)) es
         (Ok (answer.Bytes version bytes)) u d → SawNewest h version v
     seen es d (inl z) = absurd z.1
     seen es d (inr z) = here_saw h version bytes v (grown z.before u) z.last

@@ -11,22 +11,22 @@ use Rattle.std.proofs.lemmas.List.{append-nil, append_assoc}
 use Rattle.std.proofs.lemmas.List.Sums.{sum_by-cons, sum_by_push}
 use Rattle.std.proofs.lemmas.Option.{slice_get_within}
 use Rattle.std.proofs.lemmas.Slice.Eq.{bytes_eq-Decides}
-use Rattle.cb_world.specs.declared.seats.Pin.{Pin}
+use Rattle.cb_world.specs.declared.seats.SeatPin.{SeatPin}
 use Rattle.cb_world.specs.Seats.{IsNewestOf, NoneOn, pins_among}
 use Rattle.cb_lanes.specs.Scopes.{NamedPin, Scope, newest_on, without_newest, named_on}
 
 -- ---- the newest pin of a list with one pin more at its end
 
-slice_front : (xs ys : List Pin) (i : ℕ) → i < length xs → slice_get (xs ++ ys) i ≡ slice_get xs i
+slice_front : (xs ys : List SeatPin) (i : ℕ) → i < length xs → slice_get (xs ++ ys) i ≡ slice_get xs i
 slice_front [] ys i lt = absurd (omega (arith, lt))
 slice_front (x ∷ xs) ys zero lt = refl
 slice_front (x ∷ xs) ys (suc i) lt = slice_front xs ys i (omega (arith, lt))
 
-slice_last : (xs : List Pin) (p : Pin) → slice_get (xs ++ p ∷ []) (length xs) ≡ Some p
+slice_last : (xs : List SeatPin) (p : SeatPin) → slice_get (xs ++ p ∷ []) (length xs) ≡ Some p
 slice_last [] p = refl
 slice_last (x ∷ xs) p = slice_last xs p
 
-within_push : (xs : List Pin) (p x : Pin) (i : ℕ) → slice_get (xs ++ p ∷ []) i ≡ Some x
+within_push : (xs : List SeatPin) (p x : SeatPin) (i : ℕ) → slice_get (xs ++ p ∷ []) i ≡ Some x
     → (i < length xs) ⊎ ((i ≡ length xs) × (x ≡ p))
 within_push xs p x i there = by (cases_lt i (length xs))
   where
@@ -40,7 +40,7 @@ within_push xs p x i there = by (cases_lt i (length xs))
         inr (e, cc)
 
 -- a last pin on the object is its newest
-pub newest_last : (front : List Pin) (pin : Pin) (h at : ℕ) → pin.handle ≡ h
+pub newest_last : (front : List SeatPin) (pin : SeatPin) (h at : ℕ) → pin.handle ≡ h
     → (n : IsNewestOf (front ++ pin ∷ []) h at) → (at ≡ length front) × (n.pin ≡ pin)
 newest_last front pin h at on n = by (within_push front pin n.pin at n.there)
   where
@@ -50,14 +50,14 @@ newest_last front pin h at on n = by (within_push front pin n.pin at n.there)
     by (inr e) = e
 
 -- and where the last pin is on another object, the newest is before it
-pub newest_before : (front : List Pin) (pin : Pin) (h at : ℕ) → pin.handle ≢ h
+pub newest_before : (front : List SeatPin) (pin : SeatPin) (h at : ℕ) → pin.handle ≢ h
     → (n : IsNewestOf (front ++ pin ∷ []) h at)
     → (at < length front) × (m : IsNewestOf front h at) × (m.pin ≡ n.pin)
 newest_before front pin h at off n = by (within_push front pin n.pin at n.there)
   where
     by : (at < length front) ⊎ ((at ≡ length front) × (n.pin ≡ pin))
         → (at < length front) × (m : IsNewestOf front h at) × (m.pin ≡ n.pin)
-    by (inr e) = absurd (off (sym (ap (λ (p : Pin). p.handle) e.1) ∙ n.on))
+    by (inr e) = absurd (off (sym (ap (λ (p : SeatPin). p.handle) e.1) ∙ n.on))
     by (inl less) = (
       less,
       record {
@@ -70,7 +70,7 @@ newest_before front pin h at off n = by (within_push front pin n.pin at n.there)
       refl,
     )
 
-pub none_last : (front : List Pin) (pin : Pin) (h : ℕ) → NoneOn (front ++ pin ∷ []) h
+pub none_last : (front : List SeatPin) (pin : SeatPin) (h : ℕ) → NoneOn (front ++ pin ∷ []) h
     → NoneOn front h × (pin.handle ≢ h)
 none_last front pin h none = (
   λ at other there. none at other
@@ -79,7 +79,7 @@ none_last front pin h none = (
 )
 
 -- without the last pin the front is left
-pub remove_last : (front : List Pin) (pin : Pin) (at : ℕ) → at ≡ length front
+pub remove_last : (front : List SeatPin) (pin : SeatPin) (at : ℕ) → at ≡ length front
     → remove (front ++ pin ∷ []) at ≡ front
 remove_last front pin at e = ap (remove (front ++ pin ∷ [])) e
     ∙ (λ i. take_front i ++ drop_all (suc (length front)) (front ++ pin ∷ [])
@@ -91,7 +91,7 @@ remove_last front pin at e = ap (remove (front ++ pin ∷ [])) e
         ∙ take_all (length front) front (omega arith)
 
 -- without one before it the last one stays last
-pub remove_before : (front : List Pin) (pin : Pin) (at : ℕ) → at < length front
+pub remove_before : (front : List SeatPin) (pin : SeatPin) (at : ℕ) → at < length front
     → remove (front ++ pin ∷ []) at ≡ remove front at ++ pin ∷ []
 remove_before front pin at lt =
     (λ i. take-append-le at front (pin ∷ []) (omega (arith, lt)) i
@@ -114,17 +114,17 @@ abbrev pub AreHandlesApart : (List ℕ → Option ℕ) → Type 0
 AreHandlesApart number = (a b : List ℕ) (h : ℕ) → number a ≡ Some h → number b ≡ Some h → a ≡ b
 
 -- a pin is on this name at this version
-pub record IsPinOfName (number : List ℕ → Option ℕ) (named : NamedPin) (pin : Pin) : Type 0 where
+pub record IsPinOfName (number : List ℕ → Option ℕ) (named : NamedPin) (pin : SeatPin) : Type 0 where
   pub name : number named.name ≡ Some pin.handle
   pub version : pin.version ≡ named.version
 
 -- the pins are those of the scope, the newest one last
-abbrev pub ArePinsOf : (List ℕ → Option ℕ) → Scope → List Pin → Type 0
+abbrev pub ArePinsOf : (List ℕ → Option ℕ) → Scope → List SeatPin → Type 0
 ArePinsOf number [] pins = pins ≡ []
-ArePinsOf number (named ∷ older) pins = (front : List Pin) × (pin : Pin)
+ArePinsOf number (named ∷ older) pins = (front : List SeatPin) × (pin : SeatPin)
     × (pins ≡ front ++ pin ∷ []) × IsPinOfName number named pin × ArePinsOf number older front
 
-pub pins_length : (number : List ℕ → Option ℕ) (scope : Scope) (pins : List Pin)
+pub pins_length : (number : List ℕ → Option ℕ) (scope : Scope) (pins : List SeatPin)
     → ArePinsOf number scope pins → length pins ≡ length scope
 pins_length number [] pins are = ap length are
 pins_length number (named ∷ older) pins (front, pin, e, is, rest) =
@@ -132,7 +132,7 @@ pins_length number (named ∷ older) pins (front, pin, e, is, rest) =
     ap length e ∙ omega (arith, length_push front pin, n)
 
 -- more names may get handles
-pub pins_kept : (number other : List ℕ → Option ℕ) (scope : Scope) (pins : List Pin)
+pub pins_kept : (number other : List ℕ → Option ℕ) (scope : Scope) (pins : List SeatPin)
     → ((q : List ℕ) (h : ℕ) → number q ≡ Some h → other q ≡ Some h) → ArePinsOf number scope pins
     → ArePinsOf other scope pins
 pins_kept number other [] pins kept are = are
@@ -147,21 +147,21 @@ pins_kept number other (named ∷ older) pins kept (front, pin, e, is, rest) = (
 -- whether a pin is on the name, and so on its object
 module _ (number : List ℕ → Option ℕ) (apart : AreHandlesApart number) (name : List ℕ) (h : ℕ)
     (at_name : number name ≡ Some h) where
-  same_handle : (named : NamedPin) (pin : Pin) → IsPinOfName number named pin → named.name ≡ name
+  same_handle : (named : NamedPin) (pin : SeatPin) → IsPinOfName number named pin → named.name ≡ name
       → pin.handle ≡ h
   same_handle named pin is e =
       let both : Some pin.handle ≡ Some h = sym is.name ∙ ap number e ∙ at_name in cc
 
-  other_handle : (named : NamedPin) (pin : Pin) → IsPinOfName number named pin → named.name ≢ name
+  other_handle : (named : NamedPin) (pin : SeatPin) → IsPinOfName number named pin → named.name ≢ name
       → pin.handle ≢ h
   other_handle named pin is off e =
       off (apart named.name name h (is.name ∙ ap Some e) at_name)
 
-  pub scope_none : (scope : Scope) (pins : List Pin) → ArePinsOf number scope pins → NoneOn pins h
+  pub scope_none : (scope : Scope) (pins : List SeatPin) → ArePinsOf number scope pins → NoneOn pins h
       → newest_on name scope ≡ None
   scope_none [] pins are none = refl
   scope_none (named ∷ older) pins (front, pin, e, is, rest) none =
-      let split = none_last front pin h (subst (λ (ps : List Pin). NoneOn ps h) e none) in
+      let split = none_last front pin h (subst (λ (ps : List SeatPin). NoneOn ps h) e none) in
       by split.1 (scope_none older front rest split.0) (name_cases named.name name)
     where
       by : (pin.handle ≢ h) → newest_on name older ≡ None
@@ -172,21 +172,21 @@ module _ (number : List ℕ → Option ℕ) (apart : AreHandlesApart number) (na
       by away later (inr off) =
           ap (λ (b : Bool). if b then Some named.version else newest_on name older) off.0 ∙ later
 
-  pub scope_newest : (scope : Scope) (pins : List Pin) (at : ℕ) → ArePinsOf number scope pins
+  pub scope_newest : (scope : Scope) (pins : List SeatPin) (at : ℕ) → ArePinsOf number scope pins
       → (n : IsNewestOf pins h at) → newest_on name scope ≡ Some n.pin.version
   scope_newest [] pins at are n =
       absurd (let there : slice_get [] at ≡ Some n.pin = subst
-      (λ (ps : List Pin). slice_get ps at ≡ Some n.pin) are n.there in cc)
+      (λ (ps : List SeatPin). slice_get ps at ≡ Some n.pin) are n.there in cc)
   scope_newest (named ∷ older) pins at (front, pin, e, is, rest) n =
       by (λ m. scope_newest older front at rest m) (name_cases named.name name)
     where
       m : IsNewestOf (front ++ pin ∷ []) h at
       m = record {
         pin = n.pin;
-        there = ap (λ (ps : List Pin). slice_get ps at) (sym e) ∙ n.there;
+        there = ap (λ (ps : List SeatPin). slice_get ps at) (sym e) ∙ n.there;
         on = n.on;
         newest = λ later other lt there. n.newest later other lt
-            (ap (λ (ps : List Pin). slice_get ps later) e ∙ there);
+            (ap (λ (ps : List SeatPin). slice_get ps later) e ∙ there);
       }
 
       by : ((before : IsNewestOf front h at) → newest_on name older ≡ Some before.pin.version)
@@ -196,23 +196,23 @@ module _ (number : List ℕ → Option ℕ) (apart : AreHandlesApart number) (na
       by later (inl same) =
           let last = newest_last front pin h at (same_handle named pin is same.1) m in
           ap (λ (b : Bool). if b then Some named.version else newest_on name older) same.0
-          ∙ ap Some (sym is.version ∙ sym (ap (λ (p : Pin). p.version) last.1))
+          ∙ ap Some (sym is.version ∙ sym (ap (λ (p : SeatPin). p.version) last.1))
       by later (inr off) =
           let before = newest_before front pin h at (other_handle named pin is off.1) m in
           ap (λ (b : Bool). if b then Some named.version else newest_on name older) off.0
           ∙ later before.1
-          ∙ ap (λ (p : Pin). Some p.version) before.2
+          ∙ ap (λ (p : SeatPin). Some p.version) before.2
 
-  pub scope_without : (scope : Scope) (pins : List Pin) (at : ℕ) → ArePinsOf number scope pins
+  pub scope_without : (scope : Scope) (pins : List SeatPin) (at : ℕ) → ArePinsOf number scope pins
       → IsNewestOf pins h at → ArePinsOf number (without_newest name scope) (remove pins at)
   scope_without [] pins at are n =
       absurd (let there : slice_get [] at ≡ Some n.pin = subst
-      (λ (ps : List Pin). slice_get ps at ≡ Some n.pin) are n.there in cc)
+      (λ (ps : List SeatPin). slice_get ps at ≡ Some n.pin) are n.there in cc)
   scope_without (named ∷ older) pins at (front, pin, e, is, rest) n =
       by (λ m. scope_without older front at rest m) (name_cases named.name name)
     where
       m : IsNewestOf (front ++ pin ∷ []) h at
-      m = subst (λ (ps : List Pin). IsNewestOf ps h at) e n
+      m = subst (λ (ps : List SeatPin). IsNewestOf ps h at) e n
 
       by : (IsNewestOf front h at → ArePinsOf number (without_newest name older) (remove front at))
           → ((bytes_eq named.name name ≡ true) × (named.name ≡ name))
@@ -223,19 +223,19 @@ module _ (number : List ℕ → Option ℕ) (apart : AreHandlesApart number) (na
           subst (λ (b : Bool). ArePinsOf number
           (if b then older else named ∷ without_newest name older) (remove pins at)) (sym same.0)
           (subst (ArePinsOf number older)
-          (sym (ap (λ (ps : List Pin). remove ps at) e ∙ remove_last front pin at last.0)) rest)
+          (sym (ap (λ (ps : List SeatPin). remove ps at) e ∙ remove_last front pin at last.0)) rest)
       by later (inr off) =
           let before = newest_before front pin h at (other_handle named pin is off.1) m in
           subst (λ (b : Bool). ArePinsOf number
           (if b then older else named ∷ without_newest name older) (remove pins at)) (sym off.0) (
             remove front at,
             pin,
-            ap (λ (ps : List Pin). remove ps at) e ∙ remove_before front pin at before.0,
+            ap (λ (ps : List SeatPin). remove ps at) e ∙ remove_before front pin at before.0,
             is,
             later before.1,
           )
 
-  pub scope_count : (scope : Scope) (pins : List Pin) → ArePinsOf number scope pins
+  pub scope_count : (scope : Scope) (pins : List SeatPin) → ArePinsOf number scope pins
       → named_on name scope ≡ pins_among h pins
   scope_count [] pins are = sym (ap (pins_among h) are)
   scope_count (named ∷ older) pins (front, pin, e, is, rest) =
@@ -244,7 +244,7 @@ module _ (number : List ℕ → Option ℕ) (apart : AreHandlesApart number) (na
       one : NamedPin → ℕ
       one p = if bytes_eq p.name name then 1 else 0
 
-      pin_one : Pin → ℕ
+      pin_one : SeatPin → ℕ
       pin_one p = if nat_eq p.handle h then 1 else 0
 
       whole : named_on name older ≡ pins_among h front → one named ≡ pin_one pin
@@ -252,7 +252,7 @@ module _ (number : List ℕ → Option ℕ) (apart : AreHandlesApart number) (na
       whole r same =
           let now = sum_by-cons (λ (p : NamedPin). if bytes_eq p.name name then 1 else 0) named
           older in
-          let then_ = sum_by_push (λ (p : Pin). if nat_eq p.handle h then 1 else 0) front pin in
+          let then_ = sum_by_push (λ (p : SeatPin). if nat_eq p.handle h then 1 else 0) front pin in
           now ∙ omega (arith, same, r, then_) ∙ sym (ap (pins_among h) e)
 
       by : named_on name older ≡ pins_among h front

@@ -22,7 +22,7 @@ use Rattle.cb_model.specs.Event.Event.{Shows, Pins, Refused}
 use Rattle.cb_model.specs.Called.{handle_of, handle_for, called, calls_of, made_by, makes, value_at}
 use Rattle.cb_model.specs.Replies.{MapReplies}
 use Rattle.cb_script.specs.declared.script.Line.{Line}
-use Rattle.cb_world.specs.declared.seats.Pin.{Pin as SeatPin}
+use Rattle.cb_world.specs.declared.seats.SeatPin.{SeatPin}
 use Rattle.cb_world.specs.declared.shown.Shown.{Shown}
 use Rattle.cb_world.specs.FarState.{FarState}
 use Rattle.cb_world.specs.Memory.{bytes_in}

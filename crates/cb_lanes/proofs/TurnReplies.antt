@@ -15,7 +15,7 @@ use Rattle.cb_types.specs.declared.request.Request.{Request}
 use Rattle.cb_types.specs.declared.request.Request.TheVariants.{Make, Write, Free, Filter}
 use Rattle.cb_types.specs.declared.request.Request.TheVariants as line
 use Rattle.cb_types.specs.Table.{IsReplyOf}
-use Rattle.cb_world.specs.declared.event.Event.{Event}
+use Rattle.cb_world.specs.declared.access.Access.{Access}
 use Rattle.cb_world.specs.FarState.{FarState}
 use Rattle.cb_mutate.specs.Answered.{AnsweredAs}
 use Rattle.cb_mutate.specs.FreeRule.{FreeAs}
@@ -48,14 +48,14 @@ next_reply : (q : Request) (v : ℕ) (r : Reply) → IsReplyOf q answer.Worn
 next_reply q v r last some (inl x) = so q r answer.Worn last x.1
 next_reply q v r last some (inr x) = so q r (answer.Version (v + 1)) (some (v + 1)) x.1
 
-pub make_rule : (n : ℕ) (bytes name : List ℕ) (far new : FarState) (r : Reply) (es : List Event)
+pub make_rule : (n : ℕ) (bytes name : List ℕ) (far new : FarState) (r : Reply) (es : List Access)
     → (r ≡ answer.NoFrame → ⊥) → MakeRule n bytes far new r es → IsReplyOf (Make name bytes) r
 make_rule n bytes name far new (answer.Full handles) es off x = tt
 make_rule n bytes name far new answer.NoFrame es off x = absurd (off refl)
 make_rule n bytes name far new (answer.Made handle version) es off x = tt
 make_rule n bytes name far new r es off x = absurd x
 
-pub write_as : (s : State) (h at w : ℕ) (name bytes : List ℕ) (es : List Event) (r : Reply)
+pub write_as : (s : State) (h at w : ℕ) (name bytes : List ℕ) (es : List Access) (r : Reply)
     → (r ≡ answer.NotHere → ⊥) → AnsweredAs s (WriteHere h at bytes es r) w h es r
     → IsReplyOf (Write name at bytes) r
 write_as state.Here h at w name bytes es r off (inl (past, is)) =
@@ -71,7 +71,7 @@ write_as state.Empty h at w name bytes es r off (suc v, told, is) =
 write_as state.Far h at w name bytes es r off is = absurd (off is)
 write_as state.Moving h at w name bytes es r off is = so (Write name at bytes) r answer.Moving tt is
 
-pub free_as : (s : State) (h w : ℕ) (name : List ℕ) (es : List Event) (r : Reply)
+pub free_as : (s : State) (h w : ℕ) (name : List ℕ) (es : List Access) (r : Reply)
     → FreeAs s w h es r
     → IsReplyOf (Free name) r
 free_as state.Far h w name es r (v, told, next) = next_reply (Free name) v r tt (λ n. tt) next
@@ -83,7 +83,7 @@ free_as state.Empty h w name es r (suc v, told, is) = so (Free name) r answer.Fr
 free_as state.Moving h w name es r is = so (Free name) r answer.Moving tt is
 
 pub filter_as : (s : State) (frames h w : ℕ) (name : List ℕ) (far new : FarState) (r : Reply)
-    (es : List Event) → FilterAs s frames h w far new r es → IsReplyOf (Filter name) r
+    (es : List Access) → FilterAs s frames h w far new r es → IsReplyOf (Filter name) r
 filter_as state.Here frames h w name far new r es (inl (some, is, same)) =
     so (Filter name) r (answer.Pinned _) tt is
 filter_as state.Here frames h w name far new r es (inr (claimed, (seat, of, inl x))) =
@@ -102,7 +102,7 @@ filter_as state.Moving frames h w name far new r es (is, same) =
     so (Filter name) r answer.Moving tt is
 
 -- ---- evictions
-pub evict_rule : (c : Config) (far new : FarState) (r : Reply) (es : List Event)
+pub evict_rule : (c : Config) (far new : FarState) (r : Reply) (es : List Access)
     → EvictRule far new r es → IsReplyOf line.Evict r
 evict_rule c far new r es a = by a.answered
   where
@@ -112,7 +112,7 @@ evict_rule c far new r es a = by a.answered
     by (inr (inl x)) = so line.Evict r _ tt x.reply
     by (inr (inr x)) = so line.Evict r _ tt x.reply
 
-pub begin_rule : (c : Config) (far new : FarState) (r : Reply) (es : List Event)
+pub begin_rule : (c : Config) (far new : FarState) (r : Reply) (es : List Access)
     → BeginRule far new r es → IsReplyOf line.Begin r
 begin_rule c far new r es (inl a) = so line.Begin r _ tt a.reply
 begin_rule c far new r es (inr a) = by a.answered
@@ -123,7 +123,7 @@ begin_rule c far new r es (inr a) = by a.answered
     by (inr (inl x)) = so line.Begin r _ tt x.reply
     by (inr (inr x)) = so line.Begin r _ tt x.reply
 
-pub ship_rule : (far new : FarState) (r : Reply) (es : List Event) → ShipRule far new r es
+pub ship_rule : (far new : FarState) (r : Reply) (es : List Access) → ShipRule far new r es
     → IsReplyOf line.Ship r
 ship_rule far new r es a = by a.ships
   where
@@ -134,7 +134,7 @@ ship_rule far new r es a = by a.ships
     by (inr (inr (inl x))) = so line.Ship r _ tt x.reply
     by (inr (inr (inr x))) = so line.Ship r _ tt x.reply
 
-pub commit_rule : (far new : FarState) (r : Reply) (es : List Event) → CommitRule far new r es
+pub commit_rule : (far new : FarState) (r : Reply) (es : List Access) → CommitRule far new r es
     → IsReplyOf line.Commit r
 commit_rule far new r es a = by a.answered
   where
@@ -144,7 +144,7 @@ commit_rule far new r es a = by a.answered
     by (inr (inl x)) = so line.Commit r _ tt x.reply
     by (inr (inr x)) = so line.Commit r _ tt x.reply
 
-pub abort_rule : (far new : FarState) (r : Reply) (es : List Event) → AbortRule far new r es
+pub abort_rule : (far new : FarState) (r : Reply) (es : List Access) → AbortRule far new r es
     → IsReplyOf line.Abort r
 abort_rule far new r es a = by a.answered
   where
@@ -173,7 +173,7 @@ join_turn far new node r (joined down is left) = so (line.Join node) r _ tt is
 join_turn far new node r (is_up up is same) = so (line.Join node) r _ tt is
 
 -- ---- the parts of a turn over any desk
-module _ {D : Type 0} (run : D → List Event → D → Type 0) (shows : D → Shown → Type 0)
+module _ {D : Type 0} (run : D → List Access → D → Type 0) (shows : D → Shown → Type 0)
     (c : Config) where
   pub room_for : (name bytes : List ℕ) (a b : Holding D) (r : Reply)
       → WithRoom c.frames (Makes run shows c bytes) (WinsRoom run shows c) most_evictions a r b
@@ -203,7 +203,7 @@ module _ {D : Type 0} (run : D → List Event → D → Type 0) (shows : D → S
       (λ n b r y off out. swap_off name bytes h at n b r off out y) (λ loose nodes out. tt)
       most_evictions a b r x never
 
-  declined_so : (name bytes : List ℕ) (h at : ℕ) (far : FarState) (r : Reply) (es : List Event)
+  declined_so : (name bytes : List ℕ) (h at : ℕ) (far : FarState) (r : Reply) (es : List Access)
       → IsDeclined h at (length bytes) far (Some r) es → IsReplyOf (Write name at bytes) r
   declined_so name bytes h at far r es (inl (gone, none, nothing)) = absurd cc
   declined_so name bytes h at far r es (inr (stays, (w, v, found, far_word, told, last, is))) =

@@ -15,7 +15,7 @@ use Rattle.cb_types.specs.declared.reply.Reply.TheVariants.{Unmade, Freed, Pinne
 use Rattle.cb_types.specs.declared.reply.Reply.TheVariants.{NotPinned, NotHere, NoRoom, Stays}
 use Rattle.cb_types.specs.declared.reply.Reply.TheVariants.{Swapped}
 use Rattle.cb_ptr.specs.Word.{len_of, state_number}
-use Rattle.cb_world.specs.declared.seats.Pin.{Pin as SeatPin}
+use Rattle.cb_world.specs.declared.seats.SeatPin.{SeatPin}
 use Rattle.cb_world.specs.Memory.{bytes_in}
 use Rattle.cb_world.specs.Seats.{SeatState, IsNewestOf, pins_of_seat, with_pins}
 use Rattle.cb_world.specs.StillWords.{contents_at}

@@ -2,7 +2,7 @@
 use Rattle.std.specs.Prelude.{◌≡◌, ℕ, zero, suc, List, length, map, nat_eq, replicate, reverse}
 use Rattle.std.specs.List.{count_by}
 use Rattle.cb_types.specs.declared.reply.Reply.TheVariants as answer
-use Rattle.cb_world.specs.declared.seats.Pin.{Pin}
+use Rattle.cb_world.specs.declared.seats.SeatPin.{SeatPin}
 use Rattle.cb_world.specs.Seats.{pins_of_seat}
 use Rattle.cb_world.specs.World.{WorldState}
 use Rattle.cb_core.specs.declared.event.Atomic.TheVariants.{Unpin}
@@ -11,7 +11,7 @@ use Rattle.cb_core.specs.declared.event.Event.TheVariants as event
 use Rattle.cb_core.specs.Step.{Leads}
 
 -- the event by which a seat gives a pin back
-abbrev pub unpin_event : ℕ → Pin → Event
+abbrev pub unpin_event : ℕ → SeatPin → Event
 unpin_event seat pin = event.Step seat (Unpin (record { n = pin.handle }))
 
 -- the pins of the seat are given back, the newest first, and each of these events is answered done

@@ -2,8 +2,8 @@
 use Rattle.std.proofs.Common.{◌≡◌, ◌≢◌, ◌⊎◌, ℕ, ◌+◌, ◌-◌, ◌*◌, ◌/◌, ◌%◌, ◌<◌, ◌≤◌, List, [], ◌∷◌, ◌++◌, length, get_or, set, sym, refl, ap, ◌∙◌, ◌^◌, subst, arith, inl, inr, length-set, get_or-set_other, get_or-set_same}
 use native.Mathlib.Decide.{ℕ_discrete}
 use Rattle.std.specs.Int.{to_le_bytes, w64}
-use Rattle.cb_world.specs.declared.event.Event.{Event}
-use Rattle.cb_world.specs.declared.event.Event.TheVariants.{Loaded, Stored}
+use Rattle.cb_world.specs.declared.access.Access.{Access}
+use Rattle.cb_world.specs.declared.access.Access.TheVariants.{Loaded, Stored}
 use Rattle.cb_world.specs.Memory.{memory_byte, window, put, words_for}
 use Rattle.cb_world.specs.declared.shown.Shown.{Shown}
 use Rattle.cb_world.specs.Played.{Agree, played}
@@ -146,7 +146,7 @@ write_more old new i at bytes y w within m = record {
         ∙ w.outside p below (inl (omega (arith, e)))
     outside p below (inr e) (no other) = byte_else new i y p other ∙ w.outside p below (inr e)
 
-pub stores_more : (es fs : List Event) → AreStores es → AreStores fs → AreStores (es ++ fs)
+pub stores_more : (es fs : List Access) → AreStores es → AreStores fs → AreStores (es ++ fs)
 stores_more [] fs a b = b
 stores_more (Loaded p x ∷ es) fs a b = stores_more es fs a b
 stores_more (Stored p x ∷ es) fs a b = stores_more es fs a b
@@ -170,7 +170,7 @@ pub owns_here : (s t : Shown) (place len i : ℕ) (new : List ℕ)
 owns_here s t place len i new e o below =
     owns_put s t place len (place + i) new e o (omega arith, omega (arith, below))
 
-pub store_one : (es : List Event) (s : Shown) (place len i at x y : ℕ) (bytes : List ℕ)
+pub store_one : (es : List Access) (s : Shown) (place len i at x y : ℕ) (bytes : List ℕ)
     → Agree s (es ++ Loaded (place + i) x ∷ Stored (place + i) y ∷ []) → OwnsAll s place len
     → i < words_for len
     → (new : List ℕ) → IsWriteBelow (8 * i) (window s.memory place (words_for len)) at bytes new

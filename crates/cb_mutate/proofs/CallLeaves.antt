@@ -6,7 +6,7 @@ use Rattle.cb_ptr.specs.Word.{state_of}
 use Rattle.cb_set.specs.SetState.{position_of, without_object}
 use Rattle.cb_types.specs.declared.reply.Reply.{Reply}
 use Rattle.cb_types.specs.declared.reply.Reply.TheVariants as answer
-use Rattle.cb_world.specs.declared.event.Event.{Event}
+use Rattle.cb_world.specs.declared.access.Access.{Access}
 use Rattle.cb_world.specs.declared.shown.Shown.{Shown}
 use Rattle.cb_world.specs.FarState.{FarState}
 use Rattle.cb_world.specs.LeftOver.{nodes_left, set_without, without_far}
@@ -21,7 +21,7 @@ same_leaves : (far new : FarState) → new ≡ far → LeavesWords far new
 same_leaves far new e = subst (LeavesWords far) (sym e) (words_stay far)
 
 pub make_leaves_words : (handles : ℕ) (bytes : List ℕ) (far new : FarState) (r : Reply)
-    (es : List Event) → MakeRule handles bytes far new r es → LeavesWords far new
+    (es : List Access) → MakeRule handles bytes far new r es → LeavesWords far new
 make_leaves_words handles bytes far new (answer.Full n) es x = same_leaves far new x.2.0
 make_leaves_words handles bytes far new answer.NoFrame es x = same_leaves far new x.2.0
 make_leaves_words handles bytes far new (answer.Made h v) es x =
@@ -53,7 +53,7 @@ leaves state.Far s far new h sound z = removed s far new h sound z
 leaves state.Empty s far new h sound z = absurd z
 leaves state.Moving s far new h sound z = absurd z
 
-pub free_leaves_words : (s : Shown) (h : ℕ) (far new : FarState) (r : Reply) (es : List Event)
+pub free_leaves_words : (s : Shown) (h : ℕ) (far new : FarState) (r : Reply) (es : List Access)
     → Sound s far → FreeRule h far new r es → LeavesWords far new
 free_leaves_words s h far new r es sound x = by r x.state
   where

@@ -7,7 +7,7 @@ use Rattle.cb_set.specs.SetState.{position_of, without_object}
 use Rattle.cb_types.specs.declared.config.Config.{Config}
 use Rattle.cb_types.specs.declared.reply.Reply.{Reply}
 use Rattle.cb_types.specs.declared.reply.Reply.TheVariants as answer
-use Rattle.cb_world.specs.declared.event.Event.{Event}
+use Rattle.cb_world.specs.declared.access.Access.{Access}
 use Rattle.cb_world.specs.FarState.{FarState}
 use Rattle.cb_world.specs.LeftOver.{set_without}
 use Rattle.cb_world.proofs.Laws.{KeepCodes, batch_has, codes_kept, codes_left, codes_stay, own_left, pair_stays, sets_have, left_count, left_given, left_note, left_room, IsLike, StaysIf, stays_like, stays_same}
@@ -15,7 +15,7 @@ use Rattle.cb_mutate.specs.FreeRule.{FreeFar, FreeRule, IsReleased, IsRemoved, L
 use Rattle.cb_mutate.specs.MakeRule.{MakeRule, with_made}
 
 pub make_stays : (c : Config) (handles : ℕ) (bytes : List ℕ) (far new : FarState) (r : Reply)
-    (es : List Event) → MakeRule handles bytes far new r es → StaysIf c 1 far new
+    (es : List Access) → MakeRule handles bytes far new r es → StaysIf c 1 far new
 make_stays c handles bytes far new (answer.Full n) es x =
     stays_same c 1 far new (omega arith) x.2.0
 make_stays c handles bytes far new answer.NoFrame es x =
@@ -77,7 +77,7 @@ pub place_codes : (q : State) (far new : FarState) (h : ℕ) → LeavesPlace q f
     → KeepCodes far new
 place_codes q far new h z = (leaves q far new h z).codes
 
-pub free_stays : (c : Config) (h : ℕ) (far new : FarState) (r : Reply) (es : List Event)
+pub free_stays : (c : Config) (h : ℕ) (far new : FarState) (r : Reply) (es : List Access)
     → FreeRule h far new r es → StaysIf c 1 far new
 free_stays c h far new r es x = by r x.state
   where

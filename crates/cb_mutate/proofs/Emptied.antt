@@ -2,7 +2,7 @@
 use Rattle.std.proofs.Common.{◌≡◌, ℕ, false, ◌+◌, List, [], ◌∷◌, ◌++◌, set, sym, refl, ap, ◌∙◌, subst, get_or-set_same}
 use Rattle.cb_world.specs.declared.object.Object.{Object}
 use Rattle.cb_world.specs.declared.object.Object.TheVariants as is
-use Rattle.cb_world.specs.declared.event.Event.TheVariants.{Told, Stamped, Settled}
+use Rattle.cb_world.specs.declared.access.Access.TheVariants.{Told, Stamped, Settled}
 use Rattle.cb_world.specs.declared.shown.Shown.{Shown}
 use Rattle.cb_ptr.specs.declared.word.State.TheVariants as state
 use Rattle.cb_world.specs.Shown.{version_at}

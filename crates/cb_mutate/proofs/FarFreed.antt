@@ -12,8 +12,8 @@ use Rattle.cb_world.specs.declared.homes.Home.{Home}
 use Rattle.cb_world.specs.declared.entry.Entry.{Entry}
 use Rattle.cb_world.specs.declared.object.Object.{Object}
 use Rattle.cb_world.specs.declared.object.Object.TheVariants as is
-use Rattle.cb_world.specs.declared.event.Event.{Event}
-use Rattle.cb_world.specs.declared.event.Event.TheVariants.{Looked, Told, Stamped, Settled}
+use Rattle.cb_world.specs.declared.access.Access.{Access}
+use Rattle.cb_world.specs.declared.access.Access.TheVariants.{Looked, Told, Stamped, Settled}
 use Rattle.cb_world.specs.declared.shown.Shown.{Shown}
 use Rattle.cb_world.specs.Shown.{Fits, IsHeld, object_at, version_at}
 use Rattle.cb_world.specs.Settling.{MaySettle, MayFree}
@@ -33,12 +33,12 @@ use Rattle.cb_mutate.specs.FreeEnds.{with_emptied}
 use Rattle.cb_mutate.proofs.Emptied.{with_stamped}
 
 -- ---- the word that was found
-pub one_look_more : (h w : ℕ) (es : List Event) → AreLooks h es → AreLooks h (look_after es h w)
+pub one_look_more : (h w : ℕ) (es : List Access) → AreLooks h es → AreLooks h (look_after es h w)
 one_look_more h w [] a = (refl, tt)
 one_look_more h w (Looked k x ∷ es) a = (a.0, one_look_more h w es a.1)
 one_look_more h w (e ∷ es) a = absurd a
 
-pub found_far : (s : Shown) (before : List Event) (h w : ℕ) → AreLooks h before
+pub found_far : (s : Shown) (before : List Access) (h w : ℕ) → AreLooks h before
     → Agree s (look_after before h w) → state_of w ≡ state.Far
     → (len v : ℕ) × (words : List ℕ) × (object_at s h ≡ is.Far len v words)
 found_far s before h w looks agree far =
@@ -92,7 +92,7 @@ far_may_free s h len v x words stamp away same = (
 )
 
 -- the events of a far object that has a next version
-abbrev pub far_events : ℕ → ℕ → List Event
+abbrev pub far_events : ℕ → ℕ → List Access
 far_events h v = Told h v ∷ Stamped h (v + 1) ∷ Settled h 0 ∷ []
 
 far_emptied : (s : Shown) (h v : ℕ) → h < length s.versions
@@ -111,7 +111,7 @@ far_emptied_once s h len v words stamp away old =
     ∙ ap (λ (i : ℕ). gone h i words ∷ old) (get_or-set_same s.versions h (v + 1) 0 stamp)
 
 -- the object is far at the version that was told
-pub far_at : (s : Shown) (far : FarState) (before : List Event) (h w x : ℕ) → Sound s far
+pub far_at : (s : Shown) (far : FarState) (before : List Access) (h w x : ℕ) → Sound s far
     → AreLooks h before → Agree s (look_after before h w) → state_of w ≡ state.Far
     → (IsHeld (object_at (played (look_after before h w) s) h)
     → x ≡ version_at (played (look_after before h w) s) h)
@@ -127,28 +127,28 @@ far_at s far before h w x sound looks agree is_far told =
     )
 
 -- ---- looks, and then these
-then_first : (h : ℕ) (es fs : List Event) → AreLooks h es → LooksFirst fs → LooksFirst (es ++ fs)
+then_first : (h : ℕ) (es fs : List Access) → AreLooks h es → LooksFirst fs → LooksFirst (es ++ fs)
 then_first h [] fs a b = b
 then_first h (Looked k w ∷ es) fs a b = then_first h es fs a.1 b
 then_first h (e ∷ es) fs a b = absurd a
 
-then_last : (h : ℕ) (es fs : List Event) → AreLooks h es → SettlesLast fs → SettlesLast (es ++ fs)
+then_last : (h : ℕ) (es fs : List Access) → AreLooks h es → SettlesLast fs → SettlesLast (es ++ fs)
 then_last h [] fs a b = b
 then_last h (Looked k w ∷ es) fs a b = then_last h es fs a.1 b
 then_last h (e ∷ es) fs a b = absurd a
 
-looks_allowed : (h : ℕ) (es : List Event) (s : Shown) → AreLooks h es → Allowed s es
+looks_allowed : (h : ℕ) (es : List Access) (s : Shown) → AreLooks h es → Allowed s es
 looks_allowed h [] s a = tt
 looks_allowed h (Looked k w ∷ es) s a = (tt, looks_allowed h es (after (Looked k w) s) a.1)
 looks_allowed h (e ∷ es) s a = absurd a
 
-looks_tell : (h : ℕ) (es : List Event) (s : Shown) → AreLooks h es → told_by es s ≡ played es s
+looks_tell : (h : ℕ) (es : List Access) (s : Shown) → AreLooks h es → told_by es s ≡ played es s
 looks_tell h [] s a = refl
 looks_tell h (Looked k w ∷ es) s a = looks_tell h es (after (Looked k w) s) a.1
 looks_tell h (e ∷ es) s a = absurd a
 
 -- What holds of a free of a far object, whatever is known.
-pub record IsFarAnswered (far new : FarState) (h w : ℕ) (es : List Event) (r : Reply)
+pub record IsFarAnswered (far new : FarState) (h w : ℕ) (es : List Access) (r : Reply)
     : Type 0 where
   pub looks_first : LooksFirst es
   pub found : IsFound h w es
@@ -158,14 +158,14 @@ pub record IsFarAnswered (far new : FarState) (h w : ℕ) (es : List Event) (r :
   pub state : FreeFar w h r far new
 
 -- And what holds of it by what is known.
-pub record IsFarDone (new : FarState) (h : ℕ) (es : List Event) (s : Shown) (r : Reply)
+pub record IsFarDone (new : FarState) (h : ℕ) (es : List Access) (s : Shown) (r : Reply)
     : Type 0 where
   pub allowed : Allowed s es
   pub sound : Sound (played es s) new
   pub effect : FreeEffect h r es s (played es s)
 
 -- with no next version nothing is done
-pub far_worn : (far new : FarState) (before : List Event) (h w x : ℕ) (r : Reply)
+pub far_worn : (far new : FarState) (before : List Access) (h w x : ℕ) (r : Reply)
     → AreLooks h before → state_of w ≡ state.Far → x ≡ 2 ^ 64 - 1 → r ≡ answer.Worn → new ≡ far
     → IsFarAnswered far new h w (look_after before h w ++ Told h x ∷ []) r
 far_worn far new before h w x r looks is_far last worn same = record {
@@ -178,10 +178,10 @@ far_worn far new before h w x r looks is_far last worn same = record {
   state = subst (λ (q : Reply). FreeFar w h q far new) (sym worn) same;
 }
   where
-    reads : List Event
+    reads : List Access
     reads = Told h x ∷ []
 
-pub far_worn_done : (far new : FarState) (s : Shown) (before : List Event) (h w x : ℕ) (r : Reply)
+pub far_worn_done : (far new : FarState) (s : Shown) (before : List Access) (h w x : ℕ) (r : Reply)
     → Sound s far → AreLooks h before → r ≡ answer.Worn → new ≡ far
     → IsFarDone new h (look_after before h w ++ Told h x ∷ []) s r
 far_worn_done far new s before h w x r sound looks worn same =
@@ -194,7 +194,7 @@ far_worn_done far new s before h w x r sound looks worn same =
     }
 
 -- with a next version the object is empty
-pub far_freed : (far new : FarState) (before : List Event) (h w x : ℕ) (r : Reply) (s : Shown)
+pub far_freed : (far new : FarState) (before : List Access) (h w x : ℕ) (r : Reply) (s : Shown)
     → AreLooks h before → state_of w ≡ state.Far → x < 2 ^ 64 - 1 → r ≡ answer.Version (x + 1)
     → (k : IsHome s far h) → new ≡ without_far far h k.home k.set
     → IsFarAnswered far new h w (look_after before h w ++ far_events h x) r
@@ -212,16 +212,16 @@ far_freed far new before h w x r s looks is_far below next k left = record {
       (record { home = k.home; set = k.set; lies = k.lies; left = left }));
 }
   where
-    first : List Event
+    first : List Access
     first = look_after before h w
 
-    done : List Event
+    done : List Access
     done = far_events h x
 
     all : AreLooks h first
     all = one_look_more h w before looks
 
-pub far_freed_done : (far new : FarState) (s : Shown) (before : List Event) (h w len x : ℕ)
+pub far_freed_done : (far new : FarState) (s : Shown) (before : List Access) (h w len x : ℕ)
     (words : List ℕ) (r : Reply) → Sound s far → AreLooks h before
     → object_at s h ≡ is.Far len x words → h < length s.objects → h < length s.versions
     → r ≡ answer.Version (x + 1) → (k : IsHome s far h)
@@ -270,10 +270,10 @@ far_freed_done far new s before h w len x words r sound looks away range stamp n
       });
 }
   where
-    first : List Event
+    first : List Access
     first = look_after before h w
 
-    done : List Event
+    done : List Access
     done = far_events h x
 
     all : AreLooks h first
@@ -292,6 +292,6 @@ far_freed_done far new s before h w len x words r sound looks away range stamp n
     told : told_by (first ++ done) s ≡ q
     told = told_append first done s ∙ ap (told_by done) (looks_tell h first s all ∙ p.2)
 
-pub no_more : (es : List Event) → es ++ [] ≡ es
+pub no_more : (es : List Access) → es ++ [] ≡ es
 no_more [] = refl
-no_more (e ∷ es) = ap (λ (l : List Event). e ∷ l) (no_more es)
+no_more (e ∷ es) = ap (λ (l : List Access). e ∷ l) (no_more es)

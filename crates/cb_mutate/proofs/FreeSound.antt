@@ -7,7 +7,7 @@ use Rattle.cb_ptr.specs.Word.{len_of, place_of, pins_of}
 use Rattle.cb_types.specs.declared.reply.Reply.{Reply}
 use Rattle.cb_types.specs.declared.reply.Reply.TheVariants as answer
 use Rattle.cb_world.specs.declared.object.Object.TheVariants as is
-use Rattle.cb_world.specs.declared.event.Event.{Event}
+use Rattle.cb_world.specs.declared.access.Access.{Access}
 use Rattle.cb_world.specs.declared.shown.Shown.{Shown}
 use Rattle.cb_world.specs.Shown.{object_at}
 use Rattle.cb_world.specs.Played.{played}
@@ -37,14 +37,14 @@ pub slot_at : (far : FarState) (s : Shown) (h len place : ℕ) → Sound s far
 slot_at far s h len place sound c = slot_lies far h len place sound.here.frames c
 
 -- What holds after a free that began with a claim.
-pub record IsFreeDone (far new : FarState) (s t : Shown) (es : List Event) (h w : ℕ) (r : Reply)
+pub record IsFreeDone (far new : FarState) (s t : Shown) (es : List Access) (h w : ℕ) (r : Reply)
     : Type 0 where
   pub sound : Sound t new
   pub effect : FreeEffect h r es s t
   pub rule : FreeHere h es r w
   pub state : FreeFar w h r far new
 
-emptied_well : (far new : FarState) (s t : Shown) (first done : List Event) (h w v : ℕ)
+emptied_well : (far new : FarState) (s t : Shown) (first done : List Access) (h w v : ℕ)
     (words : List ℕ) → Sound s far → (c : HasSlot far.spans h (len_of w) (place_of w))
     → IsAfterClaim s h w v words first done → IsTaken h v words (first ++ done)
     → h < length s.objects → h < length s.versions
@@ -81,7 +81,7 @@ emptied_well far new s t first done h w v words sound c a taken range stamp x le
       },
     )
 
-pub free_done : (far new : FarState) (s t : Shown) (first done : List Event) (h w v : ℕ)
+pub free_done : (far new : FarState) (s t : Shown) (first done : List Access) (h w v : ℕ)
     (words : List ℕ) (r : Reply) → Sound s far → (c : HasSlot far.spans h (len_of w) (place_of w))
     → IsAfterClaim s h w v words first done → IsFree w → IsTaken h v words (first ++ done)
     → h < length s.objects → h < length s.versions
@@ -117,14 +117,14 @@ free_done far new s t first done h w v words r sound c a free taken range stamp 
           }));
     }
 
-free_here_before : (h w : ℕ) (es fs : List Event) (r : Reply) → FreeHere h fs r w
+free_here_before : (h w : ℕ) (es fs : List Access) (r : Reply) → FreeHere h fs r w
     → FreeHere h (es ++ fs) r w
 free_here_before h w es fs r (inl a) = inl a
 free_here_before h w es fs r (inr a) =
     inr (a.0, (a.1.0, a.1.1, taken_before h a.1.0 a.1.1 es fs a.1.2, a.1.3))
 
 -- a refusal is by what was told after the look too
-pub free_before : (q : State) (h w : ℕ) (es fs : List Event) (r : Reply) → q ≢ state.Far
+pub free_before : (q : State) (h w : ℕ) (es fs : List Access) (r : Reply) → q ≢ state.Far
     → AnsweredAs q (FreeHere h fs r) w h fs r → FreeAs q w h (es ++ fs) r
 free_before state.Here h w es fs r near a = free_here_before h w es fs r a
 free_before state.Empty h w es fs r near a = absent_before state.Empty h es fs r a
@@ -132,26 +132,26 @@ free_before state.Far h w es fs r near a = absurd (near refl)
 free_before state.Moving h w es fs r near a = a
 
 -- A free that found no free word changes nothing.
-pub record IsFreeRefused (h w : ℕ) (far : FarState) (es : List Event) (s t : Shown) (r : Reply)
+pub record IsFreeRefused (h w : ℕ) (far : FarState) (es : List Access) (s t : Shown) (r : Reply)
     : Type 0 where
   pub effect : FreeEffect h r es s t
   pub state : FreeFar w h r far far
 
-refused_by : (h w : ℕ) (far : FarState) (es : List Event) (s t : Shown) (r q : Reply) → r ≡ q
+refused_by : (h w : ℕ) (far : FarState) (es : List Access) (s t : Shown) (r q : Reply) → r ≡ q
     → FreeEffect h q es s t → FreeFar w h q far far → IsFreeRefused h w far es s t r
 refused_by h w far es s t r q e effect state = record {
   effect = subst (λ (z : Reply). FreeEffect h z es s t) (sym e) effect;
   state = subst (λ (z : Reply). FreeFar w h z far far) (sym e) state;
 }
 
-empty_refused : (v h w : ℕ) (far : FarState) (es : List Event) (s t : Shown) (r : Reply)
+empty_refused : (v h w : ℕ) (far : FarState) (es : List Access) (s t : Shown) (r : Reply)
     → EmptyAnswer v r → IsStill es s t → IsFreeRefused h w far es s t r
 empty_refused zero h w far es s t r e still =
     refused_by h w far es s t r answer.Unmade e still refl
 empty_refused (suc v) h w far es s t r e still =
     refused_by h w far es s t r answer.Freed e still refl
 
-pub free_refused : (q : State) (h w : ℕ) (far : FarState) (reads es : List Event) (s t : Shown)
+pub free_refused : (q : State) (h w : ℕ) (far : FarState) (reads es : List Access) (s t : Shown)
     (r : Reply) → q ≢ state.Far → AreReads h reads
     → AnsweredAs q (FreeHere h reads r) w h reads r → IsStill es s t
     → IsFreeRefused h w far es s t r

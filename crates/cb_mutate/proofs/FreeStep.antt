@@ -5,7 +5,7 @@ use Rattle.cb_ptr.specs.declared.word.State.TheVariants as state
 use Rattle.cb_ptr.specs.Word.{state_of, pins_of}
 use Rattle.cb_types.specs.declared.reply.Reply.{Reply}
 use Rattle.cb_types.specs.declared.reply.Reply.TheVariants as answer
-use Rattle.cb_world.specs.declared.event.Event.{Event}
+use Rattle.cb_world.specs.declared.access.Access.{Access}
 use Rattle.cb_world.specs.declared.shown.Shown.{Shown}
 use Rattle.cb_world.specs.Played.{played}
 use Rattle.cb_world.specs.Plain.{Words}
@@ -22,7 +22,7 @@ use Rattle.cb_mutate.specs.CallStep.{FreeChange, IsTakenOut, IsFreeStep}
 use Rattle.cb_mutate.proofs.Stepping.{IsExact, is_exact, ComesTo, reply_comes, next_comes, change_comes}
 
 -- every word after a free that was answered a version
-taken_out : (x y : Words) (far new : FarState) (s : Shown) (es : List Event) (h n : ℕ)
+taken_out : (x y : Words) (far new : FarState) (s : Shown) (es : List Access) (h n : ℕ)
     → RunsStill x y far s es
     → IsGone h n es s (played es s) × LeavesPlace (state_of (word_at x h)) far new h
     → IsTakenOut x y far new h n
@@ -47,18 +47,18 @@ taken_out x y far new s es h n r z =
     }
 
 -- What a free leaves, by its reply: as its rule and its effect say it, and as a step does.
-abbrev Does : ℕ → ℕ → FarState → FarState → List Event → Shown → Reply → Type 0
+abbrev Does : ℕ → ℕ → FarState → FarState → List Access → Shown → Reply → Type 0
 Does w h far new es s q = FreeEffect h q es s (played es s) × FreeFar w h q far new
 
 abbrev Leaves : Words → Words → FarState → FarState → ℕ → Reply → Type 0
 Leaves x y far new h q = FreeChange q x y far new h
 
 -- a free that was refused leaves every word, and the far state
-free_back : (x y : Words) (far new : FarState) (s : Shown) (es : List Event)
+free_back : (x y : Words) (far new : FarState) (s : Shown) (es : List Access)
     → RunsStill x y far s es → IsStill es s (played es s) × (new ≡ far) → (y ≡ x) × (new ≡ far)
 free_back x y far new s es runs e = (stays_still x y far s es runs e.0, e.1)
 
-here_comes : (x y : Words) (far new : FarState) (s : Shown) (es : List Event) (h : ℕ) (r : Reply)
+here_comes : (x y : Words) (far new : FarState) (s : Shown) (es : List Access) (h : ℕ) (r : Reply)
     → RunsStill x y far s es → IsExact x h es → Does (word_at x h) h far new es s r
     → FreeHere h es r (word_at x h)
     → ComesTo (Does (word_at x h) h far new es s) (Leaves x y far new h) r
@@ -80,7 +80,7 @@ here_comes x y far new s es h r runs exact effect rule =
     )
 
 -- an object that is not far
-near_comes : (q : State) (x y : Words) (far new : FarState) (s : Shown) (es : List Event)
+near_comes : (q : State) (x y : Words) (far new : FarState) (s : Shown) (es : List Access)
     (h w : ℕ) (r : Reply) → RunsStill x y far s es → IsExact x h es
     → Does (word_at x h) h far new es s r → w ≡ word_at x h
     → AnsweredAs q (FreeHere h es r) w h es r
@@ -97,7 +97,7 @@ near_comes q x y far new s es h w r runs exact effect e a =
     a effect
 
 -- by the state of the word
-free_comes : (q : State) (x y : Words) (far new : FarState) (s : Shown) (es : List Event)
+free_comes : (q : State) (x y : Words) (far new : FarState) (s : Shown) (es : List Access)
     (h w : ℕ) (r : Reply) → RunsStill x y far s es → IsExact x h es
     → Does (word_at x h) h far new es s r → w ≡ word_at x h → FreeAs q w h es r
     → ComesTo (Does (word_at x h) h far new es s) (Leaves x y far new h) r

@@ -4,8 +4,8 @@ use Rattle.std.proofs.lemmas.Bool.{cases_eq}
 use Rattle.std.proofs.lemmas.List.{ext_get_or, get_or_append_left, length-append}
 use Rattle.std.proofs.Math.Seq.{get_or-append_seam}
 use Rattle.std.specs.Int.{to_le_bytes, w64}
-use Rattle.cb_world.specs.declared.event.Event.{Event}
-use Rattle.cb_world.specs.declared.event.Event.TheVariants.{Loaded}
+use Rattle.cb_world.specs.declared.access.Access.{Access}
+use Rattle.cb_world.specs.declared.access.Access.TheVariants.{Loaded}
 use Rattle.cb_world.specs.declared.shown.Shown.{Shown}
 use Rattle.cb_world.specs.Memory.{window, words_for}
 use Rattle.cb_world.specs.Shown.{Covers, Owns}
@@ -19,9 +19,9 @@ use Rattle.cb_mutate.specs.Loads.{Loads}
 use Rattle.cb_mutate.proofs.Filled.{AreBytesFilled, IsPutInto, filled_all, filled_more}
 
 -- the first i words were read, and their bytes stand in the room
-pub record LoadsBelow (runs : List Event → Type 0) (owns : Shown → Type 0) (place len i : ℕ)
+pub record LoadsBelow (runs : List Access → Type 0) (owns : Shown → Type 0) (place len i : ℕ)
     (room : List ℕ) : Type 0 where
-  pub events : List Event
+  pub events : List Access
   pub ran : runs events
   pub loads : AreLoads events
   pub touches : (h : ℕ) → Touches h place len events
@@ -33,29 +33,29 @@ pub record LoadsBelow (runs : List Event → Type 0) (owns : Shown → Type 0) (
   pub contents : (s : Shown) → owns s → (k : ℕ) → k < i
       → get_or words k 0 ≡ get_or s.memory (place + k) 0
 
-loads_more : (es : List Event) (p x : ℕ) → AreLoads es → AreLoads (es ++ Loaded p x ∷ [])
+loads_more : (es : List Access) (p x : ℕ) → AreLoads es → AreLoads (es ++ Loaded p x ∷ [])
 loads_more [] p x a = tt
 loads_more (Loaded q y ∷ es) p x a = loads_more es p x a
 loads_more (e ∷ es) p x a = absurd a
 
-loaded_before : (es fs : List Event) (p x : ℕ) → IsLoaded p x es → IsLoaded p x (es ++ fs)
+loaded_before : (es fs : List Access) (p x : ℕ) → IsLoaded p x es → IsLoaded p x (es ++ fs)
 loaded_before [] fs p x a = absurd a
 loaded_before (Loaded q y ∷ es) fs p x (inl a) = inl (loaded_before es fs p x a)
 loaded_before (Loaded q y ∷ es) fs p x (inr a) = inr a
 loaded_before (e ∷ es) fs p x a = loaded_before es fs p x a
 
-pub loaded_last : (es : List Event) (p x : ℕ) → IsLoaded p x (es ++ Loaded p x ∷ [])
+pub loaded_last : (es : List Access) (p x : ℕ) → IsLoaded p x (es ++ Loaded p x ∷ [])
 loaded_last [] p x = inr (refl, refl)
 loaded_last (Loaded q y ∷ es) p x = inl (loaded_last es p x)
 loaded_last (e ∷ es) p x = loaded_last es p x
 
-pub loads_keep : (es : List Event) (s : Shown) → AreLoads es → played es s ≡ s
+pub loads_keep : (es : List Access) (s : Shown) → AreLoads es → played es s ≡ s
 loads_keep [] s a = refl
 loads_keep (Loaded p x ∷ es) s a = loads_keep es s a
 loads_keep (e ∷ es) s a = absurd a
 
 -- the last word that was read is that of the memory, where the reader owns it
-pub loaded_agrees : (es : List Event) (s : Shown) (p x : ℕ) → AreLoads es
+pub loaded_agrees : (es : List Access) (s : Shown) (p x : ℕ) → AreLoads es
     → Agree s (es ++ Loaded p x ∷ []) → Owns s p → x ≡ get_or s.memory p 0
 loaded_agrees es s p x loads agree owned =
     let at : played es s ≡ s = loads_keep es s loads in
@@ -63,7 +63,7 @@ loaded_agrees es s p x loads agree owned =
     (agree_last es (Loaded p x ∷ []) s agree).0 in
     subst (λ (t : Shown). Owns t p → x ≡ get_or t.memory p 0) at told owned
 
-pub loads_none : (runs : List Event → Type 0) (owns : Shown → Type 0) (place len : ℕ)
+pub loads_none : (runs : List Access → Type 0) (owns : Shown → Type 0) (place len : ℕ)
     (room : List ℕ) → runs [] → length room ≡ len → LoadsBelow runs owns place len 0 room
 loads_none runs owns place len room ran sized = record {
   events = [];
@@ -78,7 +78,7 @@ loads_none runs owns place len room ran sized = record {
   contents = λ s o k below. absurd (omega (arith, below));
 }
 
-pub loads_one : (runs more : List Event → Type 0) (owns : Shown → Type 0) (place len i x : ℕ)
+pub loads_one : (runs more : List Access → Type 0) (owns : Shown → Type 0) (place len i x : ℕ)
     (old new : List ℕ) → (l : LoadsBelow runs owns place len i old) → Covers place len (place + i)
     → more (l.events ++ Loaded (place + i) x ∷ []) → IsPutInto old new i x
     → ((s : Shown) → owns s → x ≡ get_or s.memory (place + i) 0)
@@ -132,7 +132,7 @@ loads_one runs more owns place len i x old new l covers ran put told = record {
         earlier k less ∙ l.contents s o k less
 
 -- all words of the object were read
-pub loads_all : (runs : List Event → Type 0) (owns : Shown → Type 0) (place len i : ℕ)
+pub loads_all : (runs : List Access → Type 0) (owns : Shown → Type 0) (place len i : ℕ)
     (room : List ℕ) → i ≡ words_for len → LoadsBelow runs owns place len i room
     → Loads runs owns place len room
 loads_all runs owns place len i room same l = record {

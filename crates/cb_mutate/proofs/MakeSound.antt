@@ -4,7 +4,7 @@ use Rattle.cb_types.specs.Config.{most_bytes}
 use Rattle.cb_class.specs.declared.class.Class.{Class}
 use Rattle.cb_class.specs.Class.{IsClassOf}
 use Rattle.cb_span.specs.declared.temp.Temp.TheVariants.{Hot}
-use Rattle.cb_world.specs.declared.event.Event.{Event}
+use Rattle.cb_world.specs.declared.access.Access.{Access}
 use Rattle.cb_world.specs.declared.shown.Shown.{Shown}
 use Rattle.cb_world.specs.Shown.{object_at, never}
 use Rattle.cb_world.specs.Played.{played}
@@ -72,7 +72,7 @@ new_at s far class slot h version len x =
     }
 
 -- What holds after a make.
-pub record IsMakeDone (s t : Shown) (es : List Event) (far new : FarState) (h version : ℕ)
+pub record IsMakeDone (s t : Shown) (es : List Access) (far new : FarState) (h version : ℕ)
     (bytes : List ℕ) : Type 0 where
   pub allowed : Allowed s es
   pub sound : Sound t new

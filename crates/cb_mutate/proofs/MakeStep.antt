@@ -2,8 +2,8 @@
 use Rattle.std.proofs.Common.{◌≡◌, ℕ, ◌+◌, ◌<◌, List, [], ◌∷◌, ◌++◌, length, get_or, set, refl, ap, ◌∙◌, subst, arith, inl, inr, length-set, get_or-set_same}
 use Rattle.cb_types.specs.declared.reply.Reply.{Reply}
 use Rattle.cb_types.specs.declared.reply.Reply.TheVariants as answer
-use Rattle.cb_world.specs.declared.event.Event.{Event}
-use Rattle.cb_world.specs.declared.event.Event.TheVariants.{Stamped, Settled}
+use Rattle.cb_world.specs.declared.access.Access.{Access}
+use Rattle.cb_world.specs.declared.access.Access.TheVariants.{Stamped, Settled}
 use Rattle.cb_world.specs.declared.shown.Shown.{Shown}
 use Rattle.cb_world.specs.Memory.{put}
 use Rattle.cb_world.specs.Played.{played}
@@ -34,13 +34,13 @@ made_words x y h n len place at (u ∷ words) run =
 
 -- the new object, as the words have it
 new_object : (x y : Words) (far new : FarState) (s : Shown) (h n : ℕ) (bytes : List ℕ)
-    (es : List Event) → IsKnown x far s → IsKnown y new (played es s) → Plain x es y
+    (es : List Access) → IsKnown x far s → IsKnown y new (played es s) → Plain x es y
     → far.made < x.settings.handles → IsMade h n bytes far new es s (played es s)
     → IsNewObject x y far new bytes
 new_object x y far new s h n bytes es k l run more z =
     let m = z.make in let place = place_in m.slot in
     let made = made_words x y h n (length bytes) place place m.words
-    (subst (λ (e : List Event). Plain x e y) m.done run) in
+    (subst (λ (e : List Access). Plain x e y) m.done run) in
     let below : h < length x.words = omega (arith, m.next, more, k.sized.words) in
     let there : h < length y.words = omega (
       arith,
@@ -78,19 +78,19 @@ new_object x y far new s h n bytes es k l run more z =
     }
 
 -- what the rule of a make says, by its reply
-rule_cases : (x y : Words) (far new : FarState) (s : Shown) (bytes : List ℕ) (es : List Event)
+rule_cases : (x y : Words) (far new : FarState) (s : Shown) (bytes : List ℕ) (es : List Access)
     (r : Reply) → IsKnown x far s → IsKnown y new (played es s)
     → Plain x es y → MakeRule x.settings.handles bytes far new r es
     → MakeEffect bytes far new r es s (played es s) → IsMakeStep x y far new bytes r
 rule_cases x y far new s bytes es (answer.Full n) k l run rule done = inl (
   rule.0,
   ap answer.Full rule.1,
-  subst (λ (l : List Event). Plain x l y) rule.2.1 run,
+  subst (λ (l : List Access). Plain x l y) rule.2.1 run,
   rule.2.0,
 )
 rule_cases x y far new s bytes es answer.NoFrame k l run rule done = inr (
   rule.0,
-  inl (rule.1, refl, subst (λ (l : List Event). Plain x l y) rule.2.1 run, rule.2.0),
+  inl (rule.1, refl, subst (λ (l : List Access). Plain x l y) rule.2.1 run, rule.2.0),
 )
 rule_cases x y far new s bytes es (answer.Made h n) k l run rule done =
     let handle : h ≡ record { n = far.made } = λ i. record { n = done.make.next i } in

@@ -6,8 +6,8 @@ use Rattle.cb_ptr.specs.declared.word.State.TheVariants as state
 use Rattle.cb_ptr.specs.declared.word.PtrWord.{PtrWord}
 use Rattle.cb_ptr.specs.Word.{state_of, hot_of, len_of, place_of, pins_of, fields_of, IsInWidths}
 use Rattle.cb_ptr.proofs.Laws.{fields_of-word_of, word_of-below}
-use Rattle.cb_world.specs.declared.event.Event.{Event}
-use Rattle.cb_world.specs.declared.event.Event.TheVariants.{Stored, Stamped, Settled}
+use Rattle.cb_world.specs.declared.access.Access.{Access}
+use Rattle.cb_world.specs.declared.access.Access.TheVariants.{Stored, Stamped, Settled}
 use Rattle.cb_world.specs.declared.object.Object.{Object}
 use Rattle.cb_world.specs.declared.object.Object.TheVariants as is
 use Rattle.cb_world.specs.declared.shown.Shown.{Shown}
@@ -30,10 +30,10 @@ pub stores_then : (place : ℕ) (words : List ℕ) (x : ℕ)
     → stores_from place words ++ Stored (place + length words) x ∷ []
     ≡ stores_from place (words ++ x ∷ [])
 stores_then place [] x =
-    ap (λ (p : ℕ). let es : List Event = Stored p x ∷ [] in es)
+    ap (λ (p : ℕ). let es : List Access = Stored p x ∷ [] in es)
     (let e : place + 0 ≡ place = omega arith in e)
 stores_then place (y ∷ ys) x =
-    ap (λ (es : List Event). Stored place y ∷ es)
+    ap (λ (es : List Access). Stored place y ∷ es)
     (ap (λ (p : ℕ). stores_from (place + 1) ys ++ Stored p x ∷ [])
     (let e : place + suc (length ys) ≡ (place + 1) + length ys = omega arith in e)
     ∙ stores_then (place + 1) ys x)
@@ -188,7 +188,7 @@ made_first h version len place words =
     stores_first (stores_from place words) _ (stores_are place words) tt (tt, (tt, tt))
 
 -- What the events of a make do.
-pub record IsWellMade (s t : Shown) (es : List Event) (h version place len : ℕ) (words : List ℕ)
+pub record IsWellMade (s t : Shown) (es : List Access) (h version place len : ℕ) (words : List ℕ)
     : Type 0 where
   pub allowed : Allowed s es
   pub ends : t ≡ with_new s h version place len words
@@ -235,10 +235,10 @@ well_made s h version place len words new count packed short low = record {
     w : ℕ
     w = new_word len place
 
-    es : List Event
+    es : List Access
     es = stores_from place words
 
-    tail : List Event
+    tail : List Access
     tail = Stamped h version ∷ Settled h w ∷ []
 
     t : Shown

@@ -7,8 +7,8 @@ use Rattle.cb_ptr.proofs.Laws.{here_bits}
 use Rattle.cb_types.specs.declared.reply.Reply.{Reply}
 use Rattle.cb_world.specs.declared.object.Object.{Object}
 use Rattle.cb_world.specs.declared.object.Object.TheVariants as is
-use Rattle.cb_world.specs.declared.event.Event.{Event}
-use Rattle.cb_world.specs.declared.event.Event.TheVariants.{Looked, Loaded}
+use Rattle.cb_world.specs.declared.access.Access.{Access}
+use Rattle.cb_world.specs.declared.access.Access.TheVariants.{Looked, Loaded}
 use Rattle.cb_world.specs.declared.shown.Shown.{Shown}
 use Rattle.cb_world.specs.Shown.{Fits, object_at}
 use Rattle.cb_world.specs.Played.{Agree, Agrees, played}
@@ -25,7 +25,7 @@ use Rattle.cb_mutate.specs.ReadEnds.{ReadEnds, LiesInMemory}
 use Rattle.cb_mutate.proofs.WriteSound.{objects_back, claimed_words, claimed_version, absent_before}
 
 -- a claimed object that is settled hot is what it was
-hot_well : (far : FarState) (s t : Shown) (first done : List Event) (h w v : ℕ) (words : List ℕ)
+hot_well : (far : FarState) (s t : Shown) (first done : List Access) (h w v : ℕ) (words : List ℕ)
     (r : Reply) → Sound s far → IsAfterClaim s h w v words first done
     → IsFree w → IsFound h w (first ++ done) → ReadEnds h w r done (played first s) v words t
     → Sound t far × IsShown h (first ++ done) s t
@@ -53,13 +53,13 @@ hot_well far s t first done h w v words r sound a free found x =
     )
 
 -- What holds after a read that began with a claim.
-pub record IsReadDone (far : FarState) (s t : Shown) (es : List Event) (h w : ℕ) (r : Reply)
+pub record IsReadDone (far : FarState) (s t : Shown) (es : List Access) (h w : ℕ) (r : Reply)
     : Type 0 where
   pub sound : Sound t far
   pub effect : ReadEffect h r es s t
   pub rule : ReadHere h es r w
 
-pub read_done : (far : FarState) (s t : Shown) (first done : List Event) (h w v : ℕ)
+pub read_done : (far : FarState) (s t : Shown) (first done : List Access) (h w v : ℕ)
     (words : List ℕ) (r : Reply) → Sound s far → IsAfterClaim s h w v words first done → IsFree w
     → IsFound h w (first ++ done) → IsTaken h v words (first ++ done)
     → ReadEnds h w r done (played first s) v words t
@@ -71,13 +71,13 @@ read_done far s t first done h w v words r sound a free found taken x =
       rule = inl (free.1, (v, words, taken, x.shown));
     }
 
-loaded_later : (p x : ℕ) (es fs : List Event) → IsLoaded p x fs → IsLoaded p x (es ++ fs)
+loaded_later : (p x : ℕ) (es fs : List Access) → IsLoaded p x fs → IsLoaded p x (es ++ fs)
 loaded_later p x [] fs a = a
 loaded_later p x (Loaded q y ∷ es) fs a = inl (loaded_later p x es fs a)
 loaded_later p x (e ∷ es) fs a = loaded_later p x es fs a
 
 -- what is seen of a word that is not free is by what was told after the look too
-pub read_before : (q : State) (h w : ℕ) (es fs : List Event) (r : Reply)
+pub read_before : (q : State) (h w : ℕ) (es fs : List Access) (r : Reply)
     → AnsweredAs q (ReadHere h fs r) w h fs r
     → AnsweredAs q (ReadHere h (es ++ fs) r) w h (es ++ fs) r
 read_before state.Empty h w es fs r a = absent_before state.Empty h es fs r a
@@ -97,13 +97,13 @@ read_before state.Here h w es fs r (inr a) = inr (
   ),
 )
 
-read_empty : (v h : ℕ) (es : List Event) (s t : Shown) (r : Reply) → EmptyAnswer v r
+read_empty : (v h : ℕ) (es : List Access) (s t : Shown) (r : Reply) → EmptyAnswer v r
     → IsStill es s t → ReadEffect h r es s t
 read_empty zero h es s t r e still = subst (λ (q : Reply). ReadEffect h q es s t) (sym e) still
 read_empty (suc v) h es s t r e still = subst (λ (q : Reply). ReadEffect h q es s t) (sym e) still
 
 -- a read that found no free word changes nothing
-pub left_effect : (q : State) (h w : ℕ) (reads es : List Event) (s t : Shown) (r : Reply)
+pub left_effect : (q : State) (h w : ℕ) (reads es : List Access) (s t : Shown) (r : Reply)
     → state_of w ≡ q → (IsFree w → ⊥) → IsFound h w es
     → AnsweredAs q (ReadHere h reads r) w h reads r → IsStill es s t → ReadEffect h r es s t
 left_effect state.Empty h w reads es s t r e busy found a still = read_empty a.0 h es s t r a.2 still
@@ -140,7 +140,7 @@ fits_here (is.Here len place) w f e = λ i. is.Here (sym f.1 i) (sym f.2 i)
 fits_here (is.Claimed len place v words) w f e = absurd (moving_here (sym f.4 ∙ e))
 
 -- a word that was seen here names words of the memory
-pub seen_within : (far : FarState) (s : Shown) (before : List Event) (h w size : ℕ) → Sound s far
+pub seen_within : (far : FarState) (s : Shown) (before : List Access) (h w size : ℕ) → Sound s far
     → AreLooks h before → Agree s (look_after before h w) → state_of w ≡ state.Here
     → length s.memory ≡ size → LiesInMemory w size
 seen_within far s before h w size sound looks agree here sized =

@@ -7,8 +7,8 @@ use Rattle.cb_ptr.specs.Word.{state_of, len_of, place_of, pins_of}
 use Rattle.cb_types.specs.declared.reply.Reply.{Reply}
 use Rattle.cb_types.specs.declared.reply.Reply.TheVariants as answer
 use Rattle.cb_world.specs.declared.object.Object.TheVariants as is
-use Rattle.cb_world.specs.declared.event.Event.{Event}
-use Rattle.cb_world.specs.declared.event.Event.TheVariants.{Looked, Claimed, Told, Loaded, Stored, Stamped, Settled}
+use Rattle.cb_world.specs.declared.access.Access.{Access}
+use Rattle.cb_world.specs.declared.access.Access.TheVariants.{Looked, Claimed, Told, Loaded, Stored, Stamped, Settled}
 use Rattle.cb_world.specs.declared.shown.Shown.{Shown}
 use Rattle.cb_world.specs.Memory.{words_for, bytes_in}
 use Rattle.cb_world.specs.Shown.{Covers, Spares, object_at, never}
@@ -28,7 +28,7 @@ use Rattle.cb_mutate.specs.CallStep.{ReadChange, IsReadStep, with_seen}
 use Rattle.cb_mutate.proofs.Stepping.{IsExact, is_exact, ComesTo, comes, reply_comes}
 
 -- a memory word of an object that stays as it is was read as it stands
-loaded_there : (es : List Event) (x y : Words) (s : Shown) (h len place p u : ℕ) → Plain x es y
+loaded_there : (es : List Access) (x y : Words) (s : Shown) (h len place p u : ℕ) → Plain x es y
     → Allowed s es → LeavesUnclaimed h es → object_at s h ≡ is.Here len place → Covers place len p
     → IsLoaded p u es → u ≡ get_or x.memory p 0
 loaded_there [] x y s h len place p u run ok leaves here covers loaded = absurd loaded
@@ -73,7 +73,7 @@ in_range x h here = elim (cases_lt h (length x.words)) [
     empty_here e = cc
 
 -- an object with pins was read as it stands
-pinned_words : (x y : Words) (far : FarState) (s : Shown) (es : List Event) (h : ℕ)
+pinned_words : (x y : Words) (far : FarState) (s : Shown) (es : List Access) (h : ℕ)
     (words : List ℕ) → RunsStill x y far s es → state_of (word_at x h) ≡ state.Here
     → 1 ≤ pins_of (word_at x h) → length words ≡ words_for (len_of (word_at x h))
     → AreLoaded (place_of (word_at x h)) words es → words ≡ contents_at x h
@@ -90,7 +90,7 @@ pinned_words x y far s es h words r here pinned count loaded =
     ∙ sym (window_at x.memory (place_of w) (words_for (len_of w)) i (omega (arith, below, count))))
 
 -- every word after a read that was answered bytes
-seen : (x y : Words) (far : FarState) (s : Shown) (es : List Event) (h : ℕ)
+seen : (x y : Words) (far : FarState) (s : Shown) (es : List Access) (h : ℕ)
     → RunsStill x y far s es → IsExact x h es → state_of (word_at x h) ≡ state.Here
     → IsShown h es s (played es s) → y ≡ with_seen x h
 seen x y far s es h r exact here z = by (cases_lt 0 (pins_of w))
@@ -136,13 +136,13 @@ seen x y far s es h r exact here z = by (cases_lt 0 (pins_of w))
         (eq-eqb (pins_of w) 0 free))
 
 -- What a read leaves, by its reply: as its effect says it, and as a step does.
-abbrev Does : ℕ → List Event → Shown → Reply → Type 0
+abbrev Does : ℕ → List Access → Shown → Reply → Type 0
 Does h es s q = ReadEffect h q es s (played es s)
 
 abbrev Leaves_ : Words → Words → ℕ → Reply → Type 0
 Leaves_ x y h q = ReadChange q x y h
 
-here_comes : (x y : Words) (far : FarState) (s : Shown) (es : List Event) (h : ℕ) (r : Reply)
+here_comes : (x y : Words) (far : FarState) (s : Shown) (es : List Access) (h : ℕ) (r : Reply)
     → RunsStill x y far s es → IsExact x h es → state_of (word_at x h) ≡ state.Here
     → Does h es s r → ReadHere h es r (word_at x h)
     → ComesTo (Does h es s) (Leaves_ x y h) r
@@ -188,10 +188,10 @@ read_step x y far new s h r k p =
     )
 
 -- the word that one look found is the object's
-looked_word : (x y : Words) (h w : ℕ) (es : List Event) → Plain x es y → es ≡ Looked h w ∷ []
+looked_word : (x y : Words) (h w : ℕ) (es : List Access) → Plain x es y → es ≡ Looked h w ∷ []
     → w ≡ word_at x h
 looked_word x y h w es run e =
-    let only : Plain x (Looked h w ∷ []) y = subst (λ (l : List Event). Plain x l y) e run in
+    let only : Plain x (Looked h w ∷ []) y = subst (λ (l : List Access). Plain x l y) e run in
     sym only.0.0
 
 -- And one that found no memory for the bytes has looked at an object that is here, and left every

@@ -7,8 +7,8 @@ use Rattle.cb_ptr.specs.Word.{fields_of, state_of, hot_of, len_of, place_of, pin
 use Rattle.cb_types.specs.declared.reply.Reply.TheVariants as answer
 use Rattle.cb_world.specs.declared.object.Object.{Object}
 use Rattle.cb_world.specs.declared.object.Object.TheVariants as is
-use Rattle.cb_world.specs.declared.event.Event.{Event}
-use Rattle.cb_world.specs.declared.event.Event.TheVariants.{Told, Loaded, Settled}
+use Rattle.cb_world.specs.declared.access.Access.{Access}
+use Rattle.cb_world.specs.declared.access.Access.TheVariants.{Told, Loaded, Settled}
 use Rattle.cb_world.specs.declared.shown.Shown.{Shown}
 use Rattle.cb_world.specs.Memory.{window, words_for, bytes_in}
 use Rattle.cb_world.specs.Shown.{Covers, object_at, version_at}
@@ -65,28 +65,28 @@ hot_written s h w v n words c k old =
     cond b [] (entry h (version_at s h) (len_of n) words (settled_words s n) ∷ []) ++ old)
     (eq-eqb (version_at s h) v c.version)
 
-pub loads_are_stores : (es : List Event) → AreLoads es → AreStores es
+pub loads_are_stores : (es : List Access) → AreLoads es → AreStores es
 loads_are_stores [] a = tt
 loads_are_stores (Loaded p x ∷ es) a = loads_are_stores es a
 loads_are_stores (e ∷ es) a = absurd a
 
-pub loads_are_reads : (h : ℕ) (es : List Event) → AreLoads es → AreReads h es
+pub loads_are_reads : (h : ℕ) (es : List Access) → AreLoads es → AreReads h es
 loads_are_reads h [] a = tt
 loads_are_reads h (Loaded p x ∷ es) a = loads_are_reads h es a
 loads_are_reads h (e ∷ es) a = absurd a
 
-pub loads_allowed : (es : List Event) (s : Shown) → AreLoads es → Allowed s es
+pub loads_allowed : (es : List Access) (s : Shown) → AreLoads es → Allowed s es
 loads_allowed [] s a = tt
 loads_allowed (Loaded p x ∷ es) s a = (tt, loads_allowed es s a)
 loads_allowed (e ∷ es) s a = absurd a
 
 -- what is known after the reads and the settling
-pub hot_at_end : (s : Shown) (es : List Event) (h w n : ℕ) → AreLoads es → IsSameSlot w n
+pub hot_at_end : (s : Shown) (es : List Access) (h w n : ℕ) → AreLoads es → IsSameSlot w n
     → played (es ++ Settled h n ∷ []) s ≡ with_settled s h w true
 hot_at_end s es h w n loads k = played_append es (Settled h n ∷ []) s
     ∙ ap (after (Settled h n)) (loads_keep es s loads) ∙ settled_hot s h w n k
 
-pub hot_writes_none : (s : Shown) (es : List Event) (h w v x n : ℕ) (words : List ℕ)
+pub hot_writes_none : (s : Shown) (es : List Access) (h w v x n : ℕ) (words : List ℕ)
     → AreLoads es → IsClaimedAt s h w v words → IsSameSlot w n
     → Writes (Told h x ∷ (es ++ Settled h n ∷ [])) s []
 hot_writes_none s es h w v x n words loads c k old =

@@ -7,8 +7,8 @@ use Rattle.cb_ptr.specs.Word.{fields_of, state_of, hot_of, len_of, place_of, pin
 use Rattle.cb_ptr.specs.Steps.{Claims, Settles}
 use Rattle.cb_world.specs.declared.object.Object.{Object}
 use Rattle.cb_world.specs.declared.object.Object.TheVariants as is
-use Rattle.cb_world.specs.declared.event.Event.{Event}
-use Rattle.cb_world.specs.declared.event.Event.TheVariants.{Told, Loaded, Stored, Stamped, Settled}
+use Rattle.cb_world.specs.declared.access.Access.{Access}
+use Rattle.cb_world.specs.declared.access.Access.TheVariants.{Told, Loaded, Stored, Stamped, Settled}
 use Rattle.cb_world.specs.Memory.{window, put, words_for}
 use Rattle.cb_world.specs.StillDesk.{window_length}
 use Rattle.cb_world.specs.declared.shown.Shown.{Shown}
@@ -70,13 +70,13 @@ may_settle_written s t h w v n at words bytes new c wrote inside k e =
         c.alone p (subst (λ (l : ℕ). Covers (place_of w) l p) k.2 covers) in
         (subst (λ (m : ℕ). p < m) (sym (length_put s.memory (place_of w) new)) had.0, had.1))
 
-pub stores_no_look : (h : ℕ) (es fs : List Event) → AreStores es → NoLook h fs → NoLook h (es ++ fs)
+pub stores_no_look : (h : ℕ) (es fs : List Access) → AreStores es → NoLook h fs → NoLook h (es ++ fs)
 stores_no_look h [] fs a b = b
 stores_no_look h (Loaded p x ∷ es) fs a b = ((λ w e. e), stores_no_look h es fs a b)
 stores_no_look h (Stored p x ∷ es) fs a b = ((λ w e. e), stores_no_look h es fs a b)
 stores_no_look h (e ∷ es) fs a b = absurd a
 
-pub stores_told : (es fs : List Event) (s : Shown) → AreStores es
+pub stores_told : (es fs : List Access) (s : Shown) → AreStores es
     → told_by (es ++ fs) s ≡ told_by fs s
 stores_told [] fs s a = refl
 stores_told (Loaded p x ∷ es) fs s a = stores_told es fs s a
@@ -84,7 +84,7 @@ stores_told (Stored p x ∷ es) fs s a = stores_told es fs s a
 stores_told (e ∷ es) fs s a = absurd a
 
 -- what the stores of a write left, told by the fields of the word
-pub overwrote : (s : Shown) (es : List Event) (w at : ℕ) (bytes : List ℕ) (f : PtrWord)
+pub overwrote : (s : Shown) (es : List Access) (w at : ℕ) (bytes : List ℕ) (f : PtrWord)
     → f ≡ fields_of w → Rewrites s f.place f.len at bytes es
     → Rewrites s (place_of w) (len_of w) at bytes es
 overwrote s es w at bytes f e x =
@@ -95,12 +95,12 @@ pub owned_at : (s : Shown) (h w v : ℕ) (words : List ℕ) (f : PtrWord) → f 
 owned_at s h w v words f e c = subst (λ (g : PtrWord). OwnsAll s g.place g.len) (sym e) c.owned
 
 -- what is at the words of the object by the fields of its word is so by the word
-pub touches_at : (h w : ℕ) (f : PtrWord) → f ≡ fields_of w → (es : List Event)
+pub touches_at : (h w : ℕ) (f : PtrWord) → f ≡ fields_of w → (es : List Access)
     → Touches h f.place f.len es → Touches h (place_of w) (len_of w) es
 touches_at h w f e es x = subst (λ (g : PtrWord). Touches h g.place g.len es) e x
 
 -- after the stores the version word is stored
-pub stamped : (s : Shown) (es : List Event) (h v x place : ℕ) (new : List ℕ)
+pub stamped : (s : Shown) (es : List Access) (h v x place : ℕ) (new : List ℕ)
     → played es s ≡ record s { memory = put s.memory place new } → x ≡ v
     → played (es ++ Stamped h (x + 1) ∷ []) s ≡ record s {
       versions =
@@ -113,7 +113,7 @@ stamped s es h v x place new e same = played_append es (Stamped h (x + 1) ∷ []
     record s { versions = set s.versions h (u + 1); memory = put s.memory place new } in q) same
 
 -- and then the word
-pub settled_at_end : (s : Shown) (es : List Event) (h w v x n : ℕ) (new : List ℕ)
+pub settled_at_end : (s : Shown) (es : List Access) (h w v x n : ℕ) (new : List ℕ)
     → played es s ≡ record s { memory = put s.memory (place_of w) new } → x ≡ v
     → (state_of n ≡ word.Here) × (pins_of n ≡ 0) × (len_of n ≡ len_of w) × (place_of n ≡ place_of w)
     × (hot_of n ≡ true) × (n < 2 ^ 53)
@@ -144,20 +144,20 @@ settled_at_end s es h w v x n new e same k =
           set s.hots h b;
     } in q) k.4
 
-stores_no_claim : (es fs : List Event) → AreStores es → NoClaim fs → NoClaim (es ++ fs)
+stores_no_claim : (es fs : List Access) → AreStores es → NoClaim fs → NoClaim (es ++ fs)
 stores_no_claim [] fs a b = b
 stores_no_claim (Loaded p x ∷ es) fs a b = stores_no_claim es fs a b
 stores_no_claim (Stored p x ∷ es) fs a b = stores_no_claim es fs a b
 stores_no_claim (e ∷ es) fs a b = absurd a
 
-pub stores_first : (es fs : List Event) → AreStores es → NoClaim fs → LooksFirst fs
+pub stores_first : (es fs : List Access) → AreStores es → NoClaim fs → LooksFirst fs
     → LooksFirst (es ++ fs)
 stores_first [] fs a b c = c
 stores_first (Loaded p x ∷ es) fs a b c = stores_first es fs a b c
 stores_first (Stored p x ∷ es) fs a b c = (stores_no_claim es fs a b, stores_first es fs a b c)
 stores_first (e ∷ es) fs a b c = absurd a
 
-pub stores_settle_last : (es fs : List Event) → AreStores es → SettlesLast fs
+pub stores_settle_last : (es fs : List Access) → AreStores es → SettlesLast fs
     → SettlesLast (es ++ fs)
 stores_settle_last [] fs a b = b
 stores_settle_last (Loaded p x ∷ es) fs a b = stores_settle_last es fs a b
@@ -165,7 +165,7 @@ stores_settle_last (Stored p x ∷ es) fs a b = stores_settle_last es fs a b
 stores_settle_last (e ∷ es) fs a b = absurd a
 
 -- stores write nothing
-pub stores_written : (es fs : List Event) (s : Shown) (old : List Entry) → AreStores es
+pub stores_written : (es fs : List Access) (s : Shown) (old : List Entry) → AreStores es
     → written_by (es ++ fs) s old ≡ written_by fs (played es s) old
 stores_written [] fs s old a = refl
 stores_written (Loaded p x ∷ es) fs s old a = stores_written es fs s old a
@@ -173,7 +173,7 @@ stores_written (Stored p x ∷ es) fs s old a = stores_written es fs (after (Sto
 stores_written (e ∷ es) fs s old a = absurd a
 
 -- the stores, the next version and the word write that version
-pub wrote_one : (s : Shown) (es : List Event) (h w v x n at : ℕ) (words bytes new : List ℕ)
+pub wrote_one : (s : Shown) (es : List Access) (h w v x n at : ℕ) (words bytes new : List ℕ)
     → AreStores es → IsClaimedAt s h w v words → IsWrite words at bytes new
     → played es s ≡ record s { memory = put s.memory (place_of w) new } → x ≡ v
     → (state_of n ≡ word.Here) × (pins_of n ≡ 0) × (len_of n ≡ len_of w) × (place_of n ≡ place_of w)

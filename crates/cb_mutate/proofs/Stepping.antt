@@ -6,7 +6,7 @@ use Rattle.cb_ptr.specs.declared.word.State.TheVariants as state
 use Rattle.cb_ptr.specs.Word.{len_of, place_of, pins_of}
 use Rattle.cb_types.specs.declared.reply.Reply.{Reply}
 use Rattle.cb_types.specs.declared.reply.Reply.TheVariants as answer
-use Rattle.cb_world.specs.declared.event.Event.{Event}
+use Rattle.cb_world.specs.declared.access.Access.{Access}
 use Rattle.cb_world.specs.Memory.{window, words_for}
 use Rattle.cb_world.specs.Plain.{Words, Plain}
 use Rattle.cb_world.specs.Looks.{IsFound, IsTaken, IsTold, LooksFirst}
@@ -19,13 +19,13 @@ use Rattle.cb_mutate.specs.WriteRule.{NextVersion}
 use Rattle.cb_mutate.specs.StillReplies.{empty_reply, reply_as, next_reply, change_reply}
 
 -- what holds of a call by what was found there
-pub record IsExact (x : Words) (h : ℕ) (es : List Event) : Type 0 where
+pub record IsExact (x : Words) (h : ℕ) (es : List Access) : Type 0 where
   pub found : (w : ℕ) → IsFound h w es → w ≡ word_at x h
   pub taken : (v : ℕ) (words : List ℕ) → IsTaken h v words es
       → (v ≡ stamp_at x h) × (words ≡ contents_at x h)
   pub told : (v : ℕ) → IsTold h v es → v ≡ stamp_at x h
 
-pub is_exact : (x y : Words) (h : ℕ) (es : List Event) → Plain x es y → LooksFirst es
+pub is_exact : (x y : Words) (h : ℕ) (es : List Access) → Plain x es y → LooksFirst es
     → SettlesLast es → IsExact x h es
 is_exact x y h es run first last = record {
   found = λ w f. sym (found_exact es x y h w run first f);
@@ -62,7 +62,7 @@ empty_comes E C (suc v) r l e effect = comes E C r answer.Freed e effect l.freed
 
 -- a call whose reply is by the state of the word
 pub reply_comes : (E C : Reply → Type 0) (q : State) (here : ℕ → Type 0) (is : Reply) (w h v : ℕ)
-    (es : List Event) (r : Reply) → LeavesAbsent E C → ((u : ℕ) → IsTold h u es → u ≡ v)
+    (es : List Access) (r : Reply) → LeavesAbsent E C → ((u : ℕ) → IsTold h u es → u ≡ v)
     → (q ≡ state.Here → here w → ComesTo E C r is) → AnsweredAs q here w h es r → E r
     → ComesTo E C r (reply_as q v is)
 reply_comes E C state.Empty here is w h v es r l told at a effect =

@@ -7,8 +7,8 @@ use Rattle.cb_types.specs.declared.config.Config.{Config}
 use Rattle.cb_span.specs.declared.temp.Temp.TheVariants.{Hot}
 use Rattle.cb_span.specs.Contents.{new_span}
 use Rattle.cb_types.specs.declared.reply.Reply.TheVariants as answer
-use Rattle.cb_world.specs.declared.event.Event.{Event}
-use Rattle.cb_world.specs.declared.event.Event.TheVariants.{Stored, Stamped, Settled}
+use Rattle.cb_world.specs.declared.access.Access.{Access}
+use Rattle.cb_world.specs.declared.access.Access.TheVariants.{Stored, Stamped, Settled}
 use Rattle.cb_world.specs.Memory.{bytes_in, memory_byte}
 use Rattle.cb_world.specs.Empty.{empty_far}
 use Rattle.cb_world.specs.FarState.{FarState}
@@ -102,7 +102,7 @@ no_room class zero may = absurd (let z : None ≡ Some (2 * class.index + 0) = m
 no_room class (suc zero) may = absurd (let z : None ≡ Some (2 * class.index + 0) = may.0 in cc)
 no_room class (suc (suc f)) may = absurd (let z : None ≡ Some (2 * class.index + 0) = may.0 in cc)
 
-abbrev done : List Event
+abbrev done : List Access
 done = make_events 2 1 3 512 (197121 ∷ [])
 
 make : IsMake 2 1 three far (with_made far slot) done
@@ -154,7 +154,7 @@ made_beyond_the_end : ¬ (MakeRule 2 three far (with_made far slot)
 made_beyond_the_end x = absurd (let z : 2 < 2 = x.0 in omega (arith, z))
 
 refused_with_a_store : ¬ (MakeRule 2 three far far (answer.Full 2) (Stored 0 0 ∷ []))
-refused_with_a_store x = absurd (let z : 1 ≡ 0 = ap (λ (es : List Event). length es) x.2.1 in
+refused_with_a_store x = absurd (let z : 1 ≡ 0 = ap (λ (es : List Access). length es) x.2.1 in
     omega (arith, z))
 
 -- no frame where a frame is free

@@ -2,8 +2,8 @@
 -- what breaks one part alone.
 use Rattle.std.proofs.Common.{◌≡◌, ℕ, List, [], ◌∷◌, ap, ◌∙◌, arith, refl, length}
 use Rattle.cb_ptr.specs.Word.{state_number, state_of}
-use Rattle.cb_world.specs.declared.event.Event.{Event}
-use Rattle.cb_world.specs.declared.event.Event.TheVariants.{Looked, Settled}
+use Rattle.cb_world.specs.declared.access.Access.{Access}
+use Rattle.cb_world.specs.declared.access.Access.TheVariants.{Looked, Settled}
 use Rattle.cb_world.specs.declared.grasp.Grasp.TheVariants.{Claimed, Left}
 use Rattle.cb_mutate.specs.ReadRule.{IsSeenHere}
 use Rattle.cb_mutate.specs.Reaches.{HasReadRoom}
@@ -18,11 +18,11 @@ hot = 16390
 abbrev away : ℕ
 away = 16385
 
-abbrev looked_at : List Event → ℕ
+abbrev looked_at : List Access → ℕ
 looked_at (Looked h w ∷ es) = h
 looked_at es = 9
 
-abbrev word_seen : List Event → ℕ
+abbrev word_seen : List Access → ℕ
 word_seen (Looked h w ∷ es) = w
 word_seen es = 0
 
@@ -37,7 +37,7 @@ seen_another x = let e : 1 ≡ 0 = ap looked_at x.1 in omega (arith, e)
 
 seen_far : IsSeenHere 0 (Looked 0 away ∷ []) → ⊥
 seen_far x = let e : 1 ≡ 2 =
-    ap (λ (es : List Event). state_number (state_of (word_seen es))) x.1 ∙ ap state_number x.2 in
+    ap (λ (es : List Access). state_number (state_of (word_seen es))) x.1 ∙ ap state_number x.2 in
     omega (arith, e)
 
 has_room : HasReadRoom (Claimed calm) (0 ∷ 0 ∷ [])

@@ -7,8 +7,8 @@ use Rattle.cb_ptr.specs.Word.{hot_of, len_of, place_of, pins_of}
 use Rattle.cb_types.specs.declared.reply.Reply.{Reply}
 use Rattle.cb_types.specs.declared.reply.Reply.TheVariants as answer
 use Rattle.cb_world.specs.declared.object.Object.TheVariants as is
-use Rattle.cb_world.specs.declared.event.Event.{Event}
-use Rattle.cb_world.specs.declared.event.Event.TheVariants.{Told, Loaded}
+use Rattle.cb_world.specs.declared.access.Access.{Access}
+use Rattle.cb_world.specs.declared.access.Access.TheVariants.{Told, Loaded}
 use Rattle.cb_world.specs.Reads.{AreReads}
 use Rattle.cb_world.specs.declared.shown.Shown.{Shown}
 use Rattle.cb_world.specs.Memory.{put, words_for}
@@ -56,7 +56,7 @@ next_version s t hots h w v words newer same c =
     let now = get_or-set_same (set s.versions h v) h (v + 1) 0 stamp in omega (arith, newer, now)
 
 -- a claim that is given back changes nothing
-pub back_well : (far : FarState) (s t : Shown) (first done : List Event) (h w v : ℕ)
+pub back_well : (far : FarState) (s t : Shown) (first done : List Access) (h w v : ℕ)
     (words : List ℕ) → Sound s far → IsAfterClaim s h w v words first done
     → IsBack (played first s) h w done t → Sound t far × IsStill (first ++ done) s t
 back_well far s t first done h w v words sound a back =
@@ -79,7 +79,7 @@ back_well far s t first done h w v words sound a back =
       },
     )
 
-rewritten_well : (far : FarState) (s t : Shown) (first done : List Event) (h w v at : ℕ)
+rewritten_well : (far : FarState) (s t : Shown) (first done : List Access) (h w v at : ℕ)
     (words bytes : List ℕ) → Sound s far → IsAfterClaim s h w v words first done
     → IsFound h w (first ++ done) → IsTaken h v words (first ++ done)
     → at + length bytes ≤ len_of w → IsRewritten (played first s) h w v at words bytes done t
@@ -118,13 +118,13 @@ rewritten_well far s t first done h w v at words bytes sound a found taken insid
     )
 
 -- What holds after a write that began with a claim.
-pub record IsWriteDone (far : FarState) (s t : Shown) (es : List Event) (h w at : ℕ)
+pub record IsWriteDone (far : FarState) (s t : Shown) (es : List Access) (h w at : ℕ)
     (bytes : List ℕ) (r : Reply) : Type 0 where
   pub sound : Sound t far
   pub effect : WriteEffect h at bytes r es s t
   pub rule : WriteHere h at bytes es r w
 
-pub write_done : (far : FarState) (s t : Shown) (first done : List Event) (h w v at : ℕ)
+pub write_done : (far : FarState) (s t : Shown) (first done : List Access) (h w v at : ℕ)
     (words bytes : List ℕ) (r : Reply) → Sound s far → IsAfterClaim s h w v words first done
     → IsFree w → IsFound h w (first ++ done) → IsTaken h v words (first ++ done)
     → WriteEnds h w at bytes r done (played first s) v words t
@@ -159,14 +159,14 @@ write_done far s t first done h w v at words bytes r sound a free found taken (i
         }
 
 -- an object that is not here is answered by what was told after the look too
-pub absent_before : (q : State) (h : ℕ) (es fs : List Event) (r : Reply) → AbsentAs q h fs r
+pub absent_before : (q : State) (h : ℕ) (es fs : List Access) (r : Reply) → AbsentAs q h fs r
     → AbsentAs q h (es ++ fs) r
 absent_before state.Empty h es fs r a = (a.0, told_before h a.0 es fs a.1, a.2)
 absent_before state.Far h es fs r a = a
 absent_before state.Here h es fs r a = a
 absent_before state.Moving h es fs r a = a
 
-write_here_before : (h w at : ℕ) (bytes : List ℕ) (es fs : List Event) (r : Reply)
+write_here_before : (h w at : ℕ) (bytes : List ℕ) (es fs : List Access) (r : Reply)
     → WriteHere h at bytes fs r w → WriteHere h at bytes (es ++ fs) r w
 write_here_before h w at bytes es fs r (inl a) = inl a
 write_here_before h w at bytes es fs r (inr a) = inr (a.0, pinned a.1)
@@ -181,7 +181,7 @@ write_here_before h w at bytes es fs r (inr a) = inr (a.0, pinned a.1)
         inr (b.0, (b.1.0, b.1.1, taken_before h b.1.0 b.1.1 es fs b.1.2, b.1.3))
 
 -- a refusal is by what was told after the look too
-pub write_before : (q : State) (h w at : ℕ) (bytes : List ℕ) (es fs : List Event) (r : Reply)
+pub write_before : (q : State) (h w at : ℕ) (bytes : List ℕ) (es fs : List Access) (r : Reply)
     → AnsweredAs q (WriteHere h at bytes fs r) w h fs r
     → AnsweredAs q (WriteHere h at bytes (es ++ fs) r) w h (es ++ fs) r
 write_before state.Here h w at bytes es fs r a = write_here_before h w at bytes es fs r a
@@ -189,13 +189,13 @@ write_before state.Empty h w at bytes es fs r a = absent_before state.Empty h es
 write_before state.Far h w at bytes es fs r a = a
 write_before state.Moving h w at bytes es fs r a = a
 
-pub no_taken : (h v : ℕ) (words : List ℕ) (es : List Event) → AreReads h es → IsTaken h v words es → ⊥
+pub no_taken : (h v : ℕ) (words : List ℕ) (es : List Access) → AreReads h es → IsTaken h v words es → ⊥
 no_taken h v words [] reads taken = taken
 no_taken h v words (Told k u ∷ es) reads taken = no_taken h v words es reads.1 taken
 no_taken h v words (Loaded p x ∷ es) reads taken = no_taken h v words es reads taken
 no_taken h v words (e ∷ es) reads taken = reads
 
-empty_effect : (v h at : ℕ) (bytes : List ℕ) (es : List Event) (s t : Shown) (r : Reply)
+empty_effect : (v h at : ℕ) (bytes : List ℕ) (es : List Access) (s t : Shown) (r : Reply)
     → EmptyAnswer v r → IsStill es s t → WriteEffect h at bytes r es s t
 empty_effect zero h at bytes es s t r e still =
     subst (λ (q : Reply). WriteEffect h at bytes q es s t) (sym e) still
@@ -203,7 +203,7 @@ empty_effect (suc v) h at bytes es s t r e still =
     subst (λ (q : Reply). WriteEffect h at bytes q es s t) (sym e) still
 
 -- a write that found no free word changes nothing
-pub refused_effect : (q : State) (h w at : ℕ) (bytes : List ℕ) (reads es : List Event)
+pub refused_effect : (q : State) (h w at : ℕ) (bytes : List ℕ) (reads es : List Access)
     (s t : Shown) (r : Reply) → AreReads h reads
     → AnsweredAs q (WriteHere h at bytes reads r) w h reads r → IsStill es s t
     → WriteEffect h at bytes r es s t

@@ -5,7 +5,7 @@ use Rattle.cb_ptr.specs.declared.word.State.TheVariants as state
 use Rattle.cb_ptr.specs.Word.{state_of, len_of, place_of, pins_of}
 use Rattle.cb_types.specs.declared.reply.Reply.{Reply}
 use Rattle.cb_types.specs.declared.reply.Reply.TheVariants as answer
-use Rattle.cb_world.specs.declared.event.Event.{Event}
+use Rattle.cb_world.specs.declared.access.Access.{Access}
 use Rattle.cb_world.specs.declared.shown.Shown.{Shown}
 use Rattle.cb_world.specs.Memory.{put}
 use Rattle.cb_world.specs.Write.{IsWrite}
@@ -25,7 +25,7 @@ use Rattle.cb_mutate.specs.Wordwise.{IsWordwise}
 use Rattle.cb_mutate.proofs.Stepping.{IsExact, is_exact, ComesTo, comes, reply_comes, next_comes, change_comes}
 
 -- every word after a write that was answered a version
-overwritten : (x y : Words) (far : FarState) (s : Shown) (es : List Event) (h n at : ℕ)
+overwritten : (x y : Words) (far : FarState) (s : Shown) (es : List Access) (h n at : ℕ)
     (bytes : List ℕ) → RunsStill x y far s es → IsExact x h es → IsFree (word_at x h)
     → IsWritten h n at bytes es s (played es s) → IsOverwritten x y h n at bytes
 overwritten x y far s es h n at bytes r exact free z =
@@ -55,13 +55,13 @@ overwritten x y far s es h n at bytes r exact free z =
     }
 
 -- What a write leaves, by its reply: as its effect says it, and as a step does.
-abbrev Does : ℕ → ℕ → List ℕ → List Event → Shown → Reply → Type 0
+abbrev Does : ℕ → ℕ → List ℕ → List Access → Shown → Reply → Type 0
 Does h at bytes es s q = WriteEffect h at bytes q es s (played es s)
 
 abbrev Leaves : Words → Words → ℕ → ℕ → List ℕ → Reply → Type 0
 Leaves x y h at bytes q = WriteChange q x y h at bytes
 
-here_comes : (x y : Words) (far : FarState) (s : Shown) (es : List Event) (h at : ℕ)
+here_comes : (x y : Words) (far : FarState) (s : Shown) (es : List Access) (h at : ℕ)
     (bytes : List ℕ) (r : Reply) → RunsStill x y far s es → IsExact x h es
     → state_of (word_at x h) ≡ state.Here → Does h at bytes es s r
     → WriteHere h at bytes es r (word_at x h)

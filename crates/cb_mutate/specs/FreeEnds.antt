@@ -3,8 +3,8 @@ use Rattle.std.specs.Prelude.{◌≡◌, ◌⊎◌, ℕ, false, ◌+◌, ◌-◌
 use Rattle.cb_types.specs.declared.reply.Reply.{Reply}
 use Rattle.cb_types.specs.declared.reply.Reply.TheVariants as answer
 use Rattle.cb_world.specs.declared.object.Object.TheVariants as is
-use Rattle.cb_world.specs.declared.event.Event.{Event}
-use Rattle.cb_world.specs.declared.event.Event.TheVariants.{Told, Stamped, Settled}
+use Rattle.cb_world.specs.declared.access.Access.{Access}
+use Rattle.cb_world.specs.declared.access.Access.TheVariants.{Told, Stamped, Settled}
 use Rattle.cb_world.specs.declared.shown.Shown.{Shown}
 use Rattle.cb_world.specs.Written.{Writes, gone}
 use Rattle.cb_mutate.specs.WriteEnds.{IsBack}
@@ -17,20 +17,20 @@ with_emptied s h v = record s {
   versions = slice_set s.versions h (v + 1);
 }
 
-pub record IsEmptied (s : Shown) (h v : ℕ) (words : List ℕ) (es : List Event) (t : Shown)
+pub record IsEmptied (s : Shown) (h v : ℕ) (words : List ℕ) (es : List Access) (t : Shown)
     : Type 0 where
   pub settled : t ≡ with_emptied s h v
   pub one : Writes es s (gone h (v + 1) words ∷ [])
 
 -- with no next version it goes back; else it is emptied
-abbrev pub FreeEnds : ℕ → ℕ → Reply → List Event → Shown → ℕ → List ℕ → Shown → Type 0
+abbrev pub FreeEnds : ℕ → ℕ → Reply → List Access → Shown → ℕ → List ℕ → Shown → Type 0
 FreeEnds h word r es s v words t =
     ((v ≡ 2 ^ 64 - 1) × (r ≡ answer.Worn) × IsBack s h word es t)
     ⊎ ((v < 2 ^ 64 - 1) × (r ≡ answer.Version (v + 1)) × IsEmptied s h v words es t)
 
 -- the version word of a far object was told: with no next version nothing is done; else the next
 -- one is stored, and the object is empty
-abbrev pub FreesFar : (List Event → Type 0) → ℕ → ℕ → Reply → Type 0
+abbrev pub FreesFar : (List Access → Type 0) → ℕ → ℕ → Reply → Type 0
 FreesFar runs h v r =
     ((v ≡ 2 ^ 64 - 1) × (r ≡ answer.Worn) × runs (Told h v ∷ []))
     ⊎ ((v < 2 ^ 64 - 1) × (r ≡ answer.Version (v + 1))

@@ -8,7 +8,7 @@ use Rattle.cb_span.specs.Contents.{Contents, handle_at}
 use Rattle.cb_types.specs.declared.reply.Reply.{Reply}
 use Rattle.cb_types.specs.declared.reply.Reply.TheVariants as answer
 use Rattle.cb_world.specs.declared.object.Object.TheVariants as is
-use Rattle.cb_world.specs.declared.event.Event.{Event}
+use Rattle.cb_world.specs.declared.access.Access.{Access}
 use Rattle.cb_world.specs.declared.shown.Shown.{Shown}
 use Rattle.cb_world.specs.declared.homes.Home.{Home}
 use Rattle.cb_world.specs.Shown.{object_at}
@@ -22,17 +22,17 @@ use Rattle.cb_mutate.specs.Answered.{AnsweredAs, AnsweredByLook}
 use Rattle.cb_mutate.specs.WriteRule.{NextVersion}
 
 -- an object that is here: pinned, or claimed and freed
-abbrev pub FreeHere : ℕ → List Event → Reply → ℕ → Type 0
+abbrev pub FreeHere : ℕ → List Access → Reply → ℕ → Type 0
 FreeHere h es r w = ((1 ≤ pins_of w) × (r ≡ answer.Pinned (pins_of w)))
     ⊎ ((pins_of w ≡ 0)
     × ((v : ℕ) × (words : List ℕ) × IsTaken h v words es × NextVersion v r))
 
 -- an object that is far has a next version, or none
-abbrev pub FreeAway : ℕ → List Event → Reply → Type 0
+abbrev pub FreeAway : ℕ → List Access → Reply → Type 0
 FreeAway h es r = (v : ℕ) × IsTold h v es × NextVersion v r
 
 -- by the state of the word: an object in local memory and a far one are freed
-abbrev pub FreeAs : State → ℕ → ℕ → List Event → Reply → Type 0
+abbrev pub FreeAs : State → ℕ → ℕ → List Access → Reply → Type 0
 FreeAs word.Far w h es r = FreeAway h es r
 FreeAs state w h es r = AnsweredAs state (FreeHere h es r) w h es r
 
@@ -65,17 +65,17 @@ FreeFar w h (answer.Version n) far new = LeavesPlace (state_of w) far new h
 FreeFar w h _ far new = new ≡ far
 
 -- the reply of a free, and the far state after it
-pub record FreeRule (h : ℕ) (far new : FarState) (r : Reply) (es : List Event) : Type 0 where
+pub record FreeRule (h : ℕ) (far new : FarState) (r : Reply) (es : List Access) : Type 0 where
   pub reply : AnsweredByLook (λ w. FreeAs (state_of w) w h es r) h es
   pub state : FreeFar reply.word h r far new
 
 -- the last complete version and words of an object: a claim told them, or it is far
-abbrev pub WasLast : ℕ → ℕ → List ℕ → List Event → Shown → Type 0
+abbrev pub WasLast : ℕ → ℕ → List ℕ → List Access → Shown → Type 0
 WasLast h v words es s =
     IsTaken h v words es ⊎ ((len : ℕ) × (object_at s h ≡ is.Far len v words))
 
 -- the object is empty with its next version, and the version that was written has no words
-pub record IsGone (h n : ℕ) (es : List Event) (s t : Shown) : Type 0 where
+pub record IsGone (h n : ℕ) (es : List Access) (s t : Shown) : Type 0 where
   pub version : ℕ
   pub words : List ℕ
   pub last : WasLast h version words es s
@@ -87,6 +87,6 @@ pub record IsGone (h n : ℕ) (es : List Event) (s t : Shown) : Type 0 where
   pub one : Writes es s (gone h n words ∷ [])
 
 -- what a free with this reply does; a refusal changes nothing
-abbrev pub FreeEffect : ℕ → Reply → List Event → Shown → Shown → Type 0
+abbrev pub FreeEffect : ℕ → Reply → List Access → Shown → Shown → Type 0
 FreeEffect h (answer.Version n) es s t = IsGone h n es s t
 FreeEffect h _ es s t = IsStill es s t

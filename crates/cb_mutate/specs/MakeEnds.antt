@@ -1,6 +1,6 @@
 -- How a new object is written at its place.
 use Rattle.std.specs.Prelude.{◌≡◌, ℕ, ◌+◌, ◌<◌, ◌≤◌, List, length}
-use Rattle.cb_world.specs.declared.event.Event.{Event}
+use Rattle.cb_world.specs.declared.access.Access.{Access}
 use Rattle.cb_world.specs.declared.shown.Shown.{Shown}
 use Rattle.cb_world.specs.Memory.{words_for}
 use Rattle.cb_world.specs.Shown.{Covers, MayLie, object_at, never}
@@ -16,7 +16,7 @@ pub record IsNewAt (s : Shown) (h version place len : ℕ) : Type 0 where
   pub alone : (p : ℕ) → Covers place len p → MayLie s h p
 
 -- the object's words, its version word and its pointer word were stored
-pub record StoresNew (runs : List Event → Type 0) (h version place : ℕ) (bytes : List ℕ)
+pub record StoresNew (runs : List Access → Type 0) (h version place : ℕ) (bytes : List ℕ)
     : Type 0 where
   pub words : List ℕ
   pub packed : AreWordsOf bytes words

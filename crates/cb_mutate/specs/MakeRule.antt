@@ -7,8 +7,8 @@ use Rattle.cb_ptr.specs.Word.{word_of}
 use Rattle.cb_span.specs.declared.temp.Temp.TheVariants.{Hot}
 use Rattle.cb_types.specs.declared.reply.Reply.{Reply}
 use Rattle.cb_types.specs.declared.reply.Reply.TheVariants as answer
-use Rattle.cb_world.specs.declared.event.Event.{Event}
-use Rattle.cb_world.specs.declared.event.Event.TheVariants.{Stamped, Settled}
+use Rattle.cb_world.specs.declared.access.Access.{Access}
+use Rattle.cb_world.specs.declared.access.Access.TheVariants.{Stamped, Settled}
 use Rattle.cb_world.specs.declared.object.Object.TheVariants as is
 use Rattle.cb_world.specs.declared.shown.Shown.{Shown}
 use Rattle.cb_world.specs.Memory.{put}
@@ -30,7 +30,7 @@ new_word len place = word_of (record {
 })
 
 -- each word of the object is stored once, then its version word, then its pointer word
-abbrev pub make_events : ℕ → ℕ → ℕ → ℕ → List ℕ → List Event
+abbrev pub make_events : ℕ → ℕ → ℕ → ℕ → List ℕ → List Access
 make_events h version len place words =
     stores_from place words ++ Stamped h version ∷ Settled h (new_word len place) ∷ []
 
@@ -39,7 +39,7 @@ abbrev pub with_made : FarState → Slot → FarState
 with_made far slot = record (with_object far slot far.made) { made = far.made + 1 }
 
 -- the next handle has the bytes, at the first version, in the slot that they get in a hot span
-pub record IsMake (h version : ℕ) (bytes : List ℕ) (far new : FarState) (es : List Event)
+pub record IsMake (h version : ℕ) (bytes : List ℕ) (far new : FarState) (es : List Access)
     : Type 0 where
   pub class : Class
   pub slot : Slot
@@ -63,12 +63,12 @@ NeedsNewSpan handles len far =
     (far.made < handles) × ((class : Class) × IsClassOf len class × NeedsSpan far class Hot)
 
 -- nothing is done, and the far state stays
-abbrev pub IsRefused : FarState → FarState → List Event → Type 0
+abbrev pub IsRefused : FarState → FarState → List Access → Type 0
 IsRefused far new es = (new ≡ far) × (es ≡ [])
 
 -- the reply of a make, and the far state after it: Full where all of so many handles were made,
 -- then NoFrame where there is no place, else Made
-abbrev pub MakeRule : ℕ → List ℕ → FarState → FarState → Reply → List Event → Type 0
+abbrev pub MakeRule : ℕ → List ℕ → FarState → FarState → Reply → List Access → Type 0
 MakeRule handles bytes far new (answer.Full n) es =
     (far.made ≡ handles) × (n ≡ handles) × IsRefused far new es
 MakeRule handles bytes far new answer.NoFrame es =
@@ -79,7 +79,7 @@ MakeRule handles bytes far new r es = ⊥
 
 -- the object is here in its slot with the words of its bytes at the first version, and not hot;
 -- that version is written; and all else is as it was
-pub record IsMade (h version : ℕ) (bytes : List ℕ) (far new : FarState) (es : List Event)
+pub record IsMade (h version : ℕ) (bytes : List ℕ) (far new : FarState) (es : List Access)
     (s t : Shown) : Type 0 where
   pub make : IsMake h version bytes far new es
   pub objects : t.objects ≡ slice_set s.objects h (is.Here (length bytes) (place_in make.slot))
@@ -89,6 +89,6 @@ pub record IsMade (h version : ℕ) (bytes : List ℕ) (far new : FarState) (es 
   pub one : Writes es s (entry h version (length bytes) [] make.words ∷ [])
 
 -- what a make with this reply does; a refusal changes nothing
-abbrev pub MakeEffect : List ℕ → FarState → FarState → Reply → List Event → Shown → Shown → Type 0
+abbrev pub MakeEffect : List ℕ → FarState → FarState → Reply → List Access → Shown → Shown → Type 0
 MakeEffect bytes far new (answer.Made h version) es s t = IsMade h.n version bytes far new es s t
 MakeEffect bytes far new r es s t = IsStill es s t

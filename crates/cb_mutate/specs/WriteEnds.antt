@@ -3,7 +3,7 @@ use Rattle.std.specs.Prelude.{◌≡◌, ◌⊎◌, ℕ, true, ◌+◌, ◌-◌,
 use Rattle.cb_ptr.specs.Word.{hot_of, len_of, place_of}
 use Rattle.cb_types.specs.declared.reply.Reply.{Reply}
 use Rattle.cb_types.specs.declared.reply.Reply.TheVariants as answer
-use Rattle.cb_world.specs.declared.event.Event.{Event}
+use Rattle.cb_world.specs.declared.access.Access.{Access}
 use Rattle.cb_world.specs.declared.shown.Shown.{Shown}
 use Rattle.cb_world.specs.Memory.{put}
 use Rattle.cb_world.specs.Write.{IsWrite}
@@ -12,7 +12,7 @@ use Rattle.cb_world.specs.Claimed.{with_settled}
 use Rattle.cb_mutate.specs.Wordwise.{IsWordwise}
 
 -- the object is settled as it was
-pub record IsBack (s : Shown) (h word : ℕ) (es : List Event) (t : Shown) : Type 0 where
+pub record IsBack (s : Shown) (h word : ℕ) (es : List Access) (t : Shown) : Type 0 where
   pub settled : t ≡ with_settled s h word (hot_of word)
   pub nothing : Writes es s []
 
@@ -23,7 +23,7 @@ with_rewritten s h word v new = record (with_settled s h word true) {
   memory = put s.memory (place_of word) new;
 }
 
-pub record IsRewritten (s : Shown) (h word v at : ℕ) (words bytes : List ℕ) (es : List Event)
+pub record IsRewritten (s : Shown) (h word v at : ℕ) (words bytes : List ℕ) (es : List Access)
     (t : Shown) : Type 0 where
   pub new : List ℕ
   pub write : IsWrite words at bytes new
@@ -32,7 +32,7 @@ pub record IsRewritten (s : Shown) (h word v at : ℕ) (words bytes : List ℕ) 
   pub one : Writes es s (entry h (v + 1) (len_of word) words new ∷ [])
 
 -- past its end, or with no next version, it goes back; else it is rewritten
-abbrev pub WriteEnds : ℕ → ℕ → ℕ → List ℕ → Reply → List Event → Shown → ℕ → List ℕ → Shown
+abbrev pub WriteEnds : ℕ → ℕ → ℕ → List ℕ → Reply → List Access → Shown → ℕ → List ℕ → Shown
     → Type 0
 WriteEnds h word at bytes r es s v words t =
     ((len_of word < at + length bytes) × (r ≡ answer.Range (len_of word)) × IsBack s h word es t)

@@ -3,7 +3,7 @@ ghost use Rattle.cb_ptr.specs.declared.word.State.TheVariants as state;
 ghost use Rattle.cb_ptr.specs.Word.{state_of, len_of, place_of};
 ghost use Rattle.cb_span.specs.Contents.{Contents};
 ghost use Rattle.cb_types.specs.declared.reply.Reply.TheVariants as answer;
-ghost use Rattle.cb_world.specs.declared.event.Event.{Event};
+ghost use Rattle.cb_world.specs.declared.access.Access.{Access};
 ghost use Rattle.cb_world.specs.declared.shown.Shown.{Shown};
 ghost use Rattle.cb_world.specs.Sound.{Sound};
 ghost use Rattle.cb_world.specs.Grasped.{IsFree};
@@ -104,7 +104,7 @@ fn free_far<D: Desk>(desk: &mut D, far: &mut Far, h: Handle) -> Reply
 fn refuse_free<D: Desk>(desk: &mut D, h: Handle, word: u64) -> Reply
     requires handle { h.n < (D.settings desk.old).handles }
     requires left { ¬ (IsFree word) }
-    ensures { (es : List Event) × D.run desk.old es desk.new × AreReads h.n es
+    ensures { (es : List Access) × D.run desk.old es desk.new × AreReads h.n es
         × Touches h.n (place_of word) (len_of word) es
         × AnsweredAs (state_of word) (FreeHere h.n es result) word h.n es result }
 {

@@ -1,8 +1,8 @@
 ghost use Rattle.std.specs.Prelude.{◌≡◌, ℕ, ◌<◌, List, [], ◌∷◌, length, IfOk, OnErr};
 ghost use Rattle.cb_ptr.specs.declared.word.State.TheVariants as state;
 ghost use Rattle.cb_ptr.specs.Word.{state_of, len_of};
-ghost use Rattle.cb_world.specs.declared.event.Event.{Event};
-ghost use Rattle.cb_world.specs.declared.event.Event.TheVariants.{Looked};
+ghost use Rattle.cb_world.specs.declared.access.Access.{Access};
+ghost use Rattle.cb_world.specs.declared.access.Access.TheVariants.{Looked};
 ghost use Rattle.cb_world.specs.declared.shown.Shown.{Shown};
 ghost use Rattle.cb_world.specs.Grasped.{Grasps};
 ghost use Rattle.cb_mutate.specs.Reaches.{HasReadRoom, grasp_of, room_of};
@@ -38,7 +38,7 @@ fn room_for(alloc: Global, word: u64) -> Result<Bytes, NoMemory>
 pub(crate) fn reach<D: Desk>(alloc: Global, desk: &mut D, h: Handle) -> Result<Reached, NoMemory>
     requires handle { h.n < (D.settings desk.old).handles }
     requires shown { (s : Shown) × D.shows desk.old s }
-    ensures reached { IfOk result (λ reached. (es : List Event) × D.run desk.old es desk.new
+    ensures reached { IfOk result (λ reached. (es : List Access) × D.run desk.old es desk.new
         × Grasps h.n es (grasp_of reached)) }
     ensures room { IfOk result (λ reached. HasReadRoom (grasp_of reached) (room_of reached)) }
     ensures error { OnErr result ((w : ℕ) × D.run desk.old (Looked h.n w ∷ []) desk.new
@@ -56,7 +56,7 @@ pub(crate) fn reach<D: Desk>(alloc: Global, desk: &mut D, h: Handle) -> Result<R
 fn claim_with<D: Desk>(desk: &mut D, h: Handle, room: Bytes) -> Reached
     requires handle { h.n < (D.settings desk.old).handles }
     requires shown { (s : Shown) × D.shows desk.old s }
-    ensures reached { (es : List Event) × D.run desk.old es desk.new × Grasps h.n es (grasp_of result) }
+    ensures reached { (es : List Access) × D.run desk.old es desk.new × Grasps h.n es (grasp_of result) }
     ensures room { room_of result ≡ room }
 {
     match try_claim(desk, h) {

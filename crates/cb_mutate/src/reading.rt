@@ -2,7 +2,7 @@ ghost use Rattle.std.specs.Prelude.{◌≡◌, ℕ, ◌*◌, ◌<◌, List, leng
 ghost use Rattle.cb_types.specs.Config.{IsAccepted};
 ghost use Rattle.cb_ptr.specs.declared.word.State.TheVariants as state;
 ghost use Rattle.cb_ptr.specs.Word.{state_of, len_of, place_of};
-ghost use Rattle.cb_world.specs.declared.event.Event.{Event};
+ghost use Rattle.cb_world.specs.declared.access.Access.{Access};
 ghost use Rattle.cb_types.specs.declared.reply.Reply.TheVariants as answer;
 ghost use Rattle.cb_world.specs.declared.object.Object.TheVariants as is;
 ghost use Rattle.cb_world.specs.declared.shown.Shown.{Shown};
@@ -72,7 +72,7 @@ fn read_left<D: Desk>(desk: &mut D, h: Handle, word: u64, room: Bytes) -> Reply
     requires within { state_of word ≡ state.Here
         → LiesInMemory word (512 * (D.settings desk.old).frames) }
     requires room { state_of word ≡ state.Here → length room ≡ len_of word }
-    ensures { (es : List Event) × D.run desk.old es desk.new × AreReads h.n es
+    ensures { (es : List Access) × D.run desk.old es desk.new × AreReads h.n es
         × Touches h.n (place_of word) (len_of word) es
         × AnsweredAs (state_of word) (ReadHere h.n es result) word h.n es result }
 {

@@ -1,7 +1,7 @@
 ghost use Rattle.std.specs.Prelude.{◌≡◌, ℕ, ◌+◌, ◌<◌, List, IsOk, IfOk};
 ghost use Rattle.cb_types.specs.Config.{IsAccepted};
 ghost use Rattle.cb_ptr.specs.Word.{state_of, len_of, place_of};
-ghost use Rattle.cb_world.specs.declared.event.Event.{Event};
+ghost use Rattle.cb_world.specs.declared.access.Access.{Access};
 ghost use Rattle.cb_types.specs.declared.reply.Reply.TheVariants as answer;
 ghost use Rattle.cb_world.specs.declared.object.Object.TheVariants as is;
 ghost use Rattle.cb_world.specs.declared.shown.Shown.{Shown};
@@ -76,7 +76,7 @@ fn written<D: Desk>(desk: &mut D, far: &Far, h: Handle, at: u32, bytes: &[u8]) -
 fn refuse_write<D: Desk>(desk: &mut D, h: Handle, word: u64, at: u32, bytes: &[u8]) -> Reply
     requires handle { h.n < (D.settings desk.old).handles }
     requires left { ¬ (IsFree word) }
-    ensures { (es : List Event) × D.run desk.old es desk.new × AreReads h.n es
+    ensures { (es : List Access) × D.run desk.old es desk.new × AreReads h.n es
         × Touches h.n (place_of word) (len_of word) es
         × AnsweredAs (state_of word) (WriteHere h.n at bytes.now es result) word h.n es result }
 {

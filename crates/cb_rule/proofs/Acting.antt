@@ -9,9 +9,9 @@ use Rattle.atomic_table.specs.Table.{Allows, keeps, step}
 use Rattle.cb_types.specs.declared.config.Config.{Config}
 use Rattle.cb_ptr.specs.declared.word.State.TheVariants as word
 use Rattle.cb_ptr.specs.Word.{state_of, len_of, place_of, pins_of}
-use Rattle.cb_world.specs.declared.event.Event.{Event}
-use Rattle.cb_world.specs.declared.event.Event.TheVariants.{Looked, Claimed, Stored, Stamped}
-use Rattle.cb_world.specs.declared.event.Event.TheVariants.{Settled}
+use Rattle.cb_world.specs.declared.access.Access.{Access}
+use Rattle.cb_world.specs.declared.access.Access.TheVariants.{Looked, Claimed, Stored, Stamped}
+use Rattle.cb_world.specs.declared.access.Access.TheVariants.{Settled}
 use Rattle.cb_world.specs.declared.shown.Shown.{Shown}
 use Rattle.cb_world.specs.Settling.{MaySettle}
 use Rattle.cb_world.specs.Shown.{Owns, IsHeld, object_at}
@@ -103,7 +103,7 @@ module _ (beside : Beside) (steady : IsSteady beside) (first : ℕ) (c : Config)
       dite (ℕ_discrete x old)
       (λ e. let v : ℕ = stamp c s.words h in
       let words : List ℕ = words_at c s.words (place_of old) (len_of old) in
-      let ev : Event = Claimed h old v words in
+      let ev : Access = Claimed h old v words in
       let agrees = claim_agrees c s.words s.views me.0 r.history m h old l e here bare low in (
         act ev me.0,
         keeps,

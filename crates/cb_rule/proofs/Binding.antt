@@ -11,8 +11,8 @@ use Rattle.cb_ptr.specs.declared.word.State.{State}
 use Rattle.cb_ptr.specs.declared.word.State.TheVariants as word
 use Rattle.cb_ptr.specs.Word.{state_of, len_of, place_of}
 use Rattle.cb_world.specs.declared.entry.Entry.{Entry}
-use Rattle.cb_world.specs.declared.event.Event.{Event}
-use Rattle.cb_world.specs.declared.event.Event.TheVariants as ev
+use Rattle.cb_world.specs.declared.access.Access.{Access}
+use Rattle.cb_world.specs.declared.access.Access.TheVariants as ev
 use Rattle.cb_world.specs.declared.object.Object.{Object}
 use Rattle.cb_world.specs.declared.object.Object.TheVariants as is
 use Rattle.cb_world.specs.declared.shown.Shown.{Shown}
@@ -92,7 +92,7 @@ bound_joined c known views id v other w at there quiet = let both : View = joine
         omega (arith, e, d, f)
 
 -- a version word is stored of an object that the holder may write
-abbrev pub Stamps : Event → View → Type 0
+abbrev pub Stamps : Access → View → Type 0
 Stamps (ev.Stamped h n) v = MayWrite h v.known v
 Stamps _ v = Unit {0}
 
@@ -158,7 +158,7 @@ module _ (c : Config) (s : Shown) (views : List View) (z : AreSized c s)
       by_state word.Here o k = inl tt
       by_state word.Moving o k = k
 
-  pub bound_after : (e : Event)
+  pub bound_after : (e : Access)
       → ((h n : ℕ) → e ≡ ev.Stamped h n → (object_at s h ≡ never) ⊎ (0 < total (held_on h) views))
       → AreBound c (after e s) views
   bound_after (ev.Looked h w) may = b
@@ -170,18 +170,18 @@ module _ (c : Config) (s : Shown) (views : List View) (z : AreSized c s)
   bound_after (ev.Settled h w) may = bound_settled h w
 
 -- the holder of the lock has no fewer entries after an event
-pub entries_acted : (h : ℕ) (e : Event) (v : View) → entries_on h v ≤ entries_on h (act e v)
+pub entries_acted : (h : ℕ) (e : Access) (v : View) → entries_on h v ≤ entries_on h (act e v)
 entries_acted h e v = let all = times-append (Rattle.cb_rule.specs.Own.writes_it h)
     (adds e v.known) v.fresh in omega (arith, all)
 
 -- a step of the holder, which stores the version words of objects that it may write
 pub bound_acted : (c : Config) (views : List View) (id : ℕ) (v : View) → get_elem? views id ≡ some v
-    → v.holds ≡ true → AreSized c v.known → (e : Event) → Stamps e v → AreBound c v.known views
+    → v.holds ≡ true → AreSized c v.known → (e : Access) → Stamps e v → AreBound c v.known views
     → AreBound c (after e v.known) (set views id (act e v))
 bound_acted c views id v at holds sized e stamps b =
     bound_after c v.known (set views id w) sized
     (bound_stays c v.known views id v w at refl (λ h. entries_acted h e v) b) e
-    (λ h n is. may h (subst (λ (x : Event). Stamps x v) is stamps))
+    (λ h n is. may h (subst (λ (x : Access). Stamps x v) is stamps))
   where
     w : View
     w = act e v

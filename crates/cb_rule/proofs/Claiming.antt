@@ -9,7 +9,7 @@ use Rattle.cb_ptr.specs.Word.{state_of, hot_of, len_of, place_of, pins_of}
 use Rattle.cb_ptr.specs.Steps.{Claims}
 use Rattle.cb_ptr.proofs.Laws.{claims, claimed_below}
 use Rattle.cb_world.specs.declared.entry.Entry.{Entry}
-use Rattle.cb_world.specs.declared.event.Event.TheVariants.{Claimed}
+use Rattle.cb_world.specs.declared.access.Access.TheVariants.{Claimed}
 use Rattle.cb_world.specs.declared.object.Object.{Object}
 use Rattle.cb_world.specs.declared.object.Object.TheVariants as is
 use Rattle.cb_world.specs.declared.shown.Shown.{Shown}

@@ -18,7 +18,7 @@ use Rattle.cb_world.specs.declared.entry.Entry.{Entry}
 use Rattle.cb_world.specs.declared.homes.Home.{Home}
 use Rattle.cb_world.specs.declared.object.Object.{Object}
 use Rattle.cb_world.specs.declared.object.Object.TheVariants as is
-use Rattle.cb_world.specs.declared.seats.Pin.{Pin}
+use Rattle.cb_world.specs.declared.seats.SeatPin.{SeatPin}
 use Rattle.cb_world.specs.declared.shown.Shown.{Shown}
 use Rattle.cb_world.specs.FarState.{FarState, handle_in}
 use Rattle.cb_world.specs.Homes.{home_at}
@@ -108,7 +108,7 @@ far_as s h len v words false = refl
 idle_each : (P : SeatState → Type 0) → P idle_seat → All P (replicate 64 idle_seat)
 idle_each P p = All-replicate P 64 idle_seat p
 
-no_pin : (P : Pin → Type 0) → All P []
+no_pin : (P : SeatPin → Type 0) → All P []
 no_pin P = λ k d lt. absurd (omega (arith, lt))
 
 no_claim : (seat at : ℕ) (x : OpenWriteState) → IsClaimAt (replicate 64 idle_seat) seat at x → ⊥
@@ -296,11 +296,11 @@ module _ (c : Config) (ws : List ℕ) (views : List View) (known : Shown) (es : 
       counted = λ h below. bare h (subst (λ (n : ℕ). h < n) wide below)
           ∙ sym (sum_by-replicate (λ (seat : SeatState). pins_among h seat.pins) 64 idle_seat);
       known = idle_each (λ (seat : SeatState).
-          All (λ (pin : Pin). pin.handle < length (desk_of c ws).words) seat.pins) (no_pin _);
+          All (λ (pin : SeatPin). pin.handle < length (desk_of c ws).words) seat.pins) (no_pin _);
       here = λ h below some. absurd (let n = bare h (subst (λ (n : ℕ). h < n) wide below) in
           omega (arith, n, some));
       versions = idle_each (λ (seat : SeatState).
-          All (λ (pin : Pin). pin.version ≡ get_or (desk_of c ws).versions pin.handle 0) seat.pins)
+          All (λ (pin : SeatPin). pin.version ≡ get_or (desk_of c ws).versions pin.handle 0) seat.pins)
           (no_pin _);
     }
 

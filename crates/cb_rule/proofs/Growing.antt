@@ -4,8 +4,8 @@ use Rattle.std.proofs.Common.{inr, ⊎_elim, arith}
 use Rattle.std.proofs.lemmas.List.{append_assoc, length-append}
 use Rattle.cb_types.specs.declared.config.Config.{Config}
 use Rattle.cb_world.specs.declared.entry.Entry.{Entry}
-use Rattle.cb_world.specs.declared.event.Event.{Event}
-use Rattle.cb_world.specs.declared.event.Event.TheVariants as ev
+use Rattle.cb_world.specs.declared.access.Access.{Access}
+use Rattle.cb_world.specs.declared.access.Access.TheVariants as ev
 use Rattle.cb_world.specs.declared.object.Object.{Object}
 use Rattle.cb_world.specs.declared.object.Object.TheVariants as is
 use Rattle.cb_world.specs.Shown.{object_at}
@@ -46,7 +46,7 @@ module _ (more es : List Entry) where
   look_more : (l : Look) → LookOk es l → LookOk (more ++ es) l
   look_more l ok full = let z = ok full in (z.0, has_more z.0 more es z.1, z.2, z.3, z.4)
 
-  pub tells_more : (first since until until' : ℕ) (e : Event) → until ≤ until'
+  pub tells_more : (first since until until' : ℕ) (e : Access) → until ≤ until'
       → TellsOk first es since until e → TellsOk first (more ++ es) since until' e
   tells_more first since until until' (ev.Looked h w) le ok = look_more _ ok
   tells_more first since until until' (ev.Claimed h w v words) le ok =

@@ -8,8 +8,8 @@ use Rattle.atomic_table.proofs.Lists.{at_set}
 use Rattle.cb_types.specs.declared.config.Config.{Config}
 use Rattle.cb_ptr.specs.Word.{state_of, hot_of, len_of, pins_of}
 use Rattle.cb_world.specs.declared.entry.Entry.{Entry}
-use Rattle.cb_world.specs.declared.event.Event.{Event}
-use Rattle.cb_world.specs.declared.event.Event.TheVariants as ev
+use Rattle.cb_world.specs.declared.access.Access.{Access}
+use Rattle.cb_world.specs.declared.access.Access.TheVariants as ev
 use Rattle.cb_world.specs.declared.object.Object.{Object}
 use Rattle.cb_world.specs.declared.object.Object.TheVariants as is
 use Rattle.cb_world.specs.declared.shown.Shown.{Shown}
@@ -177,7 +177,7 @@ seats_stay K vs me w mine others j u e = ⊎_elim
     (λ (t : (j ≢ me) × (get_elem? vs j ≡ some u)). others j u t.0 t.1) (at_set vs me j w u e)
 
 -- what a step of the holder has to show; the history has then what the event adds
-pub record HolderSteps (c : Config) (ws ws' : List ℕ) (views : List View) (v : View) (e : Event)
+pub record HolderSteps (c : Config) (ws ws' : List ℕ) (views : List View) (v : View) (e : Access)
     (es : List Entry) : Type 0 where
   pub wide : length ws' ≡ length ws
   pub fit : (h : ℕ) → h < c.handles → Fits (object_at (after e v.known) h) (pointer ws' h)
@@ -206,7 +206,7 @@ pub record HolderSteps (c : Config) (ws ws' : List ℕ) (views : List View) (v :
   pub tells : TellsOk v.known.first (adds e v.known ++ es) v.since
       (length (adds e v.known ++ es)) e
 
-pub first_stays : (e : Event) (s : Shown) → (after e s).first ≡ s.first
+pub first_stays : (e : Access) (s : Shown) → (after e s).first ≡ s.first
 first_stays (ev.Looked h w) s = refl
 first_stays (ev.Claimed h w v words) s = refl
 first_stays (ev.Told h v) s = refl
@@ -215,7 +215,7 @@ first_stays (ev.Stored p x) s = refl
 first_stays (ev.Stamped h v) s = refl
 first_stays (ev.Settled h w) s = refl
 
-pub sized_after : (c : Config) (e : Event) (s : Shown) → AreSized c s → AreSized c (after e s)
+pub sized_after : (c : Config) (e : Access) (s : Shown) → AreSized c s → AreSized c (after e s)
 sized_after c (ev.Looked h w) s z = record {
   objects = z.objects;
   hots = length-set s.hots h (hot_of w) ∙ z.hots;
@@ -259,7 +259,7 @@ held_one vs id j v u ne at there mine one his =
     let a : holding v ≡ 1 = ap (λ (b : Bool). cond {A = ℕ} b 1 0) mine in
     let b : holding u ≡ 1 = ap (λ (b : Bool). cond {A = ℕ} b 1 0) his in omega arith
 
-module _ (c : Config) (ws ws' : List ℕ) (views : List View) (id : ℕ) (v : View) (e : Event)
+module _ (c : Config) (ws ws' : List ℕ) (views : List View) (id : ℕ) (v : View) (e : Access)
     (es : List Entry) (r : RuleKept c ws views v.known es) (at : get_elem? views id
     ≡ some v) (mine : v.holds ≡ true) (t : HolderSteps c ws ws' views v e es) where
   abbrev w : View

@@ -6,7 +6,7 @@ use lib.ListN.{get_elem?}
 use lib.Seq.{set-get_or}
 use Rattle.cb_types.specs.declared.config.Config.{Config}
 use Rattle.cb_world.specs.declared.entry.Entry.{Entry}
-use Rattle.cb_world.specs.declared.event.Event.{Event}
+use Rattle.cb_world.specs.declared.access.Access.{Access}
 use Rattle.cb_world.specs.declared.shown.Shown.{Shown}
 use Rattle.cb_world.specs.Played.{after}
 use Rattle.cb_world.specs.Written.{adds}
@@ -82,7 +82,7 @@ module _ (beside : Beside) (steady : IsSteady beside) (first : ℕ) (c : Config)
       (sym ((r.kept.seats id v at).knows holds)) r.kept
 
   -- a step of the holder
-  pub next : (e : Event) (i x : ℕ) → v.holds ≡ true → 1 ≤ v.share → 0 < i
+  pub next : (e : Access) (i x : ℕ) → v.holds ≡ true → 1 ≤ v.share → 0 < i
       → Each (λ (y : Entry). MayWrite y.handle v.known v) (adds e v.known) → Stamps e v
       → HolderSteps c s.words (set s.words i x) s.views v e r.history
       → Ruled beside first c record {
@@ -111,7 +111,7 @@ module _ (beside : Beside) (steady : IsSteady beside) (first : ℕ) (c : Config)
       }
 
   -- a load of the holder
-  pub next_load : (e : Event) (i : ℕ) → v.holds ≡ true → 1 ≤ v.share → 0 < i
+  pub next_load : (e : Access) (i : ℕ) → v.holds ≡ true → 1 ≤ v.share → 0 < i
       → Each (λ (y : Entry). MayWrite y.handle v.known v) (adds e v.known) → Stamps e v
       → HolderSteps c s.words s.words s.views v e r.history
       → Ruled beside first c record {

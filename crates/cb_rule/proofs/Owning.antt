@@ -6,7 +6,7 @@ use mathlib.Core.Option.{some, some-injective, some-ne-none}
 use lib.ListN.{get_elem?}
 use Rattle.cb_types.specs.declared.config.Config.{Config}
 use Rattle.cb_world.specs.declared.entry.Entry.{Entry}
-use Rattle.cb_world.specs.declared.event.Event.{Event}
+use Rattle.cb_world.specs.declared.access.Access.{Access}
 use Rattle.cb_world.specs.declared.object.Object.{Object}
 use Rattle.cb_world.specs.declared.object.Object.TheVariants as is
 use Rattle.cb_world.specs.declared.shown.Shown.{Shown}
@@ -310,7 +310,7 @@ never_before first pos (x ∷ more) es k e has make = ⊎_elim
 
 -- A step of the holder, which writes what it may: what it makes was never made before.
 pub own_acted : (first : ℕ) (c : Config) (ws : List ℕ) (views : List View) (id : ℕ) (v : View)
-    → get_elem? views id ≡ some v → AreOwn first views → (e : Event) (es : List Entry)
+    → get_elem? views id ≡ some v → AreOwn first views → (e : Access) (es : List Entry)
     → RuleKept c ws views v.known es → v.holds ≡ true → first ≡ v.known.first
     → IsEntryHistory v.known.first (adds e v.known ++ es)
     → Each (λ (x : Entry). x.handle < c.handles) (adds e v.known)

@@ -8,8 +8,8 @@ use Rattle.cb_types.specs.declared.config.Config.{Config}
 use Rattle.cb_ptr.specs.declared.word.State.TheVariants as word
 use Rattle.cb_ptr.specs.Word.{state_of, pins_of, len_of, place_of}
 use Rattle.cb_world.specs.declared.entry.Entry.{Entry}
-use Rattle.cb_world.specs.declared.event.Event.{Event}
-use Rattle.cb_world.specs.declared.event.Event.TheVariants as ev
+use Rattle.cb_world.specs.declared.access.Access.{Access}
+use Rattle.cb_world.specs.declared.access.Access.TheVariants as ev
 use Rattle.cb_world.specs.declared.object.Object.{Object}
 use Rattle.cb_world.specs.declared.object.Object.TheVariants as is
 use Rattle.cb_world.specs.declared.shown.Shown.{Shown}
@@ -294,7 +294,7 @@ module _ (c : Config) (ws : List ℕ) (views : List View) (known : Shown) (es : 
         ap (λ (x : Value). x.len) (n.has ∙ was.has),
       )
 
-  looked_in : (l : Look) (since until : ℕ) (e : Event) → TellsOk known.first es since until e
+  looked_in : (l : Look) (since until : ℕ) (e : Access) → TellsOk known.first es since until e
       → IsLook l.handle l.word e → LookOk es l
   looked_in l since until (ev.Looked h w) ok is full =
       let z = ok (λ none. full (ap state_of (sym is.1) ∙ none)) in
@@ -319,7 +319,7 @@ module _ (c : Config) (ws : List ℕ) (views : List View) (known : Shown) (es : 
     looked = λ l there full. let u = there.0 in let at = there.1 in
         let ok = (r.seats at.0 u at.1).lasting in
         let o = ⊎_elim (λ (q : Has l u.looks). each_has (LookOk es) l u.looks ok.looks q full)
-        (λ (q : (t : Turn) × Has t u.turns × (e : Event) × Has e t.acts
+        (λ (q : (t : Turn) × Has t u.turns × (e : Access) × Has e t.acts
         × IsLook l.handle l.word e).
         let told = (each_has (TurnOk c known.first es) q.0 u.turns ok.past q.1).told in
         looked_in l q.0.since q.0.until q.2

@@ -7,7 +7,7 @@ use Rattle.cb_ptr.specs.declared.word.State.{State}
 use Rattle.cb_ptr.specs.declared.word.State.TheVariants as word
 use Rattle.cb_ptr.specs.Word.{state_of, len_of, place_of, pins_of}
 use Rattle.cb_world.specs.declared.entry.Entry.{Entry}
-use Rattle.cb_world.specs.declared.event.Event.TheVariants.{Settled}
+use Rattle.cb_world.specs.declared.access.Access.TheVariants.{Settled}
 use Rattle.cb_world.specs.declared.object.Object.{Object}
 use Rattle.cb_world.specs.declared.object.Object.TheVariants as is
 use Rattle.cb_world.specs.Memory.{window, words_for, IsPacked}

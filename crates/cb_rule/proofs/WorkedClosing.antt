@@ -7,8 +7,8 @@ use Rattle.atomic_table.specs.Table.{opening}
 use Rattle.cb_types.specs.declared.config.Config.{Config}
 use Rattle.cb_ptr.specs.Word.{state_of}
 use Rattle.cb_world.specs.declared.entry.Entry.{Entry}
-use Rattle.cb_world.specs.declared.event.Event.{Event}
-use Rattle.cb_world.specs.declared.event.Event.TheVariants.{Claimed}
+use Rattle.cb_world.specs.declared.access.Access.{Access}
+use Rattle.cb_world.specs.declared.access.Access.TheVariants.{Claimed}
 use Rattle.cb_world.specs.Empty.{empty_far}
 use Rattle.cb_world.specs.FarState.{FarState}
 use Rattle.cb_world.specs.Looks.{IsLook}
@@ -103,7 +103,7 @@ stands = record {
   peeked = λ p t. absurd (nothing_read (λ (u : View). u.peeked) refl p t.0 t.1 t.2);
   looked = λ l t full. absurd (⊎_elim
       (λ (q : Has l t.0.looks). nothing_read (λ (u : View). u.looks) refl l t.0 t.1 q)
-      (λ (q : (x : Turn) × Has x t.0.turns × (e : Event) × Has e x.acts
+      (λ (q : (x : Turn) × Has x t.0.turns × (e : Access) × Has e x.acts
       × IsLook l.handle l.word e).
       nothing_read (λ (u : View). u.turns) refl q.0 t.0 t.1 q.1) t.2);
   born = λ e w. subst (λ (y : Entry). 3 ≤ y.version) (sym (is_made e w)) (lit≤ tt);

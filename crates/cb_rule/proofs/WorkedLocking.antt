@@ -9,7 +9,7 @@ use Rattle.cb_types.specs.declared.config.Field.TheVariants.{K, R, Nodes, Frames
 use Rattle.cb_types.specs.declared.config.Field.TheVariants.{Turns}
 use Rattle.cb_types.specs.Config.{IsAccepted}
 use Rattle.cb_types.specs.declared.job.Job.TheVariants.{Evict}
-use Rattle.cb_world.specs.declared.event.Event.TheVariants.{Looked}
+use Rattle.cb_world.specs.declared.access.Access.TheVariants.{Looked}
 use Rattle.cb_world.specs.declared.shown.Shown.{Shown}
 use Rattle.cb_world.specs.Codes.{IsCodeOf}
 use Rattle.cb_world.specs.Empty.{empty_far, empty_shown}

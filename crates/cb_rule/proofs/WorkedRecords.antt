@@ -6,7 +6,7 @@ use Rattle.std.proofs.Common.{inl, inr, ⊎_elim, true≢false}
 use Rattle.std.proofs.Common.{lit<, lit≤, arith}
 use Rattle.cb_types.specs.declared.config.Config.{Config}
 use Rattle.cb_world.specs.declared.entry.Entry.{Entry}
-use Rattle.cb_world.specs.declared.event.Event.TheVariants.{Claimed}
+use Rattle.cb_world.specs.declared.access.Access.TheVariants.{Claimed}
 use Rattle.cb_world.specs.declared.object.Object.TheVariants as is
 use Rattle.cb_world.specs.declared.shown.Shown.{Shown}
 use Rattle.cb_world.specs.Shown.{never}

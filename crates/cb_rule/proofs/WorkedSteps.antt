@@ -6,7 +6,7 @@ use Rattle.std.proofs.Common.{lit≤, arith}
 use Rattle.std.proofs.lemmas.Bool.{eqb-false}
 use mathlib.Core.Option.{some, none}
 use Rattle.atomic_table.specs.Table.{Step, step}
-use Rattle.cb_world.specs.declared.event.Event.TheVariants.{Told, Loaded, Stored, Stamped, Settled}
+use Rattle.cb_world.specs.declared.access.Access.TheVariants.{Told, Loaded, Stored, Stamped, Settled}
 use Rattle.cb_world.specs.declared.object.Object.TheVariants as is
 use Rattle.cb_world.specs.Memory.{words_for}
 use Rattle.cb_world.specs.Shown.{Owns, Spares, object_at}

@@ -7,8 +7,8 @@ use Rattle.cb_types.specs.declared.job.Job.TheVariants.{Evict, Read, Write}
 use Rattle.cb_types.specs.declared.reply.Reply.{Reply}
 use Rattle.cb_types.specs.declared.reply.Reply.TheVariants.{Bytes, Version}
 use Rattle.cb_world.specs.declared.entry.Entry.{Entry}
-use Rattle.cb_world.specs.declared.event.Event.{Event}
-use Rattle.cb_world.specs.declared.event.Event.TheVariants.{Claimed}
+use Rattle.cb_world.specs.declared.access.Access.{Access}
+use Rattle.cb_world.specs.declared.access.Access.TheVariants.{Claimed}
 use Rattle.cb_world.specs.declared.object.Object.TheVariants as is
 use Rattle.cb_world.specs.Memory.{bytes_in}
 use Rattle.cb_world.specs.Shown.{object_at}
@@ -32,7 +32,7 @@ use Rattle.cb_rule.proofs.WorkedViews.{pair_of}
 
 -- a turn that found both objects in local memory when the history had two entries, of which its
 -- view wrote the first, and claimed object 1 when it had three
-abbrev turn : Event → Turn
+abbrev turn : Access → Turn
 turn e = record {
   job = Evict;
   reply = None;

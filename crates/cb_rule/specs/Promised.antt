@@ -6,7 +6,7 @@ use Rattle.cb_types.specs.declared.config.Config.{Config}
 use Rattle.cb_ptr.specs.declared.word.State.TheVariants as word
 use Rattle.cb_ptr.specs.Word.{state_of, hot_of, pins_of, len_of, place_of}
 use Rattle.cb_world.specs.declared.entry.Entry.{Entry}
-use Rattle.cb_world.specs.declared.event.Event.{Event}
+use Rattle.cb_world.specs.declared.access.Access.{Access}
 use Rattle.cb_world.specs.Looks.{IsLook}
 use Rattle.cb_world.specs.declared.object.Object.TheVariants as is
 use Rattle.cb_world.specs.declared.shown.Shown.{Shown}
@@ -44,7 +44,7 @@ Peeks views p = (u : View) × Is views u × Has p u.peeked
 -- the word was found by a look of the view, or by a look or a claim of one of its turns
 abbrev pub FoundBy : Look → View → Type 0
 FoundBy l u = Has l u.looks
-    ⊎ ((t : Turn) × Has t u.turns × (e : Event) × Has e t.acts × IsLook l.handle l.word e)
+    ⊎ ((t : Turn) × Has t u.turns × (e : Access) × Has e t.acts × IsLook l.handle l.word e)
 
 abbrev pub Looked : List View → Look → Type 0
 Looked views l = (u : View) × Is views u × FoundBy l u

@@ -10,8 +10,8 @@ use Rattle.cb_types.specs.declared.reply.Reply.TheVariants.{Bytes, Made, Version
 use Rattle.cb_ptr.specs.declared.word.State.TheVariants as word
 use Rattle.cb_ptr.specs.Word.{len_of, state_of}
 use Rattle.cb_world.specs.declared.entry.Entry.{Entry}
-use Rattle.cb_world.specs.declared.event.Event.{Event}
-use Rattle.cb_world.specs.declared.event.Event.TheVariants.{Claimed, Looked}
+use Rattle.cb_world.specs.declared.access.Access.{Access}
+use Rattle.cb_world.specs.declared.access.Access.TheVariants.{Claimed, Looked}
 use Rattle.cb_world.specs.declared.object.Object.{Object}
 use Rattle.cb_world.specs.declared.object.Object.TheVariants as is
 use Rattle.cb_world.specs.declared.shown.Shown.{Shown}
@@ -78,7 +78,7 @@ LookOk es l = state_of l.word ≢ word.Empty → (e : Entry) × Has e es × (e.h
 
 -- what a claim told was the object's newest entry at some time of the turn, and its word was Here;
 -- what a look found tells the length of an entry
-abbrev pub TellsOk : ℕ → List Entry → ℕ → ℕ → Event → Type 0
+abbrev pub TellsOk : ℕ → List Entry → ℕ → ℕ → Access → Type 0
 TellsOk first es since until (Claimed h w v words) =
     (first ≤ v) × WasNow es since until h v (holding_words (len_of w) words)
     × (state_of w ≡ word.Here)

@@ -6,9 +6,9 @@ use Rattle.cb_types.specs.declared.config.Config.{Config}
 use Rattle.cb_ptr.specs.declared.word.State.TheVariants as word
 use Rattle.cb_ptr.specs.Word.{state_of, len_of, place_of, pins_of}
 use Rattle.cb_world.specs.declared.entry.Entry.{Entry}
-use Rattle.cb_world.specs.declared.event.Event.{Event}
-use Rattle.cb_world.specs.declared.event.Event.TheVariants.{Looked, Claimed, Told, Loaded, Stored}
-use Rattle.cb_world.specs.declared.event.Event.TheVariants.{Stamped, Settled}
+use Rattle.cb_world.specs.declared.access.Access.{Access}
+use Rattle.cb_world.specs.declared.access.Access.TheVariants.{Looked, Claimed, Told, Loaded, Stored}
+use Rattle.cb_world.specs.declared.access.Access.TheVariants.{Stamped, Settled}
 use Rattle.cb_world.specs.declared.shown.Shown.{Shown}
 use Rattle.cb_world.specs.Empty.{empty_far}
 use Rattle.cb_world.specs.Memory.{words_for}
@@ -56,19 +56,19 @@ pub record TellsPins (h n : ℕ) (u : View) : Type 0 where
 -- The holder, within a turn.
 
 -- an event changes what is known, and stands in the record with what it writes
-abbrev pub act : Event → View → View
+abbrev pub act : Access → View → View
 act e v = record v {
   known = after e v.known;
   acts = v.acts ++ e ∷ [];
   fresh = adds e v.known ++ v.fresh;
 }
 
-abbrev pub acted : List Event → View → View
+abbrev pub acted : List Access → View → View
 acted [] v = v
 acted (e ∷ es) v = acted es (act e v)
 
 -- the view has one event more, which agrees with what is known
-abbrev pub HasEvent : Sat → Event → Sat → Type 0
+abbrev pub HasEvent : Sat → Access → Sat → Type 0
 HasEvent m e m' = (m' ≡ (act e m.0, m.1)) × Agrees m.0.known e
 
 abbrev pub handle_count : Sat → ℕ

@@ -1,5 +1,5 @@
 use cb_types::{Job, Kept, Reply};
-use cb_world::{Entry, Event, Far, Shown};
+use cb_world::{Access, Entry, Far, Shown};
 
 /// A turn under the far lock. No value of it is made; contracts read its arrays as lists of any
 /// length.
@@ -20,7 +20,7 @@ pub struct Turn {
     pub old: [Entry; 0],
     pub ended: u64,
     /// The first one first.
-    pub acts: [Event; 0],
+    pub acts: [Access; 0],
     /// The orders that its seat kept before it and behind it.
     pub order: Option<Kept>,
     pub keeps: Option<Kept>,

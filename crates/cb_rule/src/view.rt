@@ -5,7 +5,7 @@ ghost use Rattle.cb_types.specs.declared.config.Config.{Config};
 ghost use Rattle.cb_types.specs.declared.order.Kept.{Kept};
 ghost use Rattle.cb_types.specs.contracts.order.Kept as kept;
 ghost use Rattle.cb_world.specs.declared.entry.Entry.{Entry};
-ghost use Rattle.cb_world.specs.declared.event.Event.{Event};
+ghost use Rattle.cb_world.specs.declared.access.Access.{Access};
 ghost use Rattle.cb_world.specs.declared.shown.Shown.{Shown};
 ghost use Rattle.cb_world.specs.contracts.far.Far as far;
 ghost use Rattle.cb_world.specs.FarState.{FarState};
@@ -101,7 +101,7 @@ pub struct View {
     pub ghost old: { List Entry },
     pub ghost ended: { ℕ },
     /// The events of the running turn, the first one first.
-    pub ghost acts: { List Event },
+    pub ghost acts: { List Access },
     /// What it knows while it holds the lock.
     pub ghost known: { Shown },
     /// The far state that it took with the lock.

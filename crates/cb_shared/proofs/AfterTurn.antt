@@ -15,7 +15,7 @@ use Rattle.cb_types.specs.declared.order.Kept.{Kept}
 use Rattle.cb_types.specs.declared.reply.Reply.{Reply}
 use Rattle.cb_types.specs.declared.reply.Reply.TheVariants as answer
 use Rattle.cb_world.specs.declared.entry.Entry.{Entry}
-use Rattle.cb_world.specs.declared.event.Event.{Event}
+use Rattle.cb_world.specs.declared.access.Access.{Access}
 use Rattle.cb_world.specs.declared.shown.Shown.{Shown}
 use Rattle.cb_world.specs.FarState.{FarState}
 use Rattle.cb_world.specs.Memory.{bytes_in}
@@ -61,11 +61,11 @@ of_moved z k c p q of table config share = record {
 }
 
 -- the record after the events of a seat
-pub after_runs : (p q : SeatAt) (es : List Event) → Runs p es q
+pub after_runs : (p q : SeatAt) (es : List Access) → Runs p es q
     → record_at q ≡ after_events es (record_at p)
 after_runs p q es r = ap (λ (m : Sat). m.0) r.0.2 ∙ acted_is es (record_at p)
 
-pub of_runs : (z : TableId) (k : Setup) (c : Config) (p q : SeatAt) (es : List Event) → IsOf z k c p
+pub of_runs : (z : TableId) (k : Setup) (c : Config) (p q : SeatAt) (es : List Access) → IsOf z k c p
     → Runs p es q → IsOf z k c q
 of_runs z k c p q es of r = let m = after_runs p q es r in of_moved z k c p q of r.0.0
     (ap (λ (x : View). x.config) m) (ap (λ (x : View). x.share) m)
@@ -145,7 +145,7 @@ abbrev TellsOf : ℕ → ℕ → List ℕ → Seen → Type 0
 TellsOf h version bytes s = (s.handle ≡ h) × (s.version ≡ version) × (s.freed ≡ false)
     × (bytes ≡ bytes_in s.words s.len)
 
-read_bytes : (handle : Handle) (es : List Event) (version : ℕ) (bytes : List ℕ) (v : View) (d : Part)
+read_bytes : (handle : Handle) (es : List Access) (version : ℕ) (bytes : List ℕ) (v : View) (d : Part)
     → JobReads (Read handle) es (Ok (answer.Bytes version bytes)) v d
     → (s : Seen) × Has s d.seen × TellsOf handle.n version bytes s
 read_bytes handle es version bytes v d (inl x) = absurd x.1
@@ -157,7 +157,7 @@ read_bytes handle es version bytes v d (inr x) = let f = x.finds in
       (refl, refl, refl, f.bytes_are),
     )
 
-told_read : (job : Job) (es : List Event) (r : Result Reply NoMemory) (v : View) (d : Part)
+told_read : (job : Job) (es : List Access) (r : Result Reply NoMemory) (v : View) (d : Part)
     (w : View) → JobReads job es r v d → w.seen ≡ d.seen ++ v.seen → ReadsTold job (answer_of r) w
 told_read job es (Err e) v d w reads more handle version bytes asked told = absurd (cc)
 told_read job es (Ok reply) v d w reads more handle version bytes asked told =
@@ -227,7 +227,7 @@ ends_work c job r keeps took gave p q b w =
           (v.acts ++ es) v.took gave) (sym w.quiet.1)
           (subst (λ (s : Shown). DidBy c job v.order reply keeps s (v.acts ++ es) v.took gave)
           (sym b.start)
-          (subst (λ (l : List Event). DidBy c job v.order reply keeps v.known (l ++ es) v.took gave)
+          (subst (λ (l : List Access). DidBy c job v.order reply keeps v.known (l ++ es) v.took gave)
           (sym b.idle)
           (subst (λ (f : FarState). DidBy c job v.order reply keeps v.known es f gave) (sym b.took)
           w.did))));
@@ -340,7 +340,7 @@ at_end c job r keeps took gave p l m q t w g = (
 
 -- the turn as it stands then
 abbrev pub turn_told : Job → Result Reply NoMemory → Option Kept → Shown → ℕ → ℕ → View
-    → List Entry → List Event → FarState → FarState → Turn
+    → List Entry → List Access → FarState → FarState → Turn
 turn_told job r keeps known since until v more es took gave = record {
   job = job;
   reply = answer_of r;
@@ -452,7 +452,7 @@ turned_by c job r keeps far p m q rest t w tells =
     }
   where
     gave_is : (c : Config) (job : Job) (r : Result Reply NoMemory) (keeps : Option Kept)
-        (far : FarState) (v : View) (known : Shown) (since until : ℕ) (es : List Event) (gave : FarState) (d : Part)
+        (far : FarState) (v : View) (known : Shown) (since until : ℕ) (es : List Access) (gave : FarState) (d : Part)
         (more : List Entry) (made : List ℕ) → IsAtRest c v
         → written_by es known v.fresh ≡ more → IsQuiet d
         → gave_lock job (answer_of r) keeps gave until [] made

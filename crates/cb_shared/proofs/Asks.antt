@@ -21,7 +21,7 @@ use Rattle.cb_types.specs.declared.reply.Reply.{Reply}
 use Rattle.cb_types.specs.declared.reply.Reply.TheVariants as answer
 use Rattle.cb_orders.specs.Done.{DecodeDoneState, EncodeDoneState}
 use Rattle.cb_world.specs.declared.entry.Entry.{Entry}
-use Rattle.cb_world.specs.declared.event.Event.{Event}
+use Rattle.cb_world.specs.declared.access.Access.{Access}
 use Rattle.cb_world.specs.declared.shown.Shown.{Shown}
 use Rattle.cb_world.specs.FarState.{FarState}
 use Rattle.cb_world.specs.Orders.{KeepsOrder}
@@ -135,7 +135,7 @@ record IsBatchOf (so : List (List ℕ) → Type 0) (r : Reply) : Type 0 where
   pub given : so rows
 
 begun_kind : (far new : FarState) (made : Bool) (so : List (List ℕ) → Type 0) (r : Reply)
-    (es : List Event) → BeginsBy far new made so r es → (kind_of r ≡ 0) ⊎ IsBatchOf so r
+    (es : List Access) → BeginsBy far new made so r es → (kind_of r ≡ 0) ⊎ IsBatchOf so r
 begun_kind far new made so r es (inl x) = inl (ap kind_of x.reply)
 begun_kind far new made so r es (inr x) = elim x.answered [
   | inl few ↦ inl (ap kind_of few.reply)
@@ -167,7 +167,7 @@ empty_kind : (v : ℕ) (r : Reply) → EmptyAnswer v r → kind_of r ≡ 0
 empty_kind zero r e = ap kind_of e
 empty_kind (suc v) r e = ap kind_of e
 
-find_kind : (state : State) (w h : ℕ) (es : List Event) (r : Reply)
+find_kind : (state : State) (w h : ℕ) (es : List Access) (r : Reply)
     → AnsweredAs state (λ w. r ≡ answer.Stays) w h es r → kind_of r ≡ 0
 find_kind word.Empty w h es r x = empty_kind x.0 r x.2
 find_kind word.Far w h es r x = ap kind_of x
@@ -233,7 +233,7 @@ handed_fetch g x kept is = record {
   room = λ e. omega (arith, is, e);
 }
 
-module _ {D : Type 0} (run : D → List Event → D → Type 0) (shows : D → Shown → Type 0) (c : Config)
+module _ {D : Type 0} (run : D → List Access → D → Type 0) (shows : D → Shown → Type 0) (c : Config)
     (a b : Holding D) where
   gather_said : (g : Gathered)
       → TurnedWith run shows c jobs.Gather None a (gathered_reply g) (gathered_order None g) b

@@ -13,7 +13,7 @@ use Rattle.cb_types.specs.declared.reply.Reply.TheVariants as answer
 use Rattle.cb_ptr.specs.declared.word.State.TheVariants as state
 use Rattle.cb_ptr.specs.Word.{state_of}
 use Rattle.cb_world.specs.declared.entry.Entry.{Entry}
-use Rattle.cb_world.specs.declared.event.Event.{Event}
+use Rattle.cb_world.specs.declared.access.Access.{Access}
 use Rattle.cb_mutate.specs.JobWrites.{FreeWrites, MakeWrites, WriteWrites}
 use Rattle.cb_rule.specs.declared.turn.Turn.{Turn}
 use Rattle.cb_rule.specs.declared.view.Look.{Look}
@@ -215,7 +215,7 @@ last_looks h a v d x f = let y = f (grown x.before v) x.last x.finds in (
 )
 
 -- what is looked at in a turn Read that answers nothing
-read_looks : (again : Bool) (handle : Handle) (es : List Event) (r : Reply) (v : View) (d : Part)
+read_looks : (again : Bool) (handle : Handle) (es : List Access) (r : Reply) (v : View) (d : Part)
     → (IsAnswerTo again (jobs.Read handle) r → ⊥) → JobReads (jobs.Read handle) es (Ok r) v d
     → LooksAlone (AtThis handle.n) d
 read_looks again handle es r v d off (inl x) = no_looks (AtThis handle.n) d x.0
@@ -399,7 +399,7 @@ all_looks h ls all =
     each_map (λ (l : Look). l.handle ≡ h) (λ (l : Look). Unit {0}) (λ l is. tt) ls all
 
 -- a read that is part of such a turn leaves looks
-within_looks : (job : Job) (es : List Event) (e : NoMemory) (v : View) (d : Part)
+within_looks : (job : Job) (es : List Access) (e : NoMemory) (v : View) (d : Part)
     → JobReads job es (Err e) v d → LooksAlone (λ h. Unit {0}) d
 within_looks (jobs.Read h) es e v d (inl x) = no_looks (λ k. Unit {0}) d x.0
 within_looks (jobs.Read h) es e v d (inr x) =

@@ -8,7 +8,7 @@ use Rattle.cb_types.specs.declared.job.Job.TheVariants.{Gather, Install, Fetch, 
 use Rattle.cb_types.specs.declared.order.Kept.{Kept}
 use Rattle.cb_types.specs.declared.reply.Reply.{Reply}
 use Rattle.cb_types.specs.declared.reply.Reply.TheVariants.{NoRoom}
-use Rattle.cb_world.specs.declared.event.Event.{Event}
+use Rattle.cb_world.specs.declared.access.Access.{Access}
 use Rattle.cb_world.specs.declared.shown.Shown.{Shown}
 use Rattle.cb_world.specs.FarState.{FarState}
 use Rattle.cb_world.specs.Played.{played}
@@ -43,7 +43,7 @@ stops_none p l Land order a b alone stops = absurd alone
 stops_none p l job order a b alone stops = stops
 
 with_alone : (c : Config) (job : Job) (order : Option Kept) (reply : Option Reply)
-    (keeps : Option Kept) (start : Shown) (es : List Event) (took gave : FarState)
+    (keeps : Option Kept) (start : Shown) (es : List Access) (took gave : FarState)
     → NeedsNoOrder job → DidWith c job order reply keeps start es took gave
     → DidAs c job reply start es took gave
 with_alone c job order (Some r) keeps start es took gave alone (worn_with last is kept same ran) =
@@ -57,7 +57,7 @@ with_alone c job order None keeps start es took gave alone (x, same) =
 
 -- what such a job did
 pub did_alone : (c : Config) (job : Job) (order : Option Kept) (reply : Option Reply)
-    (keeps : Option Kept) (start : Shown) (es : List Event) (took gave : FarState)
+    (keeps : Option Kept) (start : Shown) (es : List Access) (took gave : FarState)
     → NeedsNoOrder job → DidBy c job order reply keeps start es took gave
     → DidAs c job reply start es took gave
 did_alone c job order reply keeps start es took gave alone (inl x) = x.0
@@ -71,7 +71,7 @@ turn_alone c t alone did =
     did_alone c t.job t.order t.reply t.keeps t.start t.acts t.took t.gave alone did
 
 kept_alone : (c : Config) (job : Job) (order : Option Kept) (reply : Option Reply)
-    (keeps : Option Kept) (start : Shown) (es : List Event) (took gave : FarState)
+    (keeps : Option Kept) (start : Shown) (es : List Access) (took gave : FarState)
     → NeedsNoOrder job → DidWith c job order reply keeps start es took gave → keeps ≡ order
 kept_alone c job order (Some r) keeps start es took gave alone (worn_with last is kept same ran) =
     kept

@@ -12,7 +12,7 @@ use Rattle.cb_types.specs.declared.reply.Reply.{Reply}
 use Rattle.cb_types.specs.declared.reply.Reply.TheVariants as answer
 use Rattle.cb_types.specs.declared.request.Request.TheVariants as request
 use Rattle.cb_world.specs.declared.entry.Entry.{Entry}
-use Rattle.cb_world.specs.declared.event.Event.{Event}
+use Rattle.cb_world.specs.declared.access.Access.{Access}
 use Rattle.cb_world.specs.declared.shown.Shown.{Shown}
 use Rattle.cb_world.specs.FarState.{FarState}
 use Rattle.cb_world.specs.Played.{played}
@@ -81,11 +81,11 @@ make_is_next : (c : Config) (bytes : List ℕ) (h : Handle) (n : ℕ) (a b : Hol
 make_is_next c bytes h n a b p = let m = p.rule.1 in (m.next, m.first)
 
 -- one that found no room left the far state as it was, and an eviction leaves what was made
-make_found_none : (c : Config) (bytes : List ℕ) (far new : FarState) (es : List Event)
+make_found_none : (c : Config) (bytes : List ℕ) (far new : FarState) (es : List Access)
     → MakeRule c.handles bytes far new answer.NoFrame es → new ≡ far
 make_found_none c bytes far new es (less, place, left) = left.0
 
-evicted_still : (c : Config) (far new : FarState) (r : Reply) (es : List Event)
+evicted_still : (c : Config) (far new : FarState) (r : Reply) (es : List Access)
     → EvictRule far new r es → (new.made ≡ far.made) × (new.first ≡ far.first)
 evicted_still c far new r es x = elim x.answered [
   | inl few ↦ (ap (λ (f : FarState). f.made) few.state, ap (λ (f : FarState). f.first) few.state)
@@ -122,7 +122,7 @@ made_is_next c bytes h n a b (done less does) = roomed_next c bytes h n most_evi
 
 -- so the record did not know it, where all that it knew was made by then
 of_new : (first : ℕ) (c : Config) (bytes : List ℕ) (r : Result Reply NoMemory) (start : Shown)
-    (es : List Event) (took gave : FarState) (v : View)
+    (es : List Access) (took gave : FarState) (v : View)
     → DidAs c (Make bytes) (answer_of r) start es took gave → took.first ≡ first
     → ((h : ℕ) → Knows h v → h < took.made) → IfOk r (λ reply. MakesNew first (Make bytes) reply v)
 of_new first c bytes (Ok (answer.Made h n)) start es took gave v did is made =
@@ -132,7 +132,7 @@ of_new first c bytes (Ok r) start es took gave v did is made = tt
 of_new first c bytes (Err e) start es took gave v did is made = tt
 
 pub makes_new : (first : ℕ) (c : Config) (job : Job) (r : Result Reply NoMemory) (start : Shown)
-    (es : List Event) (took gave : FarState) (v : View)
+    (es : List Access) (took gave : FarState) (v : View)
     → DidAs c job (answer_of r) start es took gave → took.first ≡ first
     → ((h : ℕ) → Knows h v → h < took.made) → IfOk r (λ reply. MakesNew first job reply v)
 makes_new first c (Make bytes) r start es took gave v did is made =
@@ -173,7 +173,7 @@ full_turned c bytes n a b (done less does) =
 
 -- the first version of what it made is among what it wrote
 of_make : (c : Config) (bytes : List ℕ) (r : Result Reply NoMemory) (start known : Shown)
-    (es : List Event) (took gave : FarState) (more : List Entry)
+    (es : List Access) (took gave : FarState) (more : List Entry)
     → DidAs c (Make bytes) (answer_of r) start es took gave → OutcomeWrites (Make bytes) r more
     → known.first ≡ gave.first
     → Each (λ h. IsMadeIn known.first h more) (made_by_turn (Make bytes) (answer_of r))
@@ -189,7 +189,7 @@ of_make c bytes (Ok r) start known es took gave more did wrote first = tt
 of_make c bytes (Err e) start known es took gave more did wrote first = tt
 
 pub makes_own_by : (c : Config) (job : Job) (order : Option Kept) (r : Result Reply NoMemory)
-    (keeps : Option Kept) (start known : Shown) (es : List Event) (took gave : FarState)
+    (keeps : Option Kept) (start known : Shown) (es : List Access) (took gave : FarState)
     (more : List Entry) → DidBy c job order (answer_of r) keeps start es took gave
     → OutcomeWrites job r more → known.first ≡ gave.first
     → Each (λ h. IsMadeIn known.first h more) (made_by_turn job (answer_of r))

@@ -14,7 +14,7 @@ use Rattle.cb_types.specs.declared.job.Job.TheVariants.{Patch, Merge, Part, Comp
 use Rattle.cb_types.specs.declared.job.Job.TheVariants.{Join, Gather, Install, Fetch, Land}
 use Rattle.cb_types.specs.declared.reply.Reply.{Reply}
 use Rattle.cb_types.specs.declared.reply.Reply.TheVariants as answer
-use Rattle.cb_world.specs.declared.event.Event.{Event}
+use Rattle.cb_world.specs.declared.access.Access.{Access}
 use Rattle.cb_world.specs.declared.shown.Shown.{Shown}
 use Rattle.cb_world.specs.FarState.{FarState}
 use Rattle.cb_world.specs.Performs.{Performs}
@@ -36,12 +36,12 @@ use Rattle.cb_core.specs.Turned.{FindsWhere, Makes, MakeLacks, Stopped, Stops, S
 use Rattle.cb_core.specs.Turned.{Turned, WinsRoom, WritesObject, done, worn}
 use Rattle.cb_shared.specs.UnderLock.{IsNoRead}
 
-module _ {D E : Type 0} (run : D → List Event → D → Type 0) (shows : D → Shown → Type 0)
+module _ {D E : Type 0} (run : D → List Access → D → Type 0) (shows : D → Shown → Type 0)
     (reads : ℕ → Holding D → Reply → Holding D → Type 0) (lacks : ℕ → Holding D → Holding D → Type 0)
-    (run' : E → List Event → E → Type 0) (shows' : E → Shown → Type 0)
+    (run' : E → List Access → E → Type 0) (shows' : E → Shown → Type 0)
     (reads' : ℕ → Holding E → Reply → Holding E → Type 0)
     (lacks' : ℕ → Holding E → Holding E → Type 0) (f : D → E)
-    (back : (d e : D) (es : List Event) → run d es e → run' (f d) es (f e))
+    (back : (d e : D) (es : List Access) → run d es e → run' (f d) es (f e))
     (told : (d : D) (s : Shown) → shows' (f d) s → shows d s) where
   abbrev pub on : Holding D → Holding E
   on a = record { desk = f a.desk; far = a.far }
@@ -53,8 +53,8 @@ module _ {D E : Type 0} (run : D → List Event → D → Type 0) (shows : D →
   abbrev MapsLack : (Holding D → Holding D → Type 0) → (Holding E → Holding E → Type 0) → Type 0
   MapsLack L M = (a b : Holding D) → L a b → M (on a) (on b)
 
-  performs : (a b : D) (far : FarState) (rules : List Event → Type 0) (sound : Shown → Type 0)
-      (does : List Event → Shown → Shown → Type 0)
+  performs : (a b : D) (far : FarState) (rules : List Access → Type 0) (sound : Shown → Type 0)
+      (does : List Access → Shown → Shown → Type 0)
       → Performs (λ es. run a es b) (λ s. shows a s × Sound s far) rules sound does
       → Performs (λ es. run' (f a) es (f b)) (λ s. shows' (f a) s × Sound s far) rules sound does
   performs a b far rules sound does p = record {

@@ -15,8 +15,8 @@ use Rattle.cb_types.specs.declared.job.Job.TheVariants.{Filter, Free, Write}
 use Rattle.cb_types.specs.declared.reply.Reply.{Reply}
 use Rattle.cb_types.specs.declared.reply.Reply.TheVariants as answer
 use Rattle.cb_world.specs.declared.entry.Entry.{Entry}
-use Rattle.cb_world.specs.declared.event.Event.{Event}
-use Rattle.cb_world.specs.declared.event.Event.TheVariants.{Looked, Claimed}
+use Rattle.cb_world.specs.declared.access.Access.{Access}
+use Rattle.cb_world.specs.declared.access.Access.TheVariants.{Looked, Claimed}
 use Rattle.cb_world.specs.FarState.{FarState}
 use Rattle.cb_world.specs.Looks.{IsFound, IsLook}
 use Rattle.cb_world.specs.Played.{played}
@@ -41,11 +41,11 @@ use Rattle.cb_shared.proofs.Bringing.{bring_gives}
 use Rattle.cb_shared.proofs.Resting.{far_empty, here_empty}
 
 -- the events wrote nothing where the reply is Range
-abbrev pub Unwritten : Reply → List Event → View → Type 0
+abbrev pub Unwritten : Reply → List Access → View → Type 0
 Unwritten r es v = (len : ℕ) → r ≡ answer.Range len → written_by es v.known v.fresh ≡ []
 
 -- what a reply tells after events it tells before them
-told_before : (h : ℕ) (es fs : List Event) (r : Reply) (v : View) → Unwritten r (es ++ fs) v
+told_before : (h : ℕ) (es fs : List Access) (r : Reply) (v : View) → Unwritten r (es ++ fs) v
     → PinsTold h r (after_events es v) → PinsTold h r v
 told_before h es fs (answer.Pinned count) v none told = told
 told_before h es fs (answer.Version n) v none told = told
@@ -67,7 +67,7 @@ told_before h es fs r v none told = tt
 
 module _ (h : ℕ) where
   -- ---- the word that was found last tells of the object
-  look_tells : (v : View) (w : ℕ) (e : Event) → IsLook h w e → SaysPins v e → TellsPins h w v
+  look_tells : (v : View) (w : ℕ) (e : Access) → IsLook h w e → SaysPins v e → TellsPins h w v
   look_tells v w (Looked k x) is tells =
       subst (λ (j : ℕ). TellsPins j w v) is.0 (subst (λ (n : ℕ). TellsPins k n v) is.1 tells)
   look_tells v w (Claimed k x n words) is tells =
@@ -75,27 +75,27 @@ module _ (h : ℕ) where
   look_tells v w e is tells = absurd is
 
   -- of the view as it stood when the word was found
-  found_tells : (v : View) (w : ℕ) (es : List Event) → IsFound h w es → SayPins es v
-      → (before : List Event) × (later : List Event) × (es ≡ before ++ later)
+  found_tells : (v : View) (w : ℕ) (es : List Access) → IsFound h w es → SayPins es v
+      → (before : List Access) × (later : List Access) × (es ≡ before ++ later)
       × TellsPins h w (acted before v)
   found_tells v w [] found all = absurd found
   found_tells v w (e ∷ es) (inl later) all = let z = found_tells (act e v) w es later all.1 in
-      (e ∷ z.0, z.1, ap (λ (l : List Event). e ∷ l) z.2, z.3)
+      (e ∷ z.0, z.1, ap (λ (l : List Access). e ∷ l) z.2, z.3)
   found_tells v w (e ∷ es) (inr last) all =
       ([], e ∷ es, refl, look_tells v w e last.0 all.0)
 
   -- So it is told of the view before all events. What the desk ran last is among all that it ran.
-  by_word : (v : View) (s t : Slate) (es : List Event) (w : ℕ) (r : Reply) → slate_run s es t
+  by_word : (v : View) (s t : Slate) (es : List Access) (w : ℕ) (r : Reply) → slate_run s es t
       → SayPins t.acts v → IsFound h w es → Unwritten r t.acts v
       → ((u : View) → TellsPins h w u → PinsTold h r u) → PinsTold h r v
   by_word v s t es w r ran all found none tells =
       let acts : t.acts ≡ s.acts ++ es = ap (λ (q : Slate). q.acts) ran.0 in
       let z = found_tells (acted s.acts v) w es found (say_behind s.acts es v
-      (subst (λ (l : List Event). SayPins l v) acts all)) in
-      let before : List Event = s.acts ++ z.0 in
-      let whole : t.acts ≡ before ++ z.1 = acts ∙ ap (λ (l : List Event). s.acts ++ l) z.2
+      (subst (λ (l : List Access). SayPins l v) acts all)) in
+      let before : List Access = s.acts ++ z.0 in
+      let whole : t.acts ≡ before ++ z.1 = acts ∙ ap (λ (l : List Access). s.acts ++ l) z.2
       ∙ sym (append_assoc s.acts z.0 z.1) in
-      told_before h before z.1 r v (subst (λ (l : List Event). Unwritten r l v) whole none)
+      told_before h before z.1 r v (subst (λ (l : List Access). Unwritten r l v) whole none)
       (subst (PinsTold h r) (acted_is before v)
       (tells (acted before v) (subst (TellsPins h w) (sym (acted_append s.acts z.0 v)) z.3)))
 
@@ -118,11 +118,11 @@ module _ (v : View) (h : ℕ) where
   bare : (w : ℕ) → TellsPins h w v → state_of w ≡ state.Here → pins_of w ≡ 0 → pins_on h v ≡ 0
   bare w tells here none = let few = (tells.here here).1 in omega (arith, few, none)
 
-  empty_told : (es : List Event) (r : Reply) → AbsentAs state.Empty h es r → PinsTold h r v
+  empty_told : (es : List Access) (r : Reply) → AbsentAs state.Empty h es r → PinsTold h r v
   empty_told es r (zero, told, is) = subst (λ (q : Reply). PinsTold h q v) (sym is) tt
   empty_told es r (suc n, told, is) = subst (λ (q : Reply). PinsTold h q v) (sym is) tt
 
-  write_told : (at : ℕ) (bytes : List ℕ) (es : List Event) (r : Reply) (w : ℕ) (q : State)
+  write_told : (at : ℕ) (bytes : List ℕ) (es : List Access) (r : Reply) (w : ℕ) (q : State)
       → state_of w ≡ q → TellsPins h w v → AnsweredAs q (WriteHere h at bytes es r) w h es r
       → PinsTold h r v
   write_told at bytes es r w state.Empty e tells x = empty_told es r x
@@ -136,7 +136,7 @@ module _ (v : View) (h : ℕ) where
   write_told at bytes es r w state.Moving e tells is =
       subst (λ (q : Reply). PinsTold h q v) (sym is) tt
 
-  free_told : (es : List Event) (r : Reply) (w : ℕ) (q : State) → state_of w ≡ q → TellsPins h w v
+  free_told : (es : List Access) (r : Reply) (w : ℕ) (q : State) → state_of w ≡ q → TellsPins h w v
       → FreeAs q w h es r → PinsTold h r v
   free_told es r w state.Empty e tells x = empty_told es r x
   free_told es r w state.Far e tells (n, told, next) =
@@ -150,7 +150,7 @@ module _ (v : View) (h : ℕ) where
   free_told es r w state.Moving e tells is = subst (λ (q : Reply). PinsTold h q v) (sym is) tt
 
   -- a filter, which tells neither a version nor an end
-  filter_told : (frames : ℕ) (far new : FarState) (es : List Event) (r : Reply) (w : ℕ) (q : State)
+  filter_told : (frames : ℕ) (far new : FarState) (es : List Access) (r : Reply) (w : ℕ) (q : State)
       → state_of w ≡ q → TellsPins h w v → FilterAs q frames h w far new r es → PinsTold h r v
   filter_told frames far new es r w state.Here e tells (inl (some, is, same)) =
       pinned_told w r tells e some is
@@ -255,7 +255,7 @@ filter_turn c h r v a b all none (worn end is same ran) =
     subst (λ (q : Reply). PinsTold h.n q v) (sym is) tt
 filter_turn c h r v a b all none (done few does) = filter_counts v h.n c _ b r all none does
 
-pub counts_pins : (c : Config) (job : Job) (r : Result Reply NoMemory) (es : List Event)
+pub counts_pins : (c : Config) (job : Job) (r : Result Reply NoMemory) (es : List Access)
     (more : List Entry) (took gave : FarState) (v : View)
     → DidAs c job (answer_of r) v.known es took gave → SayPins es v → OutcomeWrites job r more
     → written_by es v.known v.fresh ≡ more → CountsPins job r v

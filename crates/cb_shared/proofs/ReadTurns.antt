@@ -14,7 +14,7 @@ use Rattle.cb_types.specs.declared.job.Job.TheVariants.{Read}
 use Rattle.cb_types.specs.declared.reply.Reply.{Reply}
 use Rattle.cb_types.specs.declared.reply.Reply.TheVariants as answer
 use Rattle.cb_world.specs.declared.entry.Entry.{Entry}
-use Rattle.cb_world.specs.declared.event.Event.{Event}
+use Rattle.cb_world.specs.declared.access.Access.{Access}
 use Rattle.cb_world.specs.declared.shown.Shown.{Shown}
 use Rattle.cb_world.specs.FarState.{FarState}
 use Rattle.cb_world.specs.Looks.{IsFound}
@@ -54,7 +54,7 @@ use Rattle.cb_shared.proofs.Turns.{order_left}
 
 -- ---- The first part tells neither of bytes nor of many pins, and of a word that is Moving where it
 -- found it so.
-absent_plain : (r : Reply) (q : State) (w h : ℕ) (es acts : List Event) → acts ≡ es
+absent_plain : (r : Reply) (q : State) (w h : ℕ) (es acts : List Access) → acts ≡ es
     → IsFound h w es → state_of w ≡ q → AnsweredAs q (λ v. r ≡ answer.Stays) w h es r
     → TellsNoPin h acts (Ok r)
 absent_plain r state.Empty w h es acts same found at (zero, told, is) =
@@ -73,7 +73,7 @@ come_plain : (c : Config) (h : ℕ) (a b : Holding Slate) (r : Reply) → a.desk
     → ComesIn slate_run slate_shows c h a r b → TellsNoPin h b.desk.acts (Ok r)
 come_plain c h a b r idle (not_far x off) = let z = x.rule.1 in
     absent_plain r (state_of z.word) z.word h x.events b.desk.acts
-    (ap (λ (d : Slate). d.acts) x.ran.0 ∙ ap (λ (es : List Event). es ++ x.events) idle)
+    (ap (λ (d : Slate). d.acts) x.ran.0 ∙ ap (λ (es : List Access). es ++ x.events) idle)
     z.found refl z.answer
 come_plain c h a b r idle (was_far m x bring) =
     bring_gives (λ (q : Reply). TellsNoPin h b.desk.acts (Ok q))
@@ -97,13 +97,13 @@ no_worn_there r is (inr swapped) = worn_swapped swapped.0 (sym is ∙ swapped.1)
     worn_swapped f e = cc
 
 -- the object stays away
-did_away : (c : Config) (handle : Handle) (r : Reply) (start : Shown) (es : List Event)
+did_away : (c : Config) (handle : Handle) (r : Reply) (start : Shown) (es : List Access)
     (took gave : FarState) → BroughtForRead c handle (Ok r) start es took gave → (IsThere r → ⊥)
     → DidAs c (Read handle) (Some r) start es took gave
 did_away c handle r start es took gave (first_worn end is same ran) off = worn end is same ran
 did_away c handle r start es took gave (first_done few come) off = done few (away come off)
 
-did_stop : (c : Config) (handle : Handle) (e : NoMemory) (start : Shown) (es : List Event)
+did_stop : (c : Config) (handle : Handle) (e : NoMemory) (start : Shown) (es : List Access)
     (took gave : FarState) → BroughtForRead c handle (Err e) start es took gave
     → DidAs c (Read handle) None start es took gave
 did_stop c handle e start es took gave x = record { few = x.few; stops = bringing_stops x.stops }
@@ -117,7 +117,7 @@ tries_reply h other v d x = absurd x
 
 -- it is here, and is read
 did_read : (c : Config) (handle : Handle) (place : Reply) (r : Result Reply NoMemory) (v : View)
-    (d : Part) (start : Shown) (es : List Event) (took gave : FarState)
+    (d : Part) (start : Shown) (es : List Access) (took gave : FarState)
     → BroughtForRead c handle (Ok place) start es took gave → IsThere place → Tries handle.n r v d
     → DidAs c (Read handle) (answer_of r) start es took gave
 did_read c handle place r v d start es took gave (first_worn end is same ran) there x =
@@ -284,7 +284,7 @@ work_read c handle (Ok place) r took gave p m q kept b none there tries =
 work_read c handle (Err e) r took gave p m q kept b none there tries = absurd there
 
 -- ---- what it tells
-slate_follows : (d e : Slate) (es : List Event) (s : Shown) → slate_run d es e → slate_shows d s
+slate_follows : (d e : Slate) (es : List Access) (s : Shown) → slate_run d es e → slate_shows d s
     → Agree s es × slate_shows e (played es s)
 slate_follows d e es s run shown = (
   subst (λ (t : Shown). Agree t es) (sym shown) run.1,
@@ -321,11 +321,11 @@ no_frame_read c h (Ok r) m q (d, moves, quiet, range, tries) = λ e. subst IsRea
 no_frame_read c h (Err e) m q tries = tt
 
 -- the seat knows and pins what it did
-pub knows_come : (h : ℕ) (p m : SeatAt) (es : List Event) → Runs p es m → Knows h (record_at p)
+pub knows_come : (h : ℕ) (p m : SeatAt) (es : List Access) → Runs p es m → Knows h (record_at p)
     → Knows h (record_at m)
 knows_come h p m es runs knows = subst (Knows h) (sym (after_runs p m es runs)) knows
 
-pub few_come : (p m : SeatAt) (es : List Event) → Runs p es m → length (record_at p).pins ≤ 16
+pub few_come : (p m : SeatAt) (es : List Access) → Runs p es m → length (record_at p).pins ≤ 16
     → length (record_at m).pins ≤ 16
 few_come p m es runs few = subst (λ (v : View). length v.pins ≤ 16)
     (sym (after_runs p m es runs)) few

@@ -13,8 +13,8 @@ use Rattle.cb_ptr.specs.declared.word.State.TheVariants as word
 use Rattle.cb_ptr.specs.Word.{state_of, len_of, place_of}
 use Rattle.cb_world.specs.declared.desk.Claim.{Claim}
 use Rattle.cb_world.specs.declared.desk.Claim.TheVariants as answer
-use Rattle.cb_world.specs.declared.event.Event.{Event}
-use Rattle.cb_world.specs.declared.event.Event.TheVariants as ev
+use Rattle.cb_world.specs.declared.access.Access.{Access}
+use Rattle.cb_world.specs.declared.access.Access.TheVariants as ev
 use Rattle.cb_world.specs.declared.object.Object.{Object}
 use Rattle.cb_world.specs.declared.object.Object.TheVariants as is
 use Rattle.cb_world.specs.declared.shown.Shown.{Shown}
@@ -60,13 +60,13 @@ rights_are h known v may = ⊎_elim (λ (some_of : 0 < entries_on h v). omega (a
     omega (arith, one)) may
 
 -- what is settled may be settled so
-abbrev pub SettlesRightly : Event → Shown → Type 0
+abbrev pub SettlesRightly : Access → Shown → Type 0
 SettlesRightly (ev.Settled h w) s = MaySettle s h w
 SettlesRightly e s = Unit {0}
 
 module _ (k : ℕ) (s : Shown) (v : View) (known : v.known ≡ s) where
   -- an object that was never made is made by the step, or stays so
-  unmade_after : (e : Event) → Agrees s e → SettlesRightly e s → object_at s k ≡ never
+  unmade_after : (e : Access) → Agrees s e → SettlesRightly e s → object_at s k ≡ never
       → MayWrite k (after e s) (act e v)
   unmade_after (ev.Looked h w) a m n = inr n
   unmade_after (ev.Claimed h w version words) a m n = elim (ℕ_discrete k h) [
@@ -113,7 +113,7 @@ module _ (k : ℕ) (s : Shown) (v : View) (known : v.known ≡ s) where
       made word.Moving is_st q never_h e = absurd q
 
 -- a step of the holder leaves the rights of its turn
-pub rights_acted : (allowed : Option ℕ) (e : Event) (v : View) → Agrees v.known e
+pub rights_acted : (allowed : Option ℕ) (e : Access) (v : View) → Agrees v.known e
     → SettlesRightly e v.known → 1 ≤ rights allowed v.known v
     → 1 ≤ rights allowed (act e v).known (act e v)
 rights_acted None e v a m r = r
@@ -122,7 +122,7 @@ rights_acted (Some k) e v a m r = rights_are k (act e v).known (act e v) (⊎_el
     (λ (n : object_at v.known k ≡ never). unmade_after k v.known v refl e a m n)
     (may_write k v.known v r))
 
-pub rights_moved : (allowed : Option ℕ) (e : Event) (p q : SeatAt) → Acts p e q
+pub rights_moved : (allowed : Option ℕ) (e : Access) (p q : SeatAt) → Acts p e q
     → SettlesRightly e (record_at p).known → 1 ≤ rights allowed (record_at p).known (record_at p)
     → 1 ≤ rights allowed (record_at q).known (record_at q)
 rights_moved allowed e p q a m r = subst (λ (x : Sat). 1 ≤ rights allowed x.0.known x.0)

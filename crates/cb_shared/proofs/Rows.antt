@@ -4,8 +4,8 @@ use Rattle.std.proofs.Common.{refl, sym, ap, ◌∙◌, subst, arith, ◌^◌, A
 use Rattle.std.proofs.Common.{get_or-set_same, get_or-set_other}
 use Rattle.std.proofs.lemmas.List.{take_more_set}
 use Rattle.cb_world.specs.declared.entry.Entry.{Entry}
-use Rattle.cb_world.specs.declared.event.Event.{Event}
-use Rattle.cb_world.specs.declared.event.Event.TheVariants.{Loaded, Stored}
+use Rattle.cb_world.specs.declared.access.Access.{Access}
+use Rattle.cb_world.specs.declared.access.Access.TheVariants.{Loaded, Stored}
 use Rattle.cb_world.specs.declared.shown.Shown.{Shown}
 use Rattle.cb_world.specs.FrameWords.{OwnsWords, loads_from, stores_from}
 use Rattle.cb_world.specs.Played.{after}
@@ -20,7 +20,7 @@ loads_last : (p : ℕ) (ws : List ℕ) (w : ℕ)
 loads_last p [] w = let z : p ≡ p + 0 = omega arith in ap (λ (q : ℕ). Loaded q w ∷ []) z
 loads_last p (x ∷ ws) w =
     let z : p + 1 + length ws ≡ p + length (x ∷ ws) = omega arith in
-    ap (λ (es : List Event). Loaded p x ∷ es) (loads_last (p + 1) ws w
+    ap (λ (es : List Access). Loaded p x ∷ es) (loads_last (p + 1) ws w
     ∙ ap (λ (q : ℕ). loads_from (p + 1) ws ++ Loaded q w ∷ []) z)
 
 stores_last : (p : ℕ) (ws : List ℕ) (w : ℕ)
@@ -28,11 +28,11 @@ stores_last : (p : ℕ) (ws : List ℕ) (w : ℕ)
 stores_last p [] w = let z : p ≡ p + 0 = omega arith in ap (λ (q : ℕ). Stored q w ∷ []) z
 stores_last p (x ∷ ws) w =
     let z : p + 1 + length ws ≡ p + length (x ∷ ws) = omega arith in
-    ap (λ (es : List Event). Stored p x ∷ es) (stores_last (p + 1) ws w
+    ap (λ (es : List Access). Stored p x ∷ es) (stores_last (p + 1) ws w
     ∙ ap (λ (q : ℕ). stores_from (p + 1) ws ++ Stored q w ∷ []) z)
 
 -- one event more, which writes nothing
-pub acts_run : (p q : SeatAt) (e : Event) → adds e (record_at p).known ≡ []
+pub acts_run : (p q : SeatAt) (e : Access) → adds e (record_at p).known ≡ []
     → SaysPins (record_at p) e → Acts p e q
     → Runs p (e ∷ []) q
 acts_run p q e none says a = (
@@ -50,7 +50,7 @@ load_more p q r first i words w below long runs acts =
     ≡ loads_from first (take i words) ++ Loaded (first + i) w ∷ [] =
     ap (loads_from first) (take_more_set words i w below) ∙ loads_last first (take i words) w
     ∙ ap (λ (n : ℕ). loads_from first (take i words) ++ Loaded (first + n) w ∷ []) long in
-    subst (λ (es : List Event). Runs p es r) (sym here)
+    subst (λ (es : List Access). Runs p es r) (sym here)
     (runs_more p q r (loads_from first (take i words)) (Loaded (first + i) w ∷ []) runs
     (acts_run q r (Loaded (first + i) w) refl tt acts))
 
@@ -61,7 +61,7 @@ store_more p q r first i done more w is long runs acts =
     let here : stores_from first more ≡ stores_from first done ++ Stored (first + i) w ∷ [] =
     ap (stores_from first) is ∙ stores_last first done w
     ∙ ap (λ (n : ℕ). stores_from first done ++ Stored (first + n) w ∷ []) long in
-    subst (λ (es : List Event). Runs p es r) (sym here)
+    subst (λ (es : List Access). Runs p es r) (sym here)
     (runs_more p q r (stores_from first done) (Stored (first + i) w ∷ []) runs
     (acts_run q r (Stored (first + i) w) refl tt acts))
 

@@ -9,7 +9,7 @@ use Rattle.cb_types.specs.declared.job.Job.{Job}
 use Rattle.cb_types.specs.declared.order.Kept.{Kept}
 use Rattle.cb_types.specs.declared.reply.Reply.{Reply}
 use Rattle.cb_world.specs.declared.entry.Entry.{Entry}
-use Rattle.cb_world.specs.declared.event.Event.{Event}
+use Rattle.cb_world.specs.declared.access.Access.{Access}
 use Rattle.cb_world.specs.declared.shown.Shown.{Shown}
 use Rattle.cb_world.specs.FarState.{FarState}
 use Rattle.cb_world.specs.Orders.{KeepsOrder, LeavesOrders}
@@ -43,9 +43,9 @@ order_left s far t new None leaves kept = tt
 order_left s far t new (Some o) leaves kept = leaves o kept
 
 -- the events that were run, what they wrote, and that what is known then is sound and keeps orders
-record LeftAt (c : Config) (W : List Entry → Type 0) (runs : List Event → Type 0)
+record LeftAt (c : Config) (W : List Entry → Type 0) (runs : List Access → Type 0)
     (took gave : FarState) (v w : View) : Type 0 where
-  pub events : List Event
+  pub events : List Access
   pub more : List Entry
   pub ran : runs events
   pub next : IsOneTurnOn took gave
@@ -54,9 +54,9 @@ record LeftAt (c : Config) (W : List Entry → Type 0) (runs : List Event → Ty
   pub stood : Stood c w.known gave
   pub leaves : LeavesOrders v.known took w.known gave
 
-module _ {D : Type 0} (at : D → SeatAt) (run : D → List Event → D → Type 0)
+module _ {D : Type 0} (at : D → SeatAt) (run : D → List Access → D → Type 0)
     (shows : D → Shown → Type 0)
-    (back : (d e : D) (es : List Event) → run d es e → Runs (at d) es (at e))
+    (back : (d e : D) (es : List Access) → run d es e → Runs (at d) es (at e))
     (shown : (d : D) (s : Shown) → s ≡ (record_at (at d)).known → shows d s) (c : Config)
     (a b : Holding D) (idle : (record_at (at a.desk)).acts ≡ [])
     (fresh : (record_at (at a.desk)).fresh ≡ [])
@@ -64,7 +64,7 @@ module _ {D : Type 0} (at : D → SeatAt) (run : D → List Event → D → Type
   abbrev slate_of : D → Slate
   slate_of d = record { known = (record_at (at d)).known; acts = (record_at (at d)).acts }
 
-  slate_ran : (d e : D) (es : List Event) → run d es e → slate_run (slate_of d) es (slate_of e)
+  slate_ran : (d e : D) (es : List Access) → run d es e → slate_run (slate_of d) es (slate_of e)
   slate_ran d e es x = let r = back d e es x in let v = record_at (at d) in (
     (λ i. record {
       known = (ap (λ (m : Sat). m.0.known) r.0.2 ∙ acted_known es v) i;
@@ -79,7 +79,7 @@ module _ {D : Type 0} (at : D → SeatAt) (run : D → List Event → D → Type
   abbrev w : View
   w = record_at (at b.desk)
 
-  module _ (es : List Event) (ran : run a.desk es b.desk) where
+  module _ (es : List Access) (ran : run a.desk es b.desk) where
     moved : w ≡ acted es v
     moved = ap (λ (m : Sat). m.0) (back a.desk b.desk es ran).0.2
 
@@ -88,7 +88,7 @@ module _ {D : Type 0} (at : D → SeatAt) (run : D → List Event → D → Type
 
     acts_are : w.acts ≡ es
     acts_are = ap (λ (x : View). x.acts) moved ∙ ap (λ (x : View). x.acts) (acted_is es v)
-        ∙ ap (λ (l : List Event). l ++ es) idle
+        ∙ ap (λ (l : List Access). l ++ es) idle
 
     first_is : (let x : Holding Slate = record { desk = slate_of a.desk; far = a.far } in x)
         ≡ held_by v.known [] a.far
@@ -244,6 +244,6 @@ module _ {D : Type 0} (at : D → SeatAt) (run : D → List Event → D → Type
   }
 
   -- what holds after each run of the desk holds after the turn
-  pub turn_ran : (P : D → Type 0) → ((d : D) (es : List Event) → run a.desk es d → P d)
+  pub turn_ran : (P : D → Type 0) → ((d : D) (es : List Access) → run a.desk es d → P d)
       → (W : List Entry → Type 0) → TurnLeaves run shows c a b W → P b.desk
   turn_ran P f W z = f b.desk z.events z.ran

@@ -18,7 +18,7 @@ use Rattle.cb_types.specs.declared.order.Kept.TheVariants.{Decode, Encode}
 use Rattle.cb_types.specs.declared.reply.Reply.{Reply}
 use Rattle.cb_types.specs.declared.reply.Reply.TheVariants as answer
 use Rattle.cb_orders.specs.Done.{DecodeDoneState, EncodeDoneState}
-use Rattle.cb_world.specs.declared.event.Event.{Event}
+use Rattle.cb_world.specs.declared.access.Access.{Access}
 use Rattle.cb_world.specs.declared.shown.Shown.{Shown}
 use Rattle.cb_world.specs.FarState.{FarState}
 use Rattle.cb_world.proofs.Laws.{codes_stay}
@@ -247,7 +247,7 @@ lands_another : IsAnswered (asks.Land row_done) (ends.Install answer.Done) → �
 lands_another x = x
 
 -- ---- what such a turn does, over a desk that does nothing and shows what is known
-abbrev runs_none : ℕ → List Event → ℕ → Type 0
+abbrev runs_none : ℕ → List Access → ℕ → Type 0
 runs_none d es e = es ≡ []
 
 abbrev shows_known : ℕ → Shown → Type 0

@@ -4,7 +4,7 @@ use Rattle.std.proofs.Common.{sym, ap, ◌∙◌, subst, inl, inr, lit≤, lit<,
 use Rattle.std.proofs.lemmas.Bool.{eqb-false}
 use Rattle.cb_member.specs.declared.no_memory.NoMemory.{NoMemory}
 use Rattle.cb_types.specs.declared.reply.Reply.TheVariants as answer
-use Rattle.cb_world.specs.declared.event.Event.{Event}
+use Rattle.cb_world.specs.declared.access.Access.{Access}
 use Rattle.cb_world.specs.declared.entry.Entry.{Entry}
 use Rattle.cb_world.specs.declared.shown.Shown.{Shown}
 use Rattle.cb_world.specs.Empty.{empty_shown}
@@ -34,7 +34,7 @@ use Rattle.cb_shared.proofs.WorkedUnder.{far, last, stood}
 abbrev Brings : FarState → SeatAt → SeatAt → Type 0
 Brings gave p q = BringAt two (the_handle 1) (Ok answer.Worn) (far last) gave p q
 
-no_end : (s : Shown) (es : List Event) → BroughtForRead two (the_handle 1) (Ok answer.Stays) s es (far last) (far last) → ⊥
+no_end : (s : Shown) (es : List Access) → BroughtForRead two (the_handle 1) (Ok answer.Stays) s es (far last) (far last) → ⊥
 no_end s es (worn end is same ran) = absurd cc
 no_end s es (done few comes) = omega (arith, few)
 

@@ -7,7 +7,7 @@ use Rattle.std.specs.Prelude.{slice_index}
 use Rattle.atomic_table.specs.Table.{Step}
 use Rattle.cb_ptr.specs.Word.{state_number, state_of}
 use Rattle.cb_ptr.specs.declared.word.State.TheVariants as state
-use Rattle.cb_world.specs.declared.event.Event.{Event}
+use Rattle.cb_world.specs.declared.access.Access.{Access}
 use Rattle.cb_world.specs.Memory.{bytes_in, words_for}
 use Rattle.cb_world.specs.Played.{Agrees}
 use Rattle.cb_world.specs.Written.{entry}
@@ -192,14 +192,14 @@ read_moves_elsewhere : (p q : SeatAt) → (q.table_id ≡ p.table_id → ⊥)
 read_moves_elsewhere p q n g = n g.1.0
 
 -- ---- one event more, which agrees with what the seat knew
-acts : (p q : SeatAt) (e : Event) → Moves p q (act e (record_at p)) → Agrees (record_at p).known e
+acts : (p q : SeatAt) (e : Access) → Moves p q (act e (record_at p)) → Agrees (record_at p).known e
     → Acts p e q
 acts p q e m agrees = (m, agrees)
 
-acts_elsewhere : (p q : SeatAt) (e : Event) → (q.table_id ≡ p.table_id → ⊥) → Acts p e q → ⊥
+acts_elsewhere : (p q : SeatAt) (e : Access) → (q.table_id ≡ p.table_id → ⊥) → Acts p e q → ⊥
 acts_elsewhere p q e n a = n a.0.0
 
-acts_against : (p q : SeatAt) (e : Event) → (Agrees (record_at p).known e → ⊥) → Acts p e q → ⊥
+acts_against : (p q : SeatAt) (e : Access) → (Agrees (record_at p).known e → ⊥) → Acts p e q → ⊥
 acts_against p q e n a = n a.1
 
 -- ---- a load of the one word of a pinned object

@@ -7,8 +7,8 @@ use Rattle.atomic_table.specs.Seated.{TableId}
 use Rattle.atomic_table.specs.Table.{Step}
 use Rattle.cb_types.specs.declared.config.Config.{Config}
 use Rattle.cb_ptr.specs.Word.{state_number}
-use Rattle.cb_world.specs.declared.event.Event.{Event}
-use Rattle.cb_world.specs.declared.event.Event.TheVariants.{Looked}
+use Rattle.cb_world.specs.declared.access.Access.{Access}
+use Rattle.cb_world.specs.declared.access.Access.TheVariants.{Looked}
 use Rattle.cb_world.specs.declared.shown.Shown.{Shown}
 use Rattle.cb_world.specs.Empty.{empty_far, empty_shown}
 use Rattle.cb_world.specs.FarState.{FarState}
@@ -73,7 +73,7 @@ began_later : IsAtRest two record part { since = 1 } → ⊥
 began_later r = eqb-false 1 0 refl r.out.2
 
 did_something : IsAtRest two record part { acts = Looked 0 0 ∷ [] } → ⊥
-did_something r = eqb-false 1 0 refl (ap (λ (es : List Event). length es) r.out.3)
+did_something r = eqb-false 1 0 refl (ap (λ (es : List Access). length es) r.out.3)
 
 knows_the_words : IsAtRest two record part { known = empty_shown 1 two } → ⊥
 knows_the_words r = eqb-false 2 0 refl (ap (λ (s : Shown). length s.objects) r.out.4)

@@ -6,8 +6,8 @@ use Rattle.std.proofs.lemmas.Bool.{eqb-false}
 use Rattle.cb_types.specs.declared.job.Job.TheVariants as job
 use Rattle.cb_types.specs.declared.reply.Reply.TheVariants as answer
 use Rattle.cb_world.specs.declared.entry.Entry.{Entry}
-use Rattle.cb_world.specs.declared.event.Event.{Event}
-use Rattle.cb_world.specs.declared.event.Event.TheVariants.{Claimed, Looked, Settled, Told}
+use Rattle.cb_world.specs.declared.access.Access.{Access}
+use Rattle.cb_world.specs.declared.access.Access.TheVariants.{Claimed, Looked, Settled, Told}
 use Rattle.cb_world.specs.declared.object.Object.TheVariants as is
 use Rattle.cb_world.specs.declared.shown.Shown.{Shown}
 use Rattle.cb_world.specs.Empty.{empty_shown}
@@ -36,7 +36,7 @@ seat v slots = (v, slots)
 
 -- ---- events of a seat
 -- what an object that was never made is told to be: it has no version
-abbrev pub tells : ℕ → List Event
+abbrev pub tells : ℕ → List Access
 tells version = Told 1 version ∷ []
 
 tells_none : Agree known (tells 0)
@@ -59,13 +59,13 @@ module _ (p q : SeatAt) where
 
   runs_unnoted : (record_at p).acts ≡ [] → (record_at q).acts ≡ [] → Runs p (tells 0) q → ⊥
   runs_unnoted none still r = eqb-false 0 1 refl (ap length (sym still
-      ∙ ap (λ (m : Sat). m.0.acts) r.0.2 ∙ ap (λ (es : List Event). es ++ tells 0) none))
+      ∙ ap (λ (m : Sat). m.0.acts) r.0.2 ∙ ap (λ (es : List Access). es ++ tells 0) none))
 
   runs_elsewhere : (q.table_id ≡ p.table_id → ⊥) → Runs p (tells 0) q → ⊥
   runs_elsewhere n r = n r.0.0
 
 -- an object that is far is freed at a version: the next one, or the one that the record has
-abbrev frees : List Event
+abbrev frees : List Access
 frees = Settled 1 0 ∷ []
 
 abbrev knowing : ℕ → View
@@ -94,7 +94,7 @@ module _ (p q : SeatAt) where
       let low = z.written.0 refl in omega (arith, low)
 
 -- a look at an object that the pass has pinned: its word counts the pin, or does not
-abbrev looks_at : ℕ → List Event
+abbrev looks_at : ℕ → List Access
 looks_at word = Looked 1 word ∷ []
 
 abbrev looker : View

@@ -7,7 +7,7 @@ use Rattle.cb_types.specs.declared.job.Job.TheVariants as job
 use Rattle.cb_types.specs.declared.order.Kept.{Kept}
 use Rattle.cb_types.specs.declared.reply.Reply.TheVariants as answer
 use Rattle.cb_world.specs.declared.entry.Entry.{Entry}
-use Rattle.cb_world.specs.declared.event.Event.{Event}
+use Rattle.cb_world.specs.declared.access.Access.{Access}
 use Rattle.cb_world.specs.declared.shown.Shown.{Shown}
 use Rattle.cb_world.specs.Empty.{empty_shown}
 use Rattle.cb_world.specs.FarState.{FarState}
@@ -35,7 +35,7 @@ use Rattle.cb_shared.proofs.WorkedSeat.{Has, gives_back, refusing, seat, tells, 
 use Rattle.cb_shared.proofs.WorkedUnder.{far, known, last, stood}
 
 -- no turn of this reply, and no far state that is the next one
-not_done : (o k : Option Kept) (s : Shown) (es : List Event) (gave : FarState)
+not_done : (o k : Option Kept) (s : Shown) (es : List Access) (gave : FarState)
     → DidBy two job.Evict o (Some answer.Done) k s es (far last) gave → ⊥
 not_done o k s es gave did =
     by (did_alone two job.Evict o (Some answer.Done) k s es (far last) gave tt did)
@@ -90,12 +90,12 @@ module _ (p q : SeatAt) where
 
 -- ---- with the read under a pin beside it
 -- events leave all of the record but what is known, what they are and what they write
-acts_keep : {A : Type 0} → (f : View → A) → ((e : Event) (v : View) → f (act e v) ≡ f v) → (es : List Event)
+acts_keep : {A : Type 0} → (f : View → A) → ((e : Access) (v : View) → f (act e v) ≡ f v) → (es : List Access)
     (v : View) → f (acted es v) ≡ f v
 acts_keep f one [] v = refl
 acts_keep f one (e ∷ es) v = acts_keep f one es (act e v) ∙ one e v
 
-acts_are : (es : List Event) (v : View) → (acted es v).acts ≡ v.acts ++ es
+acts_are : (es : List Access) (v : View) → (acted es v).acts ≡ v.acts ++ es
 acts_are [] v = sym (append-nil v.acts)
 acts_are (e ∷ es) v = acts_are es (act e v) ∙ append_assoc v.acts (e ∷ []) es
 
@@ -139,8 +139,8 @@ module _ (p q : SeatAt) where
       → WorksBy (far last) p q → ⊥
   by_untrue_events none at is w =
       let e : w.events ≡ tells 9 = sym (acts_are w.events (record_at p)
-      ∙ ap (λ (es : List Event). es ++ w.events) none) ∙ sym (ap (λ (m : Sat). m.0.acts) w.moves.2) ∙ is in
-      tells_nine (subst (λ (es : List Event). Agree known es) e
+      ∙ ap (λ (es : List Access). es ++ w.events) none) ∙ sym (ap (λ (m : Sat). m.0.acts) w.moves.2) ∙ is in
+      tells_nine (subst (λ (es : List Access). Agree known es) e
       (subst (λ (s : Shown). Agree s w.events) at w.agree))
 
   by_elsewhere : (q.id ≡ p.id → ⊥) → WorksBy (far last) p q → ⊥
@@ -206,7 +206,7 @@ module _ (p q : SeatAt) where
       ∙ w.stood.sound.here.known.first)
 
 -- ---- and to its end, with the lock given back
-abbrev first_acts : List Turn → List Event
+abbrev first_acts : List Turn → List Access
 first_acts [] = []
 first_acts (t ∷ ts) = t.acts
 
@@ -249,9 +249,9 @@ module _ (p q : SeatAt) where
       → Turns p q → ⊥
   turns_untrue none at is t =
       let e : t.events ≡ tells 9 = sym (acts_are t.events (record_at p)
-      ∙ ap (λ (es : List Event). es ++ t.events) none)
+      ∙ ap (λ (es : List Access). es ++ t.events) none)
       ∙ sym (ap (λ (m : Sat). first_acts m.0.turns) t.at.2) ∙ is in
-      tells_nine (subst (λ (es : List Event). Agree known es) e
+      tells_nine (subst (λ (es : List Access). Agree known es) e
       (subst (λ (s : Shown). Agree s t.events) at t.agree))
 
   turns_elsewhere : (q.table_id ≡ p.table_id → ⊥) → Turns p q → ⊥

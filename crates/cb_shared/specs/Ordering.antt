@@ -11,7 +11,7 @@ use Rattle.cb_types.specs.declared.order.Kept.TheVariants.{Encode, Decode}
 use Rattle.cb_types.specs.declared.reply.Reply.{Reply}
 use Rattle.cb_types.specs.declared.reply.Reply.TheVariants as answer
 use Rattle.cb_types.specs.Orders.{IsDecodable, IsEncodable}
-use Rattle.cb_world.specs.declared.event.Event.{Event}
+use Rattle.cb_world.specs.declared.access.Access.{Access}
 use Rattle.cb_world.specs.declared.shown.Shown.{Shown}
 use Rattle.cb_evict.specs.declared.gathering.Gathered.{Gathered}
 use Rattle.cb_evict.specs.declared.gathering.Gathered.TheVariants as gathered
@@ -127,7 +127,7 @@ IsAnswered (asks.Land done) o = IsLanded o
 -- What such a turn does over any desk, by each order that it may be asked with: its reply and what
 -- is kept behind it are those of the job, an order that is handed out is kept then, and it is
 -- answered Unavailable exactly where it is to be.
-pub record AsksDesk {D : Type 0} (run : D → List Event → D → Type 0) (shows : D → Shown → Type 0)
+pub record AsksDesk {D : Type 0} (run : D → List Access → D → Type 0) (shows : D → Shown → Type 0)
     (c : Config) (asked : Asked) (o : Outcome) (a b : Holding D) : Type 0 where
   pub turned : (order : Option Kept) → MayAsk c order asked
       → IfOk (told o) (λ q. TurnedWith run shows c (job_of asked) order a q (keeps_of o order) b)

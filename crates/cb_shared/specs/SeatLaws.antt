@@ -5,9 +5,9 @@ use Rattle.atomic_table.specs.Seated.{TableId}
 use Rattle.cb_types.specs.declared.config.Config.{Config}
 use Rattle.cb_ptr.specs.Word.{state_of, hot_of, len_of, place_of}
 use Rattle.cb_world.specs.declared.entry.Entry.{Entry}
-use Rattle.cb_world.specs.declared.event.Event.{Event}
-use Rattle.cb_world.specs.declared.event.Event.TheVariants.{Looked, Claimed, Told, Loaded, Stored}
-use Rattle.cb_world.specs.declared.event.Event.TheVariants.{Stamped, Settled}
+use Rattle.cb_world.specs.declared.access.Access.{Access}
+use Rattle.cb_world.specs.declared.access.Access.TheVariants.{Looked, Claimed, Told, Loaded, Stored}
+use Rattle.cb_world.specs.declared.access.Access.TheVariants.{Stamped, Settled}
 use Rattle.cb_world.specs.declared.object.Object.TheVariants as is
 use Rattle.cb_world.specs.declared.shown.Shown.{Shown}
 use Rattle.cb_world.specs.Played.{Agree, after, played, settled_by}
@@ -23,33 +23,33 @@ use Rattle.cb_rule.specs.Steps.{AreNew, FollowsLast, IsNewVersion, TellsPins, ac
 use Rattle.cb_shared.specs.declared.setup.Setup.{Setup}
 use Rattle.cb_shared.specs.Seats.{Moves, SeatAt, HoldsLock, Acts, record_at}
 
-pub acted_known : (es : List Event) (v : View) → (acted es v).known ≡ played es v.known
+pub acted_known : (es : List Access) (v : View) → (acted es v).known ≡ played es v.known
 acted_known [] v = refl
 acted_known (e ∷ es) v = acted_known es (act e v)
 
-pub acted_fresh : (es : List Event) (v : View)
+pub acted_fresh : (es : List Access) (v : View)
     → (acted es v).fresh ≡ written_by es v.known v.fresh
 acted_fresh [] v = refl
 acted_fresh (e ∷ es) v = acted_fresh es (act e v)
 
-pub acted_append : (es fs : List Event) (v : View) → acted (es ++ fs) v ≡ acted fs (acted es v)
+pub acted_append : (es fs : List Access) (v : View) → acted (es ++ fs) v ≡ acted fs (acted es v)
 acted_append [] fs v = refl
 acted_append (e ∷ es) fs v = acted_append es fs (act e v)
 
-agree_more : (es fs : List Event) (s : Shown) → Agree s es → Agree (played es s) fs
+agree_more : (es fs : List Access) (s : Shown) → Agree s es → Agree (played es s) fs
     → Agree s (es ++ fs)
 agree_more [] fs s a b = b
 agree_more (e ∷ es) fs s a b = (a.0, agree_more es fs (after e s) a.1 b)
 
 -- the events leave all of the record but what is known, what they are and what they write
-abbrev pub after_events : List Event → View → View
+abbrev pub after_events : List Access → View → View
 after_events es v = record v {
   known = played es v.known;
   acts = v.acts ++ es;
   fresh = written_by es v.known v.fresh;
 }
 
-pub acted_is : (es : List Event) (v : View) → acted es v ≡ after_events es v
+pub acted_is : (es : List Access) (v : View) → acted es v ≡ after_events es v
 acted_is [] v = λ i. record v { acts = sym (append-nil v.acts) i }
 acted_is (e ∷ es) v = acted_is es (act e v) ∙ (λ i. record v {
   known = played es (after e v.known);
@@ -58,27 +58,27 @@ acted_is (e ∷ es) v = acted_is es (act e v) ∙ (λ i. record v {
 })
 
 -- the word that a look or a claim found tells of the pins of the view
-abbrev pub SaysPins : View → Event → Type 0
+abbrev pub SaysPins : View → Access → Type 0
 SaysPins v (Looked h w) = TellsPins h w v
 SaysPins v (Claimed h w n words) = TellsPins h w v
 SaysPins v e = Unit {0}
 
 -- so does each of the events of a view, as it stood when it found the word
-abbrev pub SayPins : List Event → View → Type 0
+abbrev pub SayPins : List Access → View → Type 0
 SayPins [] v = Unit {0}
 SayPins (e ∷ es) v = SaysPins v e × SayPins es (act e v)
 
 -- The seat's view has these events more. They agree with what it knew, and what they write is new
 -- to its record. The words that were found tell of its pins.
-abbrev pub Runs : SeatAt → List Event → SeatAt → Type 0
+abbrev pub Runs : SeatAt → List Access → SeatAt → Type 0
 Runs p es q = Moves p q (acted es (record_at p)) × Agree (record_at p).known es
     × AreNew (written_by es (record_at p).known []) (record_at p) × SayPins es (record_at p)
 
-pub known_is : (p q : SeatAt) (es : List Event) → Moves p q (acted es (record_at p))
+pub known_is : (p q : SeatAt) (es : List Access) → Moves p q (acted es (record_at p))
     → (record_at q).known ≡ played es (record_at p).known
 known_is p q es m = ap (λ (k : Sat). k.0.known) m.2 ∙ acted_known es (record_at p)
 
-written_more : (es : List Event) (s : Shown) (old : List Entry)
+written_more : (es : List Access) (s : Shown) (old : List Entry)
     → written_by es s old ≡ written_by es s [] ++ old
 written_more [] s old = refl
 written_more (e ∷ es) s old = let t = after e s in let more = adds e s in
@@ -87,7 +87,7 @@ written_more (e ∷ es) s old = let t = after e s in let more = adds e s in
     (ap (λ (l : List Entry). written_by es t [] ++ l) (sym (append-nil more))
     ∙ sym (written_more es t (more ++ [])))
 
-written_then : (es fs : List Event) (s : Shown) (old : List Entry)
+written_then : (es fs : List Access) (s : Shown) (old : List Entry)
     → written_by (es ++ fs) s old ≡ written_by fs (played es s) (written_by es s old)
 written_then [] fs s old = refl
 written_then (e ∷ es) fs s old = written_then es fs (after e s) (adds e s ++ old)
@@ -97,7 +97,7 @@ each_behind P [] ys all = all
 each_behind P (x ∷ xs) ys all = each_behind P xs ys all.1
 
 -- what is new after events was so before them
-new_kept : (h n : ℕ) (es : List Event) (v : View) → IsNewVersion h n (after_events es v)
+new_kept : (h n : ℕ) (es : List Access) (v : View) → IsNewVersion h n (after_events es v)
     → IsNewVersion h n v
 new_kept h n es v new = let P : Entry → Type 0 = λ x. x.handle ≡ h → x.version < n in
     let more = written_by es v.known [] in record {
@@ -108,7 +108,7 @@ new_kept h n es v new = let P : Entry → Type 0 = λ x. x.handle ≡ h → x.ve
     }
 
 -- what follows the last after events follows what they wrote
-follows_kept : (e : Entry) (before : List Entry) (es : List Event) (v : View)
+follows_kept : (e : Entry) (before : List Entry) (es : List Access) (v : View)
     → FollowsLast e before (after_events es v)
     → FollowsLast e (before ++ written_by es v.known []) v
 follows_kept e before es v follows alone knows = let z = follows alone knows in
@@ -121,7 +121,7 @@ follows_kept e before es v follows alone knows = let z = follows alone knows in
           ∙ sym (append_assoc before more (v.fresh ++ v.written))) z.2,
     )
 
-new_behind : (es : List Event) (v : View) (more : List Entry) → AreNew more (after_events es v)
+new_behind : (es : List Access) (v : View) (more : List Entry) → AreNew more (after_events es v)
     → AreNew (written_by es v.known []) v → AreNew (more ++ written_by es v.known []) v
 new_behind es v [] new old = old
 new_behind es v (e ∷ more) new old = (
@@ -130,7 +130,7 @@ new_behind es v (e ∷ more) new old = (
   new_behind es v more new.2 old,
 )
 
-new_more : (es fs : List Event) (v : View) → AreNew (written_by es v.known []) v
+new_more : (es fs : List Access) (v : View) → AreNew (written_by es v.known []) v
     → AreNew (written_by fs (played es v.known) []) (acted es v)
     → AreNew (written_by (es ++ fs) v.known []) v
 new_more es fs v a b = let s = v.known in let more = written_by fs (played es s) [] in
@@ -138,13 +138,13 @@ new_more es fs v a b = let s = v.known in let more = written_by fs (played es s)
     (sym (written_then es fs s [] ∙ written_more fs (played es s) (written_by es s [])))
     (new_behind es v more (subst (AreNew more) (acted_is es v) b) a)
 
-say_more : (es fs : List Event) (v : View) → SayPins es v → SayPins fs (acted es v)
+say_more : (es fs : List Access) (v : View) → SayPins es v → SayPins fs (acted es v)
     → SayPins (es ++ fs) v
 say_more [] fs v a b = b
 say_more (e ∷ es) fs v a b = (a.0, say_more es fs (act e v) a.1 b)
 
 -- the last of the events found words after the first ones
-pub say_behind : (es fs : List Event) (v : View) → SayPins (es ++ fs) v → SayPins fs (acted es v)
+pub say_behind : (es fs : List Access) (v : View) → SayPins (es ++ fs) v → SayPins fs (acted es v)
 say_behind [] fs v all = all
 say_behind (e ∷ es) fs v all = say_behind es fs (act e v) all.1
 
@@ -156,7 +156,7 @@ nothing_behind (x ∷ xs) ys e = absurd (absurd_cons e)
     absurd_cons q = cc
 
 -- where events wrote nothing at all, the first of them wrote nothing either
-pub still_unwritten : (es fs : List Event) (s : Shown) (old : List Entry)
+pub still_unwritten : (es fs : List Access) (s : Shown) (old : List Entry)
     → written_by (es ++ fs) s old ≡ [] → written_by es s old ≡ old
 still_unwritten es fs s old none =
     let here : written_by es s old ≡ [] =
@@ -166,12 +166,12 @@ still_unwritten es fs s old none =
     here ∙ sym (nothing_behind (written_by es s []) old (sym (written_more es s old) ∙ here))
 
 -- what a seat wrote that had written nothing in its turn
-pub fresh_new : (p q : SeatAt) (es : List Event) → (record_at p).fresh ≡ [] → Runs p es q
+pub fresh_new : (p q : SeatAt) (es : List Access) → (record_at p).fresh ≡ [] → Runs p es q
     → AreNew (acted es (record_at p)).fresh (record_at p)
 fresh_new p q es none r = subst (λ (l : List Entry). AreNew l (record_at p))
     (ap (written_by es (record_at p).known) (sym none) ∙ sym (acted_fresh es (record_at p))) r.2
 
-pub runs_more : (p q r : SeatAt) (es fs : List Event) → Runs p es q → Runs q fs r
+pub runs_more : (p q r : SeatAt) (es fs : List Access) → Runs p es q → Runs q fs r
     → Runs p (es ++ fs) r
 runs_more p q r es fs a b = let m = a.0 in let n = b.0 in (
   (
@@ -192,7 +192,7 @@ runs_more p q r es fs a b = let m = a.0 in let n = b.0 in (
       (subst (λ (v : View). SayPins fs v) (ap (λ (k : Sat). k.0) m.2) b.3),
 )
 
-pub runs_follows : (p q : SeatAt) (es : List Event) (s : Shown) → Runs p es q
+pub runs_follows : (p q : SeatAt) (es : List Access) (s : Shown) → Runs p es q
     → s ≡ (record_at p).known
     → Agree s es × (played es s ≡ (record_at q).known)
 runs_follows p q es s a b = (
@@ -200,7 +200,7 @@ runs_follows p q es s a b = (
   ap (played es) b ∙ sym (known_is p q es a.0),
 )
 
-pub sized_after : (c : Config) (e : Event) (s : Shown) → AreSized c s → AreSized c (after e s)
+pub sized_after : (c : Config) (e : Access) (s : Shown) → AreSized c s → AreSized c (after e s)
 sized_after c (Looked h w) s z = record {
   objects = z.objects;
   hots = length-set s.hots h (hot_of w) ∙ z.hots;
@@ -236,7 +236,7 @@ sized_after c (Settled h w) s z = record {
 }
 
 -- the seat holds the lock as before
-pub holds_still : (z : TableId) (k : Setup) (c : Config) (p q : SeatAt) (e : Event)
+pub holds_still : (z : TableId) (k : Setup) (c : Config) (p q : SeatAt) (e : Access)
     → HoldsLock z k c p
     → Acts p e q → HoldsLock z k c q
 holds_still z k c p q e h a = record {

@@ -3,7 +3,7 @@ use Rattle.std.specs.Prelude.{◌≡◌, ◌+◌, ◌*◌, ◌≤◌, true}
 use Rattle.atomic_table.specs.Seated.{TableId}
 use Rattle.atomic_table.specs.declared.shared.Seat.{Seat}
 use Rattle.cb_types.specs.declared.config.Config.{Config}
-use Rattle.cb_world.specs.declared.event.Event.{Event}
+use Rattle.cb_world.specs.declared.access.Access.{Access}
 use Rattle.cb_world.specs.Played.{Agrees}
 use Rattle.cb_rule.specs.declared.view.View.{View}
 use Rattle.cb_rule.specs.Rule.{AreSized}
@@ -39,5 +39,5 @@ pub record HoldsLock (z : TableId) (k : Setup) (c : Config) (p : SeatAt) : Type 
   pub sized : AreSized c (record_at p).known
 
 -- the seat's view has the event, which agrees with what it knew
-abbrev pub Acts : SeatAt → Event → SeatAt → Type 0
+abbrev pub Acts : SeatAt → Access → SeatAt → Type 0
 Acts p e q = Moves p q (act e (record_at p)) × Agrees (record_at p).known e

@@ -11,7 +11,7 @@ use Rattle.cb_types.specs.declared.order.Kept.{Kept}
 use Rattle.cb_types.specs.declared.reply.Reply.{Reply}
 use Rattle.cb_types.specs.declared.reply.Reply.TheVariants as answer
 use Rattle.cb_world.specs.declared.entry.Entry.{Entry}
-use Rattle.cb_world.specs.declared.event.Event.{Event}
+use Rattle.cb_world.specs.declared.access.Access.{Access}
 use Rattle.cb_world.specs.declared.shown.Shown.{Shown}
 use Rattle.cb_world.specs.FarState.{FarState}
 use Rattle.cb_world.specs.Looks.{IsFound}
@@ -40,10 +40,10 @@ use Rattle.cb_shared.specs.Reading.{ReadFinds}
 -- a desk that is plain data: what is known, and the events so far
 pub record Slate : Type 0 where
   pub known : Shown
-  pub acts : List Event
+  pub acts : List Access
 
 -- it runs events that agree with what is known, and notes them
-abbrev pub slate_run : Slate → List Event → Slate → Type 0
+abbrev pub slate_run : Slate → List Access → Slate → Type 0
 slate_run s es t =
     (t ≡ record { known = played es s.known; acts = s.acts ++ es }) × Agree s.known es
 
@@ -52,7 +52,7 @@ abbrev pub slate_shows : Slate → Shown → Type 0
 slate_shows t s = s ≡ t.known
 
 -- a far state beside it
-abbrev pub held_by : Shown → List Event → FarState → Holding Slate
+abbrev pub held_by : Shown → List Access → FarState → Holding Slate
 held_by known acts far = record {
   desk = record {
     known = known;
@@ -80,7 +80,7 @@ PinLacks h a b = b ≡ a
 
 -- A turn of this job, from what was known and the far state that was taken, by these events to the
 -- far state that was given: so answered, or stopped for want of memory.
-abbrev pub DidAs : Config → Job → Option Reply → Shown → List Event → FarState → FarState → Type 0
+abbrev pub DidAs : Config → Job → Option Reply → Shown → List Access → FarState → FarState → Type 0
 DidAs c job (Some reply) start es took gave = Turned slate_run slate_shows ReadsByPin c job
     (held_by start [] took) reply (held_by (played es start) es gave)
 DidAs c job None start es took gave = Stopped slate_run slate_shows PinLacks c job
@@ -88,7 +88,7 @@ DidAs c job None start es took gave = Stopped slate_run slate_shows PinLacks c j
 
 -- So a turn of a job that hands an order out or takes one, by the order that its seat kept before
 -- it and the one that it keeps behind it. Where there was no memory it keeps what it kept.
-abbrev pub DidWith : Config → Job → Option Kept → Option Reply → Option Kept → Shown → List Event
+abbrev pub DidWith : Config → Job → Option Kept → Option Reply → Option Kept → Shown → List Access
     → FarState → FarState → Type 0
 DidWith c job order (Some reply) keeps start es took gave = TurnedWith slate_run slate_shows c job
     order (held_by start [] took) reply keeps (held_by (played es start) es gave)
@@ -97,7 +97,7 @@ DidWith c job order None keeps start es took gave = StoppedWith slate_run slate_
 
 -- A turn did its job alone, and its seat keeps the order that it kept; or it did it with that
 -- order. Which one it is follows from the job.
-abbrev pub DidBy : Config → Job → Option Kept → Option Reply → Option Kept → Shown → List Event
+abbrev pub DidBy : Config → Job → Option Kept → Option Reply → Option Kept → Shown → List Access
     → FarState → FarState → Type 0
 DidBy c job order reply keeps start es took gave =
     (DidAs c job reply start es took gave × (keeps ≡ order))
@@ -169,7 +169,7 @@ Tries h (Err e) v d = AreLooksAt h d
 
 -- The reply of a read that took no pin, after these events: it tells neither of bytes nor of many
 -- pins, and of a word that is Moving only where the last look found it so.
-abbrev pub TellsNoPin : ℕ → List Event → Result Reply NoMemory → Type 0
+abbrev pub TellsNoPin : ℕ → List Access → Result Reply NoMemory → Type 0
 TellsNoPin h es (Ok (answer.Bytes version bytes)) = ⊥
 TellsNoPin h es (Ok answer.Crowded) = ⊥
 TellsNoPin h es (Ok answer.Moving) = (w : ℕ) × IsFound h w es × (state_of w ≡ state.Moving)
@@ -177,7 +177,7 @@ TellsNoPin h es r = Unit {0}
 
 -- A job Read reads under a pin of the pass, where the object is here or could be brought in by
 -- these events. No other job does.
-abbrev pub JobReads : Job → List Event → Result Reply NoMemory → View → Part → Type 0
+abbrev pub JobReads : Job → List Access → Result Reply NoMemory → View → Part → Type 0
 JobReads (Read handle) es r v d =
     ((d ≡ nothing_more) × TellsNoPin handle.n es r) ⊎ Tries handle.n r v d
 JobReads job es r v d = d ≡ nothing_more

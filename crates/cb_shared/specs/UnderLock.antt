@@ -10,7 +10,7 @@ use Rattle.cb_types.specs.declared.order.Kept.{Kept}
 use Rattle.cb_types.specs.declared.reply.Reply.{Reply}
 use Rattle.cb_types.specs.declared.reply.Reply.TheVariants as answer
 use Rattle.cb_world.specs.declared.entry.Entry.{Entry}
-use Rattle.cb_world.specs.declared.event.Event.{Event}
+use Rattle.cb_world.specs.declared.access.Access.{Access}
 use Rattle.cb_world.specs.declared.shown.Shown.{Shown}
 use Rattle.cb_world.specs.Shown.{version_at}
 use Rattle.cb_world.specs.FarState.{FarState}
@@ -74,7 +74,7 @@ pub record IsBeginning (c : Config) (far : FarState) (v : View) : Type 0 where
 -- which the turn did its job, and what they wrote. Every order that was kept stays so.
 pub record TurnAtSeat (c : Config) (job : Job) (r : Result Reply NoMemory) (keeps : Option Kept)
     (took gave : FarState) (p q : SeatAt) : Type 0 where
-  pub events : List Event
+  pub events : List Access
   pub more : List Entry
   pub runs : Runs p events q
   pub did : DidBy c job (record_at p).order (answer_of r) keeps (record_at p).known events took gave
@@ -86,7 +86,7 @@ pub record TurnAtSeat (c : Config) (job : Job) (r : Result Reply NoMemory) (keep
   pub own : KeepsOrder (record_at q).known gave keeps
 
 -- what the first part of a read did
-abbrev pub BroughtForRead : Config → Handle → Result Reply NoMemory → Shown → List Event → FarState
+abbrev pub BroughtForRead : Config → Handle → Result Reply NoMemory → Shown → List Access → FarState
     → FarState → Type 0
 BroughtForRead c handle (Ok reply) start es took gave = BroughtToRead slate_run slate_shows c handle
     (held_by start [] took) reply (held_by (played es start) es gave)
@@ -96,7 +96,7 @@ BroughtForRead c handle (Err e) start es took gave = StoppedToRead slate_run sla
 -- The first part of a read at the desk over the seat: it wrote nothing.
 pub record BringAt (c : Config) (handle : Handle) (r : Result Reply NoMemory) (took gave : FarState)
     (p q : SeatAt) : Type 0 where
-  pub events : List Event
+  pub events : List Access
   pub runs : Runs p events q
   pub brought : BroughtForRead c handle r (record_at p).known events took gave
   pub next : IsOneTurnOn took gave
@@ -121,7 +121,7 @@ HasSame u v = (u.fresh ≡ v.fresh) × (u.written ≡ v.written) × (u.seen ≡ 
 -- record, and its reply counts the pins. Every order that was kept stays so.
 pub record WorkBy (c : Config) (job : Job) (r : Result Reply NoMemory) (keeps : Option Kept)
     (took gave : FarState) (p q : SeatAt) : Type 0 where
-  pub events : List Event
+  pub events : List Access
   pub more : List Entry
   pub within : Part
   pub agree : Agree (record_at p).known events
@@ -211,7 +211,7 @@ pub record GivesFar (c : Config) (job : Job) (r : Option Reply) (keeps : Option 
 pub record TurnWith (c : Config) (job : Job) (r : Result Reply NoMemory) (keeps : Option Kept)
     (took : FarState) (p q : SeatAt) : Type 0 where
   pub gave : FarState
-  pub events : List Event
+  pub events : List Access
   pub more : List Entry
   pub within : Part
   pub entries : ℕ

@@ -9,9 +9,7 @@ use crate::board::{SeatAt, Top};
 use crate::plays::{Load, Store};
 use byteorder::{ByteOrder, LittleEndian};
 use cb_types::Config;
-
-/// How many words of memory a frame has.
-pub(crate) const FRAME_WORDS: usize = 512;
+use cb_world::FRAME_WORDS;
 
 /// Loads the words of a frame, in order.
 pub(crate) fn load_words(

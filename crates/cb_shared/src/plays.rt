@@ -25,9 +25,9 @@ use std::marker::{Brand, PhantomData};
 // The holder of the far lock, within a turn.
 
 /// A load of a pointer word.
-pub struct Look;
+pub struct LookAt;
 
-impl Play<Option<BoxedFar>, View> for Look {
+impl Play<Option<BoxedFar>, View> for LookAt {
     ghost then = { looked };
 }
 

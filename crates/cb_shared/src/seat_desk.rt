@@ -3,11 +3,11 @@ ghost use Rattle.cb_shared.specs.Rights.{rights};
 ghost use Rattle.cb_shared.specs.Seats.{record_at};
 
 use crate::board::{SeatAt, Top};
-use crate::frames::{FRAME_WORDS, load_words, store_row};
-use crate::plays::{Load, Look, Settle, Stamp, Store, TakeClaim, Tell};
+use crate::frames::{load_words, store_row};
+use crate::plays::{Load, LookAt, Settle, Stamp, Store, TakeClaim, Tell};
 use byteorder::{ByteOrder, LittleEndian};
 use cb_types::{Config, Handle};
-use cb_world::{Claim, Desk};
+use cb_world::{Claim, Desk, FRAME_WORDS};
 use std::sync::Wait;
 
 /// The words as the holder of the far lock works at them, while others pin, unpin and write: each
@@ -50,7 +50,7 @@ impl<'a, R: Wait> Desk for SeatDesk<'a, R> {
     }
 
     fn word(&mut self, h: Handle) -> u64 {
-        self.top.load::<Look>(self.seat, 1 + h.n as usize)
+        self.top.load::<LookAt>(self.seat, 1 + h.n as usize)
     }
 
     fn version(&mut self, h: Handle) -> u64 {

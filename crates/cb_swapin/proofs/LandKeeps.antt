@@ -7,7 +7,7 @@ use Rattle.cb_types.specs.declared.order.Kept.{Kept}
 use Rattle.cb_types.specs.declared.order.Kept.TheVariants.{Encode, Decode}
 use Rattle.cb_types.specs.declared.reply.Reply.{Reply}
 use Rattle.cb_types.specs.declared.reply.Reply.TheVariants as answer
-use Rattle.cb_world.specs.declared.event.Event.{Event}
+use Rattle.cb_world.specs.declared.access.Access.{Access}
 use Rattle.cb_world.specs.declared.shown.Shown.{Shown}
 use Rattle.cb_world.specs.FarState.{FarState}
 use Rattle.cb_world.specs.Plain.{Words}
@@ -37,7 +37,7 @@ land_cases P x y far new (Some (Decode o)) r z stays brings = elim z [
 
 -- by its rule
 pub land_rule_cases : (P : Type 0) (order : Option Kept) (far new : FarState) (r : Reply)
-    (es : List Event) → LandRule order far new r es → (new ≡ far → P)
+    (es : List Access) → LandRule order far new r es → (new ≡ far → P)
     → ((id p : ℕ) → BringsRule (λ set. 0) id p far new r es → P) → P
 land_rule_cases P None far new r es z stays brings = stays z.same
 land_rule_cases P (Some (Encode o)) far new r es z stays brings = stays z.same
@@ -78,7 +78,7 @@ land_settings_stay x y far new order r z =
 
 -- the configured sizes, and what is counted
 pub land_stays : (c : Config) (order : Option Kept) (far new : FarState) (r : Reply)
-    (es : List Event) → LandRule order far new r es → StaysIf c 16 far new
+    (es : List Access) → LandRule order far new r es → StaysIf c 16 far new
 land_stays c order far new r es z = land_rule_cases (StaysIf c 16 far new) order far new r es z
     (λ same. stays_same c 16 far new (omega arith) same)
     (λ id p brings. bring_stays c id p far new r es (λ set there. omega arith) brings)
@@ -90,7 +90,7 @@ land_step_stays c x y far new order r z = land_cases (StaysIf c 16 far new) x y 
     (λ o at step. bring_step_stays c x y far new o.set o.position r (λ set there. omega arith) step)
 
 -- no set has another code
-pub land_codes : (order : Option Kept) (far new : FarState) (r : Reply) (es : List Event)
+pub land_codes : (order : Option Kept) (far new : FarState) (r : Reply) (es : List Access)
     → LandRule order far new r es → KeepCodes far new
 land_codes order far new r es z = land_rule_cases (KeepCodes far new) order far new r es z
     (λ same. codes_same far new same) (λ id p brings. swap_codes id p far new r es brings)

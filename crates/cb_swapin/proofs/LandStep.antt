@@ -5,7 +5,7 @@ use Rattle.cb_types.specs.declared.order.Kept.{Kept}
 use Rattle.cb_types.specs.declared.order.Kept.TheVariants.{Encode, Decode}
 use Rattle.cb_types.specs.declared.reply.Reply.{Reply}
 use Rattle.cb_types.specs.declared.reply.Reply.TheVariants as answer
-use Rattle.cb_world.specs.declared.event.Event.{Event}
+use Rattle.cb_world.specs.declared.access.Access.{Access}
 use Rattle.cb_world.specs.declared.shown.Shown.{Shown}
 use Rattle.cb_world.specs.FarState.{FarState}
 use Rattle.cb_world.specs.Now.{now}
@@ -27,17 +27,17 @@ PerformsLand x y far new order r =
     PerformsStill x y far new (LandRule order far new r) (LandEffect order far new r)
 
 -- it does what bringing its position in does
-pub lands_swaps : (o : DecodeOrder) (far new : FarState) (r : Reply) (es : List Event) (s t : Shown)
+pub lands_swaps : (o : DecodeOrder) (far new : FarState) (r : Reply) (es : List Access) (s t : Shown)
     → LandsRow o far new r es s t → SwapEffect o.set o.position far new r es s t
 lands_swaps o far new (answer.Swapped f) es s t x = x.swapped
 lands_swaps o far new r es s t x = x
 
 -- a refusal leaves every word, and the far state
-refused : (x y : Words) (far new : FarState) (s : Shown) (es : List Event) (r refusal : Reply)
+refused : (x y : Words) (far new : FarState) (s : Shown) (es : List Access) (r refusal : Reply)
     → Plain x es y → r ≡ refusal → new ≡ far → es ≡ [] → IsKnown y new (played es s)
     → IsRefused refusal x y far new r × IsStepKnown y far new s
 refused x y far new s es r refusal run reply same none known = (
-  record { reply = reply; words = subst (λ (l : List Event). Plain x l y) none run; same = same },
+  record { reply = reply; words = subst (λ (l : List Access). Plain x l y) none run; same = same },
   record {
     shown = played es s;
     known = known;
@@ -77,10 +77,10 @@ land_step x y far new (Some (Decode o)) r s op k = elim op.rule [
 ]
 
 -- no version is written
-nothing_written : (es : List Event) (s : Shown) → es ≡ [] → Writes es s []
-nothing_written es s none = subst (λ (l : List Event). Writes l s []) (sym none) (λ old. refl)
+nothing_written : (es : List Access) (s : Shown) → es ≡ [] → Writes es s []
+nothing_written es s none = subst (λ (l : List Access). Writes l s []) (sym none) (λ old. refl)
 
-pub land_unwritten : (order : Option Kept) (far new : FarState) (r : Reply) (es : List Event)
+pub land_unwritten : (order : Option Kept) (far new : FarState) (r : Reply) (es : List Access)
     (s t : Shown) → LandRule order far new r es → LandEffect order far new r es s t → Writes es s []
 land_unwritten None far new r es s t rule x = nothing_written es s rule.none
 land_unwritten (Some (Encode o)) far new r es s t rule x = nothing_written es s rule.none

@@ -7,7 +7,7 @@ use Rattle.cb_set.specs.SetState.{SetState, live_at}
 use Rattle.cb_types.specs.declared.order.DecodeOrder.{DecodeOrder}
 use Rattle.cb_types.specs.declared.reply.Reply.{Reply}
 use Rattle.cb_types.specs.declared.reply.Reply.TheVariants as answer
-use Rattle.cb_world.specs.declared.event.Event.{Event}
+use Rattle.cb_world.specs.declared.access.Access.{Access}
 use Rattle.cb_world.specs.declared.shown.Shown.{Shown}
 use Rattle.cb_world.specs.FarState.{FarState}
 use Rattle.cb_world.specs.Orders.{IsDecodeKept, KeepsOrder}
@@ -23,10 +23,10 @@ use Rattle.cb_swapin.proofs.OrderRow.{made_row}
 use Rattle.cb_swapin.proofs.RowGiven.{none_given}
 
 -- an operation is told by another rule and effect, where these follow
-pub performs_as : {runs : List Event → Type 0} {knows sound : Shown → Type 0}
-    {rules others : List Event → Type 0} {does more : List Event → Shown → Shown → Type 0}
-    → ((es : List Event) → rules es → others es)
-    → ((es : List Event) (s t : Shown) → does es s t → more es s t)
+pub performs_as : {runs : List Access → Type 0} {knows sound : Shown → Type 0}
+    {rules others : List Access → Type 0} {does more : List Access → Shown → Shown → Type 0}
+    → ((es : List Access) → rules es → others es)
+    → ((es : List Access) (s t : Shown) → does es s t → more es s t)
     → Performs runs knows rules sound does → Performs runs knows others sound more
 performs_as rule effect x = record {
   events = x.events;
@@ -39,8 +39,8 @@ performs_as rule effect x = record {
 }
 
 -- what does nothing, and leaves the far state
-pub performs_nothing : {runs : List Event → Type 0} {knows sound : Shown → Type 0}
-    {rules : List Event → Type 0} {does : List Event → Shown → Shown → Type 0}
+pub performs_nothing : {runs : List Access → Type 0} {knows sound : Shown → Type 0}
+    {rules : List Access → Type 0} {does : List Access → Shown → Shown → Type 0}
     → runs [] → ((s : Shown) → knows s → sound s) → rules [] → ((s : Shown) → does [] s s)
     → Performs runs knows rules sound does
 performs_nothing ran stays rule still = record {
@@ -55,27 +55,27 @@ performs_nothing ran stays rule still = record {
 
 -- ---- a swap-in
 pub effect_swaps : (given : Option (Bor (List ℕ))) (id p : ℕ) (far new : FarState) (r : Reply)
-    (es : List Event) (s t : Shown) → BringsEffect given id p far new r es s t
+    (es : List Access) (s t : Shown) → BringsEffect given id p far new r es s t
     → SwapEffect id p far new r es s t
 effect_swaps given id p far new (answer.Swapped f) es s t x = x.0
 effect_swaps given id p far new r es s t x = x
 
 -- ---- the landing of an order's row
 effect_lands : (o : DecodeOrder) (row : Bor (List ℕ)) (far new : FarState) (r : Reply)
-    (es : List Event) (s t : Shown) → IsDecoded o row.now
+    (es : List Access) (s t : Shown) → IsDecoded o row.now
     → BringsEffect (Some row) o.set o.position far new r es s t → LandsRow o far new r es s t
 effect_lands o row far new (answer.Swapped f) es s t made x =
     record { swapped = x.0; made = subst (IsDecoded o) (sym x.1) made }
 effect_lands o row far new r es s t made x = x
 
 module _ (done : Option (Bor DecodeDoneState)) (far : FarState) where
-  abbrev Lands : (List Event → Type 0) → (Shown → Type 0) → (Shown → Type 0)
+  abbrev Lands : (List Access → Type 0) → (Shown → Type 0) → (Shown → Type 0)
       → Option (Bor DecodeDoneState) → FarState → Reply → Type 0
   Lands runs knows sound d new r = Performs runs knows (LandRule (done_order d) far new r) sound
       (LandEffect (done_order d) far new r)
 
   -- there is no order
-  pub lands_none : {runs : List Event → Type 0} {knows sound : Shown → Type 0} → done ≡ None
+  pub lands_none : {runs : List Access → Type 0} {knows sound : Shown → Type 0} → done ≡ None
       → runs [] → ((s : Shown) → knows s → sound s) → Lands runs knows sound done far answer.NoOrder
   lands_none {runs = runs} {knows = knows} {sound = sound} e ran stays =
       subst (λ (d : Option (Bor DecodeDoneState)). Lands runs knows sound d far answer.NoOrder) (sym e)
@@ -87,7 +87,7 @@ module _ (done : Option (Bor DecodeDoneState)) (far : FarState) where
         subst (λ (o : Option (Bor DecodeDoneState)). KeepsOrder s far (done_order o)) at kept
 
     -- its position is not live
-    pub lands_outdated : {runs : List Event → Type 0} {knows sound : Shown → Type 0}
+    pub lands_outdated : {runs : List Access → Type 0} {knows sound : Shown → Type 0}
         (a b : DecodeOrder) → a ≡ d.now.order → b ≡ d.now.order → live_in far a.set b.position ≡ false
         → runs [] → ((s : Shown) → knows s → sound s)
         → Lands runs knows sound done far (answer.Changed (record { n = a.set }))
@@ -111,7 +111,7 @@ module _ (done : Option (Bor DecodeDoneState)) (far : FarState) where
         (made_row far d.now.order row.now kept made))
 
     -- and it is brought in
-    pub lands_row : {runs : List Event → Type 0} {knows sound : Shown → Type 0}
+    pub lands_row : {runs : List Access → Type 0} {knows sound : Shown → Type 0}
         (a b : DecodeOrder) (row : Bor (List ℕ)) (new : FarState) (r : Reply) → a ≡ d.now.order
         → b ≡ d.now.order → live_in far a.set b.position ≡ true → IsDecoded d.now.order row.now
         → Performs runs knows (BringsRule (λ set. 0) a.set b.position far new r) sound

@@ -7,7 +7,7 @@ use Rattle.cb_ptr.specs.declared.word.PtrWord.{PtrWord}
 use Rattle.cb_ptr.specs.Word.{fields_of, state_of, hot_of, len_of, place_of, pins_of}
 use Rattle.cb_world.specs.declared.object.Object.{Object}
 use Rattle.cb_world.specs.declared.object.Object.TheVariants as is
-use Rattle.cb_world.specs.declared.event.Event.TheVariants.{Looked, Settled}
+use Rattle.cb_world.specs.declared.access.Access.TheVariants.{Looked, Settled}
 use Rattle.cb_world.specs.declared.shown.Shown.{Shown}
 use Rattle.cb_world.specs.Memory.{window, words_for}
 use Rattle.cb_world.specs.Shown.{Covers, Fits, object_at, version_at}

@@ -1,7 +1,7 @@
 -- A row is stored in a run of frames.
 use Rattle.std.proofs.Common.{◌≡◌, ℕ, ◌+◌, ◌*◌, ◌/◌, ◌≤◌, List, [], ◌∷◌, length, refl, arith, length-set}
-use Rattle.cb_world.specs.declared.event.Event.{Event}
-use Rattle.cb_world.specs.declared.event.Event.TheVariants.{Stored}
+use Rattle.cb_world.specs.declared.access.Access.{Access}
+use Rattle.cb_world.specs.declared.access.Access.TheVariants.{Stored}
 use Rattle.cb_world.specs.declared.object.Object.{Object}
 use Rattle.cb_world.specs.declared.object.Object.TheVariants as is
 use Rattle.cb_world.specs.declared.shown.Shown.{Shown}
@@ -32,18 +32,18 @@ vacant_owned s f pages vacant p lies = (
 )
 
 -- ---- lists of stores
-stores_no_claim : (f pages : ℕ) (es : List Event) → StoresIn f pages es → NoClaim es
+stores_no_claim : (f pages : ℕ) (es : List Access) → StoresIn f pages es → NoClaim es
 stores_no_claim f pages [] a = tt
 stores_no_claim f pages (Stored p x ∷ es) a = stores_no_claim f pages es a.1
 stores_no_claim f pages (e ∷ es) a = absurd a
 
-pub stores_first : (f pages : ℕ) (es : List Event) → StoresIn f pages es → LooksFirst es
+pub stores_first : (f pages : ℕ) (es : List Access) → StoresIn f pages es → LooksFirst es
 stores_first f pages [] a = tt
 stores_first f pages (Stored p x ∷ es) a =
     (stores_no_claim f pages es a.1, stores_first f pages es a.1)
 stores_first f pages (e ∷ es) a = absurd a
 
-pub stores_nothing : (f pages : ℕ) (es : List Event) (s : Shown) → StoresIn f pages es
+pub stores_nothing : (f pages : ℕ) (es : List Access) (s : Shown) → StoresIn f pages es
     → Writes es s []
 stores_nothing f pages [] s a old = refl
 stores_nothing f pages (Stored p x ∷ es) s a old =
@@ -76,7 +76,7 @@ unfolding put
 leaves_run s p [] = refl
 leaves_run s p (w ∷ ws) = leaves_run (after (Stored p w) s) (p + 1) ws
 
-pub row_stored : (runs : List Event → Type 0) (knows : Shown → Type 0) (f pages : ℕ)
+pub row_stored : (runs : List Access → Type 0) (knows : Shown → Type 0) (f pages : ℕ)
     (row : List ℕ) → length row ≡ 4096 * pages → runs (stores_from (512 * f) (words_in row))
     → ((s : Shown) → knows s → IsRunVacant s f pages)
     → Brought runs knows (StoresIn f pages)

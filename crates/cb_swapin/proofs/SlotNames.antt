@@ -2,8 +2,8 @@
 use Rattle.std.proofs.Common.{◌≡◌, ◌≢◌, ◌⊎◌, ℕ, zero, suc, ◌+◌, ◌<◌, ◌≤◌, List, [], ◌∷◌, ◌++◌, length, get_or, set, Option, Some, None, sym, refl, ap, ◌∙◌, subst, arith, inl, inr, length-set, get_or-set_same, get_or-set_other}
 use Rattle.std.proofs.lemmas.Bool.{cases_eq, cases_lt}
 use Rattle.std.proofs.lemmas.List.{get_or_past}
-use Rattle.cb_world.specs.declared.event.Event.{Event}
-use Rattle.cb_world.specs.declared.event.Event.TheVariants.{Looked, Settled}
+use Rattle.cb_world.specs.declared.access.Access.{Access}
+use Rattle.cb_world.specs.declared.access.Access.TheVariants.{Looked, Settled}
 use Rattle.cb_world.specs.declared.homes.Home.{Home}
 use Rattle.cb_world.specs.Homes.{home_at}
 use Rattle.cb_world.specs.Looks.{LooksFirst, NoLook}
@@ -65,20 +65,20 @@ not_before slots i h apart e x = let same = apart x.0 i h x.2 e in omega (arith,
 
 -- ---- events
 -- objects of the first n slots are looked at and settled, and nothing else is done
-abbrev pub BringsBelow : ℕ → List (Option ℕ) → List Event → Type 0
+abbrev pub BringsBelow : ℕ → List (Option ℕ) → List Access → Type 0
 BringsBelow n slots [] = Unit {0}
 BringsBelow n slots (Looked h w ∷ es) = NamedBelow n slots h × BringsBelow n slots es
 BringsBelow n slots (Settled h w ∷ es) = NamedBelow n slots h × BringsBelow n slots es
 BringsBelow n slots (e ∷ es) = ⊥
 
-pub below_append : (n : ℕ) (slots : List (Option ℕ)) (es fs : List Event) → BringsBelow n slots es
+pub below_append : (n : ℕ) (slots : List (Option ℕ)) (es fs : List Access) → BringsBelow n slots es
     → BringsBelow n slots fs → BringsBelow n slots (es ++ fs)
 below_append n slots [] fs a b = b
 below_append n slots (Looked h w ∷ es) fs a b = (a.0, below_append n slots es fs a.1 b)
 below_append n slots (Settled h w ∷ es) fs a b = (a.0, below_append n slots es fs a.1 b)
 below_append n slots (e ∷ es) fs a b = absurd a
 
-pub below_more : (n : ℕ) (slots : List (Option ℕ)) (es : List Event) → BringsBelow n slots es
+pub below_more : (n : ℕ) (slots : List (Option ℕ)) (es : List Access) → BringsBelow n slots es
     → BringsBelow (n + 1) slots es
 below_more n slots [] a = tt
 below_more n slots (Looked h w ∷ es) a =
@@ -87,7 +87,7 @@ below_more n slots (Settled h w ∷ es) a =
     ((a.0.0, omega (arith, a.0.1), a.0.2), below_more n slots es a.1)
 below_more n slots (e ∷ es) a = absurd a
 
-pub below_brings : (n : ℕ) (slots : List (Option ℕ)) (f pages : ℕ) (es : List Event)
+pub below_brings : (n : ℕ) (slots : List (Option ℕ)) (f pages : ℕ) (es : List Access)
     → BringsBelow n slots es → BringsSlots slots f pages es
 below_brings n slots f pages [] a = tt
 below_brings n slots f pages (Looked h w ∷ es) a =
@@ -97,12 +97,12 @@ below_brings n slots f pages (Settled h w ∷ es) a =
 below_brings n slots f pages (e ∷ es) a = absurd a
 
 -- the next object is another than those that were settled
-below_no_look : (k h w x : ℕ) (es : List Event) → k ≢ h → NoLook k es
+below_no_look : (k h w x : ℕ) (es : List Access) → k ≢ h → NoLook k es
     → NoLook k (es ++ Looked h w ∷ Settled h x ∷ [])
 below_no_look k h w x [] off none = ((λ v e. off (sym e.0)), ((λ v e. e), tt))
 below_no_look k h w x (e ∷ es) off none = (none.0, below_no_look k h w x es off none.1)
 
-pub below_first : (i : ℕ) (slots : List (Option ℕ)) (h w x : ℕ) (es : List Event)
+pub below_first : (i : ℕ) (slots : List (Option ℕ)) (h w x : ℕ) (es : List Access)
     → NamesApart slots → NamesHandle slots i h → BringsBelow i slots es → LooksFirst es
     → LooksFirst (es ++ Looked h w ∷ Settled h x ∷ [])
 below_first i slots h w x [] apart e a first = (tt, tt)
@@ -182,7 +182,7 @@ one_cleared n slots old new last k x e within is =
     })
 
 -- one slot more
-pub slot_cleared : (runs : List Event → Type 0) (shows : Shown → Type 0) (n place : ℕ)
+pub slot_cleared : (runs : List Access → Type 0) (shows : Shown → Type 0) (n place : ℕ)
     (slots : List (Option ℕ)) (old new last : List (Option Home)) → ClearedBelow n slots old new
     → ((h : ℕ) → IsNamed slots h → h < length old) → (o : Option ℕ) → get_or slots n None ≡ o
     → BringsSlot runs shows new last place o → ClearedBelow (n + 1) slots old last

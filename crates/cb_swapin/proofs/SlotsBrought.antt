@@ -7,8 +7,8 @@ use Rattle.cb_class.specs.Class.{IsClass, IsClassOf, pages_of, slots_of}
 use Rattle.cb_class.proofs.Laws.{object_fits, slot_in_run, slots_apart}
 use Rattle.cb_ptr.specs.Word.{len_of}
 use Rattle.cb_span.specs.Places.{slot_place}
-use Rattle.cb_world.specs.declared.event.Event.{Event}
-use Rattle.cb_world.specs.declared.event.Event.TheVariants.{Looked, Settled}
+use Rattle.cb_world.specs.declared.access.Access.{Access}
+use Rattle.cb_world.specs.declared.access.Access.TheVariants.{Looked, Settled}
 use Rattle.cb_world.specs.declared.entry.Entry.{Entry}
 use Rattle.cb_world.specs.declared.homes.Home.{Home}
 use Rattle.cb_world.specs.declared.object.Object.TheVariants as is
@@ -158,12 +158,12 @@ skip_brought s t class f i slots b empty = record {
 
 -- ---- the loop
 -- the objects of the first slots are brought in
-abbrev pub BroughtBelow : (List Event → Type 0) → (Shown → Type 0) → ℕ → List (Option ℕ) → Class → ℕ
+abbrev pub BroughtBelow : (List Access → Type 0) → (Shown → Type 0) → ℕ → List (Option ℕ) → Class → ℕ
     → Type 0
 BroughtBelow runs knows i slots class f =
     Brought runs knows (BringsBelow i slots) (AreBrought i slots class f)
 
-pub none_brought : (runs : List Event → Type 0) (knows : Shown → Type 0) (slots : List (Option ℕ))
+pub none_brought : (runs : List Access → Type 0) (knows : Shown → Type 0) (slots : List (Option ℕ))
     (class : Class) (f : ℕ) → runs [] → BroughtBelow runs knows 0 slots class f
 none_brought runs knows slots class f ran = record {
   events = [];
@@ -185,16 +185,16 @@ none_brought runs knows slots class f ran = record {
 
 -- what the next slot's events add
 pub record AddsSlot (knows : Shown → Type 0) (i : ℕ) (slots : List (Option ℕ)) (class : Class)
-    (f : ℕ) (es fs : List Event) : Type 0 where
+    (f : ℕ) (es fs : List Access) : Type 0 where
   pub tells : BringsBelow (i + 1) slots fs
   pub looks_first : LooksFirst (es ++ fs)
   pub allowed : (s : Shown) → knows s → Allowed (played es s) fs
   pub nothing : (s : Shown) → knows s → Writes fs (played es s) []
   pub effect : (s : Shown) → knows s → AreBrought (i + 1) slots class f s (played fs (played es s))
 
-slot_added : (runs next : List Event → Type 0) (knows : Shown → Type 0) (i : ℕ)
+slot_added : (runs next : List Access → Type 0) (knows : Shown → Type 0) (i : ℕ)
     (slots : List (Option ℕ)) (class : Class) (f : ℕ) (b : BroughtBelow runs knows i slots class f)
-    (fs : List Event) → next (b.events ++ fs) → AddsSlot knows i slots class f b.events fs
+    (fs : List Access) → next (b.events ++ fs) → AddsSlot knows i slots class f b.events fs
     → BroughtBelow next knows (i + 1) slots class f
 slot_added runs next knows i slots class f b fs ran x = record {
   events = b.events ++ fs;
@@ -209,15 +209,15 @@ slot_added runs next knows i slots class f b fs ran x = record {
       (x.effect s k);
 }
 
-no_more : (es : List Event) → es ++ [] ≡ es
+no_more : (es : List Access) → es ++ [] ≡ es
 no_more [] = refl
-no_more (e ∷ es) = ap (λ (l : List Event). e ∷ l) (no_more es)
+no_more (e ∷ es) = ap (λ (l : List Access). e ∷ l) (no_more es)
 
 -- one slot more
-pub slot_brought : (runs last next : List Event → Type 0) (knows later : Shown → Type 0) (i : ℕ)
+pub slot_brought : (runs last next : List Access → Type 0) (knows later : Shown → Type 0) (i : ℕ)
     (slots : List (Option ℕ)) (class : Class) (f : ℕ) (homes new : List (Option Home))
     (b : BroughtBelow runs knows i slots class f)
-    → ((fs : List Event) → last fs → next (b.events ++ fs))
+    → ((fs : List Access) → last fs → next (b.events ++ fs))
     → ((s : Shown) → knows s → later (played b.events s))
     → ((s : Shown) → knows s → AreStored s f class slots)
     → IsClass class → length slots ≡ slots_of class → NamesApart slots
@@ -248,7 +248,7 @@ slot_brought runs last next knows later i slots class f homes new b more after_b
           w slots apart (stored s k) (b.effect s k) e (one s k).len (one s k).settled;
     })
 
-pub all_brought : (runs : List Event → Type 0) (knows : Shown → Type 0) (i : ℕ)
+pub all_brought : (runs : List Access → Type 0) (knows : Shown → Type 0) (i : ℕ)
     (slots : List (Option ℕ)) (class : Class) (f : ℕ) → length slots ≤ i → i ≤ length slots
     → BroughtBelow runs knows i slots class f
     → Brought runs knows (BringsSlots slots f (pages_of class))

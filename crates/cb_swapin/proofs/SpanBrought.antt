@@ -3,8 +3,8 @@ use Rattle.std.proofs.Common.{◌≡◌, ℕ, ◌*◌, ◌<◌, List, [], ◌∷
 use Rattle.cb_class.specs.declared.class.Class.{Class}
 use Rattle.cb_class.specs.Class.{pages_of, slots_of, words_of}
 use Rattle.cb_class.proofs.Laws.{object_fits, slot_in_run}
-use Rattle.cb_world.specs.declared.event.Event.{Event}
-use Rattle.cb_world.specs.declared.event.Event.TheVariants.{Looked, Stored, Settled}
+use Rattle.cb_world.specs.declared.access.Access.{Access}
+use Rattle.cb_world.specs.declared.access.Access.TheVariants.{Looked, Stored, Settled}
 use Rattle.cb_world.specs.declared.entry.Entry.{Entry}
 use Rattle.cb_world.specs.declared.shown.Shown.{Shown}
 use Rattle.cb_world.specs.Memory.{put, words_for}
@@ -53,13 +53,13 @@ waiting_stored s t f class slots row long sized x e =
     })
 
 -- ---- lists of events
-stores_bring : (slots : List (Option ℕ)) (f pages : ℕ) (es fs : List Event) → StoresIn f pages es
+stores_bring : (slots : List (Option ℕ)) (f pages : ℕ) (es fs : List Access) → StoresIn f pages es
     → BringsSlots slots f pages fs → BringsSlots slots f pages (es ++ fs)
 stores_bring slots f pages [] fs a b = b
 stores_bring slots f pages (Stored p x ∷ es) fs a b = (a.0, stores_bring slots f pages es fs a.1 b)
 stores_bring slots f pages (e ∷ es) fs a b = absurd a
 
-brings_no_claim : (slots : List (Option ℕ)) (f pages : ℕ) (es : List Event)
+brings_no_claim : (slots : List (Option ℕ)) (f pages : ℕ) (es : List Access)
     → BringsSlots slots f pages es → NoClaim es
 brings_no_claim slots f pages [] a = tt
 brings_no_claim slots f pages (Looked h w ∷ es) a = brings_no_claim slots f pages es a.1
@@ -67,7 +67,7 @@ brings_no_claim slots f pages (Stored p x ∷ es) a = brings_no_claim slots f pa
 brings_no_claim slots f pages (Settled h w ∷ es) a = brings_no_claim slots f pages es a.1
 brings_no_claim slots f pages (e ∷ es) a = absurd a
 
-stores_then_first : (slots : List (Option ℕ)) (f pages : ℕ) (es fs : List Event)
+stores_then_first : (slots : List (Option ℕ)) (f pages : ℕ) (es fs : List Access)
     → StoresIn f pages es → BringsSlots slots f pages fs → LooksFirst fs → LooksFirst (es ++ fs)
 stores_then_first slots f pages [] fs a b first = first
 stores_then_first slots f pages (Stored p x ∷ es) fs a b first = (
@@ -106,7 +106,7 @@ both_parts s t u slots class f row e b =
       };
     }
 
-pub span_brought : (first last all : List Event → Type 0) (vacant later knows : Shown → Type 0)
+pub span_brought : (first last all : List Access → Type 0) (vacant later knows : Shown → Type 0)
     (slots : List (Option ℕ)) (class : Class) (f : ℕ) (row : List ℕ)
     (a : Brought first vacant (StoresIn f (pages_of class)) (λ s t. t ≡ with_row_words s f row))
     (b : Brought last later (BringsSlots slots f (pages_of class))

@@ -4,7 +4,7 @@ use Rattle.cb_set.specs.SetState.{SetState, dead_position}
 use Rattle.cb_types.specs.declared.order.Kept.{Kept}
 use Rattle.cb_types.specs.declared.reply.Reply.{Reply}
 use Rattle.cb_types.specs.declared.reply.Reply.TheVariants as answer
-use Rattle.cb_world.specs.declared.event.Event.{Event}
+use Rattle.cb_world.specs.declared.access.Access.{Access}
 use Rattle.cb_world.specs.declared.shown.Shown.{Shown}
 use Rattle.cb_world.specs.FarState.{FarState}
 use Rattle.cb_world.specs.Orders.{LeavesWords}
@@ -29,7 +29,7 @@ given_leaves_words far new n e = subst (LeavesWords far) (sym e)
 
 -- a position was brought in, or that was refused
 pub swap_leaves_words : {rows : SetState → ℕ} (s : Shown) (id p : ℕ) (far new : FarState) (r : Reply)
-    (es : List Event) → Sound s far → BringsRule rows id p far new r es → LeavesWords far new
+    (es : List Access) → Sound s far → BringsRule rows id p far new r es → LeavesWords far new
 swap_leaves_words {rows = rows} s id p far new r es sound x = by r x.state
   where
     by : (q : Reply) → BringsFar (rows x.set) far new id p x.set es q → LeavesWords far new
@@ -40,7 +40,7 @@ swap_leaves_words {rows = rows} s id p far new r es sound x = by r x.state
     by q z = same_leaves far new z.0
 
 pub land_leaves_words : (s : Shown) (order : Option Kept) (far new : FarState) (r : Reply)
-    (es : List Event) → Sound s far → LandRule order far new r es → LeavesWords far new
+    (es : List Access) → Sound s far → LandRule order far new r es → LeavesWords far new
 land_leaves_words s order far new r es sound z =
     land_rule_cases (LeavesWords far new) order far new r es z (same_leaves far new)
     (λ id p brings. swap_leaves_words s id p far new r es sound brings)

@@ -8,7 +8,7 @@ use Rattle.cb_span.specs.Contents.{Contents, span_of}
 use Rattle.cb_types.specs.declared.config.Config.{Config}
 use Rattle.cb_types.specs.declared.reply.Reply.{Reply}
 use Rattle.cb_types.specs.declared.reply.Reply.TheVariants as answer
-use Rattle.cb_world.specs.declared.event.Event.{Event}
+use Rattle.cb_world.specs.declared.access.Access.{Access}
 use Rattle.cb_world.specs.declared.shown.Shown.{Shown}
 use Rattle.cb_world.specs.Codes.{IsCodeOf}
 use Rattle.cb_world.specs.FarState.{FarState}
@@ -83,7 +83,7 @@ swapped_stays c far new id p set f n most there z is =
 
 -- where at most 16 rows are given out for each set
 pub bring_stays : {rows : SetState → ℕ} (c : Config) (id p : ℕ) (far new : FarState) (r : Reply)
-    (es : List Event) → ((set : SetState) → set_in far.sets id ≡ Some set → rows set ≤ 16)
+    (es : List Access) → ((set : SetState) → set_in far.sets id ≡ Some set → rows set ≤ 16)
     → BringsRule rows id p far new r es → StaysIf c 16 far new
 bring_stays {rows = rows} c id p far new r es few x = by r x.state
   where
@@ -93,12 +93,12 @@ bring_stays {rows = rows} c id p far new r es few x = by r x.state
     by q z = stays_same c 16 far new (omega arith) z.0
 
 pub swap_stays : (c : Config) (id p : ℕ) (s : Shown) (far new : FarState) (r : Reply)
-    (es : List Event) → Sound s far → SwapRule id p far new r es → StaysIf c 16 far new
+    (es : List Access) → Sound s far → SwapRule id p far new r es → StaysIf c 16 far new
 swap_stays c id p s far new r es sound x =
     bring_stays c id p far new r es (λ set there. rows_most s far id p set sound there) x
 
 -- a swap-in makes no other code
-pub swap_codes : {rows : SetState → ℕ} (id p : ℕ) (far new : FarState) (r : Reply) (es : List Event)
+pub swap_codes : {rows : SetState → ℕ} (id p : ℕ) (far new : FarState) (r : Reply) (es : List Access)
     → BringsRule rows id p far new r es → KeepCodes far new
 swap_codes {rows = rows} id p far new r es x = by r x.state
   where

@@ -5,7 +5,7 @@ use Rattle.cb_class.proofs.Laws.{pages_and_slots_tell_class}
 use Rattle.cb_gf256.specs.Rows.{row_at}
 use Rattle.cb_set.specs.SetState.{SetState, position_of}
 use Rattle.cb_types.specs.declared.reply.Reply.{Reply}
-use Rattle.cb_world.specs.declared.event.Event.{Event}
+use Rattle.cb_world.specs.declared.access.Access.{Access}
 use Rattle.cb_world.specs.declared.shown.Shown.{Shown}
 use Rattle.cb_world.specs.Played.{played}
 use Rattle.cb_world.specs.Plain.{Words, Plain}
@@ -32,7 +32,7 @@ set_same : (a b : SetState) → Some a ≡ Some b → a ≡ b
 set_same a b e = cc
 
 -- the words and the far state after a position was brought in
-swapped : (x y : Words) (far new : FarState) (s : Shown) (es : List Event) (id p : ℕ)
+swapped : (x y : Words) (far new : FarState) (s : Shown) (es : List Access) (id p : ℕ)
     (set : SetState) (f n : ℕ) → RunsStill x y far s es → set_in far.sets id ≡ Some set
     → IsSwappedTo far new id p set f n → IsSwappedIn id p f far new es s (played es s)
     → IsSwapped x y far new id p set f n
@@ -59,21 +59,21 @@ swapped x y far new s es id p set f n runs there state z =
     }
 
 -- What a swap-in leaves, by its reply: as its rule and its effect say it, and as a step does.
-abbrev Does : ℕ → FarState → FarState → ℕ → ℕ → SetState → List Event → Shown → Reply → Type 0
+abbrev Does : ℕ → FarState → FarState → ℕ → ℕ → SetState → List Access → Shown → Reply → Type 0
 Does n far new id p set es s q =
     BringsFar n far new id p set es q × SwapEffect id p far new q es s (played es s)
 
-abbrev Leaves : ℕ → Words → Words → FarState → FarState → ℕ → ℕ → SetState → List Event → Shown
+abbrev Leaves : ℕ → Words → Words → FarState → FarState → ℕ → ℕ → SetState → List Access → Shown
     → Reply → Type 0
 Leaves n x y far new id p set es s q = BringsChange n x y far new id p set q
     × ((h : ℕ) → now (played es s) new h ≡ now s far h)
 
 -- a refusal leaves every word, and the far state
-refused : (x y : Words) (far new : FarState) (s : Shown) (es : List Event) → Plain x es y
+refused : (x y : Words) (far new : FarState) (s : Shown) (es : List Access) → Plain x es y
     → ((new ≡ far) × (es ≡ [])) × (played es s ≡ s)
     → ((y ≡ x) × (new ≡ far)) × ((h : ℕ) → now (played es s) new h ≡ now s far h)
 refused x y far new s es run e = (
-  (subst (λ (l : List Event). Plain x l y) e.0.1 run, e.0.0),
+  (subst (λ (l : List Access). Plain x l y) e.0.1 run, e.0.0),
   λ h i. now (e.1 i) (e.0.0 i) h,
 )
 

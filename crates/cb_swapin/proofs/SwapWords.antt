@@ -8,7 +8,7 @@ use Rattle.cb_ptr.specs.declared.word.State.TheVariants as pointer
 use Rattle.cb_ptr.specs.Word.{state_of, hot_of, len_of, place_of, pins_of, fields_of, word_of}
 use Rattle.cb_ptr.proofs.Laws.{word_of-fields_of}
 use Rattle.cb_span.specs.Places.{slot_place}
-use Rattle.cb_world.specs.declared.event.Event.{Event}
+use Rattle.cb_world.specs.declared.access.Access.{Access}
 use Rattle.cb_world.specs.declared.object.Object.{Object}
 use Rattle.cb_world.specs.declared.object.Object.TheVariants as is
 use Rattle.cb_world.specs.declared.shown.Shown.{Shown}
@@ -55,7 +55,7 @@ word_is_brought w len place below here cold none same at =
     } in
     sym (word_of-fields_of w below) ∙ ap word_of fields
 
-module _ (x y : Words) (far : FarState) (s : Shown) (es : List Event) (slots : List (Option ℕ))
+module _ (x y : Words) (far : FarState) (s : Shown) (es : List Access) (slots : List (Option ℕ))
     (class : Class) (f : ℕ) (row : List ℕ) (r : RunsStill x y far s es)
     (b : IsSpanBrought slots class f row s (played es s)) where
   shows : Shows y (played es s)

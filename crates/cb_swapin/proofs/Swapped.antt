@@ -10,7 +10,7 @@ use Rattle.cb_span.specs.declared.temp.Temp.TheVariants.{Hot}
 use Rattle.cb_span.specs.Contents.{Contents, span_of}
 use Rattle.cb_types.specs.declared.reply.Reply.{Reply}
 use Rattle.cb_types.specs.declared.reply.Reply.TheVariants as answer
-use Rattle.cb_world.specs.declared.event.Event.{Event}
+use Rattle.cb_world.specs.declared.access.Access.{Access}
 use Rattle.cb_world.specs.declared.homes.Home.{Home}
 use Rattle.cb_world.specs.declared.shown.Shown.{Shown}
 use Rattle.cb_world.specs.SetWord.{is_broken}
@@ -141,7 +141,7 @@ swapped_to far new homes id p set f n span row x e whole cleared =
 
 -- ---- the effect
 pub swapped_in : (given : Option (Bor (List ℕ))) (s t : Shown) (far new : FarState) (id p : ℕ)
-    (set : SetState) (f n : ℕ) (span : Contents) (row : List ℕ) (es : List Event) → CanArrive s far id p set f span row
+    (set : SetState) (f n : ℕ) (span : Contents) (row : List ℕ) (es : List Access) → CanArrive s far id p set f span row
     → HasArrived s t far new id p set f n span row → Writes es s []
     → IsAtHand given row → (done : IsSwappedIn id p f far new es s t) × IsAtHand given done.row
 swapped_in given s t far new id p set f n span row es x y nothing hand = (

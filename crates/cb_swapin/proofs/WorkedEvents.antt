@@ -8,8 +8,8 @@ use Rattle.cb_set.specs.SetState.{SetState}
 use Rattle.cb_span.specs.Places.{slot_place}
 use Rattle.cb_types.specs.declared.reply.Reply.TheVariants as answer
 use Rattle.cb_world.specs.declared.entry.Entry.{Entry}
-use Rattle.cb_world.specs.declared.event.Event.{Event}
-use Rattle.cb_world.specs.declared.event.Event.TheVariants.{Looked, Claimed, Loaded, Stored, Stamped, Settled}
+use Rattle.cb_world.specs.declared.access.Access.{Access}
+use Rattle.cb_world.specs.declared.access.Access.TheVariants.{Looked, Claimed, Loaded, Stored, Stamped, Settled}
 use Rattle.cb_world.specs.declared.object.Object.TheVariants as is
 use Rattle.cb_world.specs.declared.shown.Shown.{Shown}
 use Rattle.cb_world.specs.FarState.{FarState}
@@ -27,7 +27,7 @@ use Rattle.cb_swapin.proofs.WorkedSwap.{class, first, members, new, old, set, sw
 use Rattle.cb_swapin.proofs.WorkedWord.{nodes, one_row}
 
 -- ---- position 0 comes into frame 1, whose words are 512 to 1023, by these events
-abbrev Brought : List Event → Type 0
+abbrev Brought : List Access → Type 0
 Brought es = SwapFar old new 5 0 set es (answer.Swapped 1)
 
 brings_it : Brought (Looked 0 1 ∷ Stored 512 7 ∷ Stored 1023 8 ∷ Settled 0 2 ∷ [])
@@ -136,7 +136,7 @@ same_now zero = ap (λ (l : List ℕ). held 1 (bytes_in l 2)) words_there ∙ sy
 same_now (suc zero) = refl
 same_now (suc (suc h)) = refl
 
-abbrev Swaps : List Event → ℕ → Type 0
+abbrev Swaps : List Access → ℕ → Type 0
 Swaps es version = IsSwappedIn 5 0 1 far new es (before version) (afterwards version)
 
 is_swapped_in : Swaps (Settled 0 343597400066 ∷ []) 1

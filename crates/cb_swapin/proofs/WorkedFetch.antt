@@ -15,7 +15,7 @@ use Rattle.cb_set.specs.SetState.{SetState, live_at}
 use Rattle.cb_types.specs.declared.order.DecodeOrder.{DecodeOrder}
 use Rattle.cb_types.specs.declared.reply.Reply.{Reply}
 use Rattle.cb_types.specs.declared.reply.Reply.TheVariants as answer
-use Rattle.cb_world.specs.declared.event.Event.TheVariants.{Looked}
+use Rattle.cb_world.specs.declared.access.Access.TheVariants.{Looked}
 use Rattle.cb_world.specs.FarState.{FarState}
 use Rattle.cb_world.specs.Sets.{set_in}
 use Rattle.cb_world.proofs.Laws.{at, rows}

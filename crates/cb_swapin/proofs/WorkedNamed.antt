@@ -4,7 +4,7 @@ use Rattle.std.proofs.Common.{◌≡◌, ◌≢◌, ◌⊎◌, ℕ, zero, suc, �
 use Rattle.cb_class.specs.declared.class.Class.{Class}
 use Rattle.cb_class.specs.Class.{words_of, bytes_of}
 use Rattle.cb_span.specs.Places.{slot_place}
-use Rattle.cb_world.specs.declared.event.Event.TheVariants.{Looked, Claimed, Loaded, Stored, Stamped, Settled}
+use Rattle.cb_world.specs.declared.access.Access.TheVariants.{Looked, Claimed, Loaded, Stored, Stamped, Settled}
 use Rattle.cb_world.specs.declared.homes.Home.{Home}
 use Rattle.cb_world.specs.declared.object.Object.{Object}
 use Rattle.cb_world.specs.declared.object.Object.TheVariants as is

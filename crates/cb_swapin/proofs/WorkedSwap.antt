@@ -13,7 +13,7 @@ use Rattle.cb_span.specs.declared.temp.Temp.{Temp}
 use Rattle.cb_span.specs.declared.temp.Temp.TheVariants.{Hot, Cold}
 use Rattle.cb_span.specs.Contents.{Contents, span_of}
 use Rattle.cb_types.specs.declared.reply.Reply.TheVariants as answer
-use Rattle.cb_world.specs.declared.event.Event.TheVariants.{Looked}
+use Rattle.cb_world.specs.declared.access.Access.TheVariants.{Looked}
 use Rattle.cb_world.specs.declared.homes.Home.{Home}
 use Rattle.cb_world.specs.Fetched.{rows_needed, with_rows_given}
 use Rattle.cb_world.specs.LeftOver.{nodes_left, sets_left}

@@ -3,8 +3,8 @@ use Rattle.std.specs.Prelude.{◌≡◌, ℕ, false, ◌*◌, ◌<◌, List, [],
 use Rattle.cb_class.specs.declared.class.Class.{Class}
 use Rattle.cb_ptr.specs.Word.{len_of}
 use Rattle.cb_span.specs.Places.{slot_place}
-use Rattle.cb_world.specs.declared.event.Event.{Event}
-use Rattle.cb_world.specs.declared.event.Event.TheVariants.{Looked, Settled}
+use Rattle.cb_world.specs.declared.access.Access.{Access}
+use Rattle.cb_world.specs.declared.access.Access.TheVariants.{Looked, Settled}
 use Rattle.cb_world.specs.declared.homes.Home.{Home}
 use Rattle.cb_world.specs.declared.object.Object.TheVariants as is
 use Rattle.cb_world.specs.declared.shown.Shown.{Shown}
@@ -71,7 +71,7 @@ pub record BringsOne (s : Shown) (h place w x : ℕ) : Type 0 where
   pub nothing : Writes (Looked h w ∷ Settled h x ∷ []) s []
 
 -- the object of a slot, if it has one, is brought to the place and loses its home
-abbrev pub BringsSlot : (List Event → Type 0) → (Shown → Type 0) → List (Option Home) → List (Option Home) → ℕ
+abbrev pub BringsSlot : (List Access → Type 0) → (Shown → Type 0) → List (Option Home) → List (Option Home) → ℕ
     → Option ℕ → Type 0
 BringsSlot runs shows homes new place None = runs [] × (new ≡ homes)
 BringsSlot runs shows homes new place (Some h) = (w x : ℕ)
@@ -80,9 +80,9 @@ BringsSlot runs shows homes new place (Some h) = (w x : ℕ)
 
 -- A part of a swap-in: its events, which the desk ran, and of which this is said. And for all that
 -- is known and fits: the events are allowed, write no version, and do this.
-pub record Brought (runs : List Event → Type 0) (knows : Shown → Type 0)
-    (told : List Event → Type 0) (does : Shown → Shown → Type 0) : Type 0 where
-  pub events : List Event
+pub record Brought (runs : List Access → Type 0) (knows : Shown → Type 0)
+    (told : List Access → Type 0) (does : Shown → Shown → Type 0) : Type 0 where
+  pub events : List Access
   pub ran : runs events
   pub tells : told events
   pub looks_first : LooksFirst events

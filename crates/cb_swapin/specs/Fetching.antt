@@ -12,7 +12,7 @@ use Rattle.cb_world.specs.SetWord.{IsWordOf, is_broken}
 use Rattle.cb_world.specs.FarState.{FarState}
 use Rattle.cb_world.specs.Sets.{set_in}
 use Rattle.cb_world.specs.Fetched.{rows_needed, with_rows_given}
-use Rattle.cb_world.specs.declared.event.Event.{Event}
+use Rattle.cb_world.specs.declared.access.Access.{Access}
 use Rattle.cb_world.specs.declared.shown.Shown.{Shown}
 use Rattle.cb_swapin.specs.Named.{AreCleared}
 use Rattle.cb_swapin.specs.Brings.{BringsSlots}
@@ -70,7 +70,7 @@ IsRowOf (Some row) far id p = (set : SetState) → set_in far.sets id ≡ Some s
 -- The row of the position was brought into the frames from this one on, from its node, made of
 -- others or at hand: as many rows were given out as that takes, the objects of the span are here and
 -- have no home, and nothing else changed.
-pub record BringsRow (runs : List Event → Type 0) (shows : Shown → Type 0) (far new : FarState)
+pub record BringsRow (runs : List Access → Type 0) (shows : Shown → Type 0) (far new : FarState)
     (set : SetState) (p f : ℕ) (span : Contents) (given : Option (Bor (List ℕ))) : Type 0 where
   pub row : List ℕ
   pub fetched : IsFetched far set p span row

@@ -10,7 +10,7 @@ use Rattle.cb_set.specs.SetState.{SetState, dead_position, position_of, with_pos
 use Rattle.cb_set.specs.Lost.{lost}
 use Rattle.cb_types.specs.declared.reply.Reply.{Reply}
 use Rattle.cb_types.specs.declared.reply.Reply.TheVariants as answer
-use Rattle.cb_world.specs.declared.event.Event.{Event}
+use Rattle.cb_world.specs.declared.access.Access.{Access}
 use Rattle.cb_world.specs.Sets.{set_in}
 use Rattle.cb_world.specs.SetWord.{is_broken}
 use Rattle.cb_world.specs.FarState.{FarState}
@@ -59,7 +59,7 @@ pub record IsSwappedTo (far new : FarState) (id p : ℕ) (set : SetState) (f n :
 
 -- The far state after a position was brought in with this reply, and its events, where that takes n
 -- rows; a refusal changes nothing.
-abbrev pub BringsFar : ℕ → FarState → FarState → ℕ → ℕ → SetState → List Event → Reply → Type 0
+abbrev pub BringsFar : ℕ → FarState → FarState → ℕ → ℕ → SetState → List Access → Reply → Type 0
 BringsFar n far new id p set es (answer.Swapped f) = IsSwappedTo far new id p set f n
     × BringsSlots (position_of set p).slots f set.pages es
 BringsFar n far new id p set es _ = (new ≡ far) × (es ≡ [])
@@ -67,16 +67,16 @@ BringsFar n far new id p set es _ = (new ≡ far) × (es ≡ [])
 -- The reply of bringing position p of the set of a number in, and the far state after it, where
 -- that takes so many rows of each set.
 pub record BringsRule (rows : SetState → ℕ) (id p : ℕ) (far new : FarState) (r : Reply)
-    (es : List Event) : Type 0 where
+    (es : List Access) : Type 0 where
   pub set : SetState
   pub there : set_in far.sets id ≡ Some set
   pub reply : r ≡ swap_answer far id set
   pub state : BringsFar (rows set) far new id p set es r
 
 -- a swap-in gives the rows out that are needed for the position's
-abbrev pub SwapFar : FarState → FarState → ℕ → ℕ → SetState → List Event → Reply → Type 0
+abbrev pub SwapFar : FarState → FarState → ℕ → ℕ → SetState → List Access → Reply → Type 0
 SwapFar far new id p set es r = BringsFar (rows_needed far.members set p) far new id p set es r
 
 -- the reply of a swap-in of position p of the set of a number, and the far state after it
-abbrev pub SwapRule : ℕ → ℕ → FarState → FarState → Reply → List Event → Type 0
+abbrev pub SwapRule : ℕ → ℕ → FarState → FarState → Reply → List Access → Type 0
 SwapRule id p far new r es = BringsRule (λ set. rows_needed far.members set p) id p far new r es

@@ -1,7 +1,7 @@
 ghost use Rattle.std.specs.Prelude.{◌≡◌, ℕ, ◌+◌, ◌*◌, ◌^◌, ◌<◌, ◌≤◌, [], ◌∷◌, IfSome, length};
 ghost use Rattle.cb_class.specs.Class.{IsClass, pages_of, slots_of};
 ghost use Rattle.cb_types.specs.Config.{IsAccepted};
-ghost use Rattle.cb_world.specs.declared.event.Event.TheVariants.{Looked, Settled};
+ghost use Rattle.cb_world.specs.declared.access.Access.TheVariants.{Looked, Settled};
 ghost use Rattle.cb_world.specs.declared.shown.Shown.{Shown};
 ghost use Rattle.cb_swapin.specs.Named.{AreCleared, IsNamed, NamesApart};
 ghost use Rattle.cb_swapin.specs.Brings.{BringsSlots};

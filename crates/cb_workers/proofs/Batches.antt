@@ -8,7 +8,7 @@ use Rattle.cb_types.specs.declared.job.Job.{Job}
 use Rattle.cb_types.specs.declared.job.Job.TheVariants as job
 use Rattle.cb_types.specs.declared.reply.Reply.{Reply}
 use Rattle.cb_types.specs.declared.reply.Reply.TheVariants as answer
-use Rattle.cb_world.specs.declared.event.Event.{Event}
+use Rattle.cb_world.specs.declared.access.Access.{Access}
 use Rattle.cb_world.specs.declared.shown.Shown.{Shown}
 use Rattle.cb_world.specs.FarState.{FarState}
 use Rattle.cb_evict.specs.AbortRule.{AbortRule}
@@ -33,7 +33,7 @@ no_batch : (r : Reply) → tells_batch r ≡ false → TellsNoBatch r
 no_batch r none set is = false≢true (sym none ∙ ap tells_batch is)
 
 -- ---- by the rule of each
-shipped : (far new : FarState) (r : Reply) (es : List Event) → ShipRule far new r es
+shipped : (far new : FarState) (r : Reply) (es : List Access) → ShipRule far new r es
     → tells_batch r ≡ false
 shipped far new r es a = elim a.ships [
   | inl x ↦ ap tells_batch x.reply
@@ -42,7 +42,7 @@ shipped far new r es a = elim a.ships [
   | inr (inr (inr x)) ↦ ap tells_batch x.reply
 ]
 
-committed : (far new : FarState) (r : Reply) (es : List Event) → CommitRule far new r es
+committed : (far new : FarState) (r : Reply) (es : List Access) → CommitRule far new r es
     → tells_batch r ≡ false
 committed far new r es a = elim a.answered [
   | inl x ↦ ap tells_batch x.reply
@@ -50,7 +50,7 @@ committed far new r es a = elim a.answered [
   | inr (inr x) ↦ ap tells_batch x.reply
 ]
 
-aborted : (far new : FarState) (r : Reply) (es : List Event) → AbortRule far new r es
+aborted : (far new : FarState) (r : Reply) (es : List Access) → AbortRule far new r es
     → tells_batch r ≡ false
 aborted far new r es a = elim a.answered [
   | inl x ↦ ap tells_batch x.reply
@@ -69,7 +69,7 @@ abbrev is_evict : Option Worker → Bool
 is_evict (Some worker.Evict) = true
 is_evict other = false
 
-alone_told : (c : Config) (work : Job) (r : Reply) (start : Shown) (es : List Event)
+alone_told : (c : Config) (work : Job) (r : Reply) (start : Shown) (es : List Access)
     (took gave : FarState) → owner work ≡ Some worker.Evict → NeedsNoOrder work
     → DidAs c work (Some r) start es took gave → tells_batch r ≡ false
 alone_told c job.Ship r start es took gave own alone did =

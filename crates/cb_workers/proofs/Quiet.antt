@@ -8,7 +8,7 @@ use Rattle.cb_types.specs.declared.job.Job.TheVariants as job
 use Rattle.cb_types.specs.declared.reply.Reply.{Reply}
 use Rattle.cb_types.specs.declared.reply.Reply.TheVariants as answer
 use Rattle.cb_world.specs.declared.entry.Entry.{Entry}
-use Rattle.cb_world.specs.declared.event.Event.{Event}
+use Rattle.cb_world.specs.declared.access.Access.{Access}
 use Rattle.cb_mutate.specs.JobWrites.{TurnWrites}
 use Rattle.cb_core.specs.Jobs.{NeedsNoOrder}
 use Rattle.cb_core.specs.TurnLeaves.{OutcomeWrites}
@@ -23,7 +23,7 @@ use Rattle.cb_workers.specs.Bodies.{AddsTurns, IsEnd, IsOwed, one_deed, turns_al
 -- what a worker's job leaves alone: it reads no object under a pin, is about no object that a pass
 -- knows, makes none, and writes no version
 record IsQuietWork (work : Job) : Type 0 where
-  pub reads : (es : List Event) → (r : Result Reply NoMemory) → (v : View) → (d : Part)
+  pub reads : (es : List Access) → (r : Result Reply NoMemory) → (v : View) → (d : Part)
       → JobReads work es r v d
       → d ≡ nothing_more
   pub object : object_of work ≡ None

@@ -2,8 +2,8 @@
 use Rattle.std.proofs.Common.{◌≡◌, ◌≤◌, ℕ, Bool, ◌<◌, List, [], ◌∷◌, ◌++◌, length, set, refl, ap, ◌∙◌}
 use Rattle.cb_ptr.specs.Word.{hot_of, len_of, place_of}
 use Rattle.cb_world.specs.declared.object.Object.TheVariants as is
-use Rattle.cb_world.specs.declared.event.Event.{Event}
-use Rattle.cb_world.specs.declared.event.Event.TheVariants.{Looked, Claimed}
+use Rattle.cb_world.specs.declared.access.Access.{Access}
+use Rattle.cb_world.specs.declared.access.Access.TheVariants.{Looked, Claimed}
 use Rattle.cb_world.specs.declared.entry.Entry.{Entry}
 use Rattle.cb_world.specs.declared.shown.Shown.{Shown}
 use Rattle.cb_world.specs.Memory.{put}
@@ -23,7 +23,7 @@ use Rattle.cb_world.proofs.Kept.{claimed_from, claim_played}
 use Rattle.cb_world.proofs.Claimed.{is_claimed_at}
 
 -- looks tell of the hot bits alone
-pub looks_told : (h : ℕ) (es : List Event) (s : Shown) → AreLooks h es
+pub looks_told : (h : ℕ) (es : List Access) (s : Shown) → AreLooks h es
     → (hots : List Bool) × (told_by es s ≡ record s { hots = hots })
 looks_told h [] s a = (s.hots, refl)
 looks_told h (Looked k w ∷ es) s a =
@@ -31,11 +31,11 @@ looks_told h (Looked k w ∷ es) s a =
 looks_told h (e ∷ es) s a = absurd a
 
 -- the claim behind some looks
-abbrev pub claim_after : List Event → ℕ → ℕ → ℕ → List ℕ → List Event
+abbrev pub claim_after : List Access → ℕ → ℕ → ℕ → List ℕ → List Access
 claim_after before h w v words = before ++ Claimed h w v words ∷ []
 
 -- what looks and a claim tell of the hot bits is what is then known of them
-claim_hots : (h w v : ℕ) (words : List ℕ) (before : List Event) (s : Shown) → AreLooks h before
+claim_hots : (h w v : ℕ) (words : List ℕ) (before : List Access) (s : Shown) → AreLooks h before
     → (told_by (claim_after before h w v words) s).hots
     ≡ (played (claim_after before h w v words) s).hots
 claim_hots h w v words [] s a = refl
@@ -44,7 +44,7 @@ claim_hots h w v words (Looked k x ∷ es) s a =
 claim_hots h w v words (e ∷ es) s a = absurd a
 
 -- looks and a claim are allowed at any time
-pub claim_allowed : (before : List Event) (h w v : ℕ) (words : List ℕ) (s : Shown)
+pub claim_allowed : (before : List Access) (h w v : ℕ) (words : List ℕ) (s : Shown)
     → AreLooks h before → Allowed s (before ++ Claimed h w v words ∷ [])
 claim_allowed [] h w v words s a = (tt, tt)
 claim_allowed (Looked k x ∷ es) h w v words s a =
@@ -52,7 +52,7 @@ claim_allowed (Looked k x ∷ es) h w v words s a =
 claim_allowed (e ∷ es) h w v words s a = absurd a
 
 -- What is so after some looks, a claim, and the events that follow.
-pub record IsAfterClaim (s : Shown) (h w v : ℕ) (words : List ℕ) (first done : List Event)
+pub record IsAfterClaim (s : Shown) (h w v : ℕ) (words : List ℕ) (first done : List Access)
     : Type 0 where
   pub hots : List Bool
   pub at_claim : played first s ≡ claimed_from s hots h w v words
@@ -66,7 +66,7 @@ pub record IsAfterClaim (s : Shown) (h w v : ℕ) (words : List ℕ) (first done
   pub writes : (old : List Entry)
       → written_by (first ++ done) s old ≡ written_by done (played first s) old
 
-pub after_claim : (far : FarState) (s : Shown) (before done : List Event) (h w v : ℕ)
+pub after_claim : (far : FarState) (s : Shown) (before done : List Access) (h w v : ℕ)
     (words : List ℕ) → LocalSound s far → h < length s.objects → h < length s.versions
     → AreLooks h before → IsFree w → Agree s (claim_after before h w v words)
     → ((t : Shown) → told_by done t ≡ t)
@@ -98,24 +98,24 @@ after_claim far s before done h w v words sound range stamp looks free agree qui
     }
 
 -- what the whole list tells of the object
-pub claim_found : (before done : List Event) (h w v : ℕ) (words : List ℕ) → NoLook h done
+pub claim_found : (before done : List Access) (h w v : ℕ) (words : List ℕ) → NoLook h done
     → IsFound h w (claim_after before h w v words ++ done)
 claim_found before done h w v words none =
     found_more h w (claim_after before h w v words) done
     (found_last h w before (Claimed h w v words) (refl, refl)) none
 
-pub claim_taken : (before done : List Event) (h w v : ℕ) (words : List ℕ) → AreLooks h before
+pub claim_taken : (before done : List Access) (h w v : ℕ) (words : List ℕ) → AreLooks h before
     → IsTaken h v words (claim_after before h w v words ++ done)
 claim_taken before done h w v words looks =
     taken_more h v words (claim_after before h w v words) done
     (taken_after_looks h w v words before looks)
 
-pub claim_first : (before done : List Event) (h w v : ℕ) (words : List ℕ) → AreLooks h before
+pub claim_first : (before done : List Access) (h w v : ℕ) (words : List ℕ) → AreLooks h before
     → NoLook h done → LooksFirst done → LooksFirst (claim_after before h w v words ++ done)
 claim_first before done h w v words looks none first =
     first_claim h w v words before done looks none first
 
-pub claim_all_allowed : (before done : List Event) (h w v : ℕ) (words : List ℕ) (s : Shown)
+pub claim_all_allowed : (before done : List Access) (h w v : ℕ) (words : List ℕ) (s : Shown)
     → AreLooks h before → Allowed (played (claim_after before h w v words) s) done
     → Allowed s (claim_after before h w v words ++ done)
 claim_all_allowed before done h w v words s looks rest =

@@ -5,8 +5,8 @@ use Rattle.cb_ptr.specs.declared.word.State.TheVariants as word
 use Rattle.cb_ptr.specs.Word.{state_of, hot_of, len_of, place_of}
 use Rattle.cb_world.specs.declared.object.Object.{Object}
 use Rattle.cb_world.specs.declared.object.Object.TheVariants as is
-use Rattle.cb_world.specs.declared.event.Event.{Event}
-use Rattle.cb_world.specs.declared.event.Event.TheVariants.{Claimed, Settled}
+use Rattle.cb_world.specs.declared.access.Access.{Access}
+use Rattle.cb_world.specs.declared.access.Access.TheVariants.{Claimed, Settled}
 use Rattle.cb_world.specs.declared.shown.Shown.{Shown}
 use Rattle.cb_world.specs.Memory.{window, put}
 use Rattle.cb_world.specs.Shown.{Covers, Avoids, IsHeld, object_at, version_at, never}
@@ -33,7 +33,7 @@ avoids (is.Far len v words) p f = tt
 avoids (is.Here len place) p f = f len place (refl, refl)
 avoids (is.Claimed len place v words) p f = f len place (refl, refl)
 
-pub is_claimed_at : (far : FarState) (s : Shown) (before : List Event) (h w v : ℕ) (words : List ℕ)
+pub is_claimed_at : (far : FarState) (s : Shown) (before : List Access) (h w v : ℕ) (words : List ℕ)
     → LocalSound s far → h < length s.objects → h < length s.versions → AreLooks h before
     → Agree s (before ++ Claimed h w v words ∷ []) → IsFree w
     → IsClaimedAt (played (before ++ Claimed h w v words ∷ []) s) h w v words

@@ -1,18 +1,18 @@
 -- At the still desk, what was found and told is what there was.
 use Rattle.std.proofs.Common.{◌≡◌, ℕ, ◌+◌, List, [], ◌∷◌, ◌++◌, get_or, set, sym, refl, ap, ◌∙◌, subst, inl, inr, get_or-set_other}
 use Rattle.cb_ptr.specs.Word.{len_of, place_of}
-use Rattle.cb_world.specs.declared.event.Event.{Event}
-use Rattle.cb_world.specs.declared.event.Event.TheVariants.{Looked, Claimed, Told, Loaded, Stored, Stamped, Settled}
+use Rattle.cb_world.specs.declared.access.Access.{Access}
+use Rattle.cb_world.specs.declared.access.Access.TheVariants.{Looked, Claimed, Told, Loaded, Stored, Stamped, Settled}
 use Rattle.cb_world.specs.Memory.{window, words_for}
 use Rattle.cb_world.specs.Plain.{Words, Plain}
 use Rattle.cb_world.specs.Looks.{NoLook, NoClaim, IsFound, IsTaken, AreLooks, LooksFirst}
 
-not_seen : (h w : ℕ) (es : List Event) → NoLook h es → IsFound h w es → ⊥
+not_seen : (h w : ℕ) (es : List Access) → NoLook h es → IsFound h w es → ⊥
 not_seen h w [] none found = found
 not_seen h w (e ∷ es) none (inl found) = not_seen h w es none.1 found
 not_seen h w (e ∷ es) none (inr found) = none.0 w found.0
 
-pub found_exact : (es : List Event) (x y : Words) (h w : ℕ) → Plain x es y → LooksFirst es
+pub found_exact : (es : List Access) (x y : Words) (h w : ℕ) → Plain x es y → LooksFirst es
     → IsFound h w es → get_or x.words h 0 ≡ w
 found_exact [] x y h w run first found = absurd found
 found_exact (Looked k u ∷ es) x y h w run first (inl found) =
@@ -42,13 +42,13 @@ found_exact (Settled k u ∷ es) x y h w run first (inl found) =
     ∙ found_exact es (record x { words = set x.words k u }) y h w run.1 first.1 found
 found_exact (Settled k u ∷ es) x y h w run first (inr found) = absurd found.0
 
-not_taken : (h v : ℕ) (words : List ℕ) (es : List Event) → NoClaim es → IsTaken h v words es → ⊥
+not_taken : (h v : ℕ) (words : List ℕ) (es : List Access) → NoClaim es → IsTaken h v words es → ⊥
 not_taken h v words [] none taken = taken
 not_taken h v words (Claimed k w u xs ∷ es) none taken = none
 not_taken h v words (e ∷ es) none taken = not_taken h v words es none taken
 
 -- the contents that a claim told are those of the words at the start
-pub taken_exact : (es : List Event) (x y : Words) (h v : ℕ) (words : List ℕ) → Plain x es y
+pub taken_exact : (es : List Access) (x y : Words) (h v : ℕ) (words : List ℕ) → Plain x es y
     → LooksFirst es → IsTaken h v words es
     → (w : ℕ) × IsFound h w es × (v ≡ get_or x.versions h 0)
     × (words ≡ window x.memory (place_of w) (words_for (len_of w)))
@@ -80,13 +80,13 @@ taken_exact (Settled k u ∷ es) x y h v words run first taken =
     let t = taken_exact es (record x { words = set x.words k u }) y h v words run.1 first.1 taken in
     (t.0, inl t.1, t.2, t.3)
 
-pub first_claim : (h w v : ℕ) (words : List ℕ) (before es : List Event) → AreLooks h before
+pub first_claim : (h w v : ℕ) (words : List ℕ) (before es : List Access) → AreLooks h before
     → NoLook h es → LooksFirst es → LooksFirst ((before ++ Claimed h w v words ∷ []) ++ es)
 first_claim h w v words [] es a b c = (b, c)
 first_claim h w v words (Looked k x ∷ before) es a b c = first_claim h w v words before es a.1 b c
 first_claim h w v words (e ∷ before) es a b c = absurd a
 
-pub first_look : (h w : ℕ) (before es : List Event) → AreLooks h before → LooksFirst es
+pub first_look : (h w : ℕ) (before es : List Access) → AreLooks h before → LooksFirst es
     → LooksFirst ((before ++ Looked h w ∷ []) ++ es)
 first_look h w [] es a c = c
 first_look h w (Looked k x ∷ before) es a c = first_look h w before es a.1 c

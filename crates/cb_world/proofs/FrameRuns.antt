@@ -1,6 +1,6 @@
 -- The still desk reads and stores a frame's words one after another.
 use Rattle.std.proofs.Common.{◌≡◌, ℕ, zero, suc, ◌+◌, List, [], ◌∷◌, length, set, refl, sym, ap, ◌∙◌, subst}
-use Rattle.cb_world.specs.declared.event.Event.{Event}
+use Rattle.cb_world.specs.declared.access.Access.{Access}
 use Rattle.cb_world.specs.Memory.{put, window}
 use Rattle.cb_world.specs.Plain.{Words, IsSized, Plain}
 use Rattle.cb_world.specs.FrameWords.{loads_from, stores_from}
@@ -18,7 +18,7 @@ plain_stores x p [] = refl
 plain_stores x p (w ∷ ws) = plain_stores (record x { memory = set x.memory p w }) (p + 1) ws
 
 -- ---- as runs of the desk whose words these are
-abbrev Runs : Words → List Event → Words → Type 0
+abbrev Runs : Words → List Access → Words → Type 0
 Runs d es e = Plain d es e × (IsSized d → IsSized e)
 
 pub loads_run : (d x : Words) (p n : ℕ) (ms : List ℕ) → x ≡ d → ms ≡ x.memory

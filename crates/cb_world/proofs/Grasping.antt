@@ -4,7 +4,7 @@ use Rattle.cb_ptr.specs.Word.{hot_of, flag_number}
 use Rattle.cb_ptr.proofs.Laws.{same_but_hot}
 use Rattle.cb_world.specs.declared.object.Object.{Object}
 use Rattle.cb_world.specs.declared.object.Object.TheVariants as is
-use Rattle.cb_world.specs.declared.event.Event.TheVariants.{Looked}
+use Rattle.cb_world.specs.declared.access.Access.TheVariants.{Looked}
 use Rattle.cb_world.specs.declared.shown.Shown.{Shown}
 use Rattle.cb_world.specs.Shown.{Fits, object_at}
 use Rattle.cb_world.specs.Played.{Agree}

@@ -10,8 +10,8 @@ use Rattle.cb_span.specs.Places.{slot_place}
 use Rattle.cb_ptr.specs.Word.{hot_of, len_of, place_of}
 use Rattle.cb_world.specs.declared.object.Object.{Object}
 use Rattle.cb_world.specs.declared.object.Object.TheVariants as is
-use Rattle.cb_world.specs.declared.event.Event.{Event}
-use Rattle.cb_world.specs.declared.event.Event.TheVariants.{Claimed}
+use Rattle.cb_world.specs.declared.access.Access.{Access}
+use Rattle.cb_world.specs.declared.access.Access.TheVariants.{Claimed}
 use Rattle.cb_world.specs.Memory.{put, words_for}
 use Rattle.cb_world.specs.declared.shown.Shown.{Shown}
 use Rattle.cb_world.specs.Shown.{Covers, Spares, Owns, object_at, version_at, never}
@@ -142,7 +142,7 @@ claimed_from s hots h w v words =
       memory = put s.memory (place_of w) words;
     }
 
-pub claim_played : (s : Shown) (before : List Event) (h w v : ℕ) (words : List ℕ)
+pub claim_played : (s : Shown) (before : List Access) (h w v : ℕ) (words : List ℕ)
     → AreLooks h before → Agree s (before ++ Claimed h w v words ∷ [])
     → (hots : List Bool)
     × (played (before ++ Claimed h w v words ∷ []) s ≡ claimed_from s hots h w v words)

@@ -11,8 +11,8 @@ use Rattle.cb_ptr.specs.Steps.{Claims}
 use Rattle.cb_ptr.proofs.Laws.{claims}
 use Rattle.cb_world.specs.declared.object.Object.{Object}
 use Rattle.cb_world.specs.declared.object.Object.TheVariants as is
-use Rattle.cb_world.specs.declared.event.Event.{Event}
-use Rattle.cb_world.specs.declared.event.Event.TheVariants.{Looked, Claimed, Told, Loaded, Stored, Stamped, Settled}
+use Rattle.cb_world.specs.declared.access.Access.{Access}
+use Rattle.cb_world.specs.declared.access.Access.TheVariants.{Looked, Claimed, Told, Loaded, Stored, Stamped, Settled}
 use Rattle.cb_world.specs.declared.shown.Shown.{Shown}
 use Rattle.cb_world.specs.Memory.{put, words_for}
 use Rattle.cb_world.specs.Shown.{object_at, hot_at, version_at, never}
@@ -65,7 +65,7 @@ settled_seen word.Far w v (is.Claimed len place u words) e ok = tt
 settled_seen word.Here w v o e ok = e
 settled_seen word.Moving w v o e ok = absurd ok
 
-pub seen_after : (es : List Event) (x y : Words) (s : Shown) → Plain x es y → AreHotsKnown x s
+pub seen_after : (es : List Access) (x y : Words) (s : Shown) → Plain x es y → AreHotsKnown x s
     → AreHotsKnown y (played es s)
 seen_after [] x y s run a = subst (λ (z : Words). AreHotsKnown z s) (sym run) a
 seen_after (Looked h w ∷ es) x y s run a =
@@ -125,7 +125,7 @@ set_here objects ws h k w o same within mine here = elim (ℕ_discrete h k) [
 ]
 
 -- an object that is here and not claimed has a word that is here afterwards, where it had one
-pub here_after : (es : List Event) (x y : Words) (s : Shown) (h : ℕ) → Plain x es y
+pub here_after : (es : List Access) (x y : Words) (s : Shown) (h : ℕ) → Plain x es y
     → length s.objects ≡ length x.words → HereIs (object_at s h) (get_or x.words h 0)
     → HereIs (object_at (played es s) h) (get_or y.words h 0)
 here_after [] x y s h run same here =
@@ -159,7 +159,7 @@ seen_known x far s k = record {
 }
 
 -- what is known after a call, where the world is sound then
-pub known_after : (x y : Words) (far new : FarState) (s : Shown) (es : List Event) → IsKnown x far s
+pub known_after : (x y : Words) (far new : FarState) (s : Shown) (es : List Access) → IsKnown x far s
     → Plain x es y → Allowed s es → (IsSized x → IsSized y) → Sound (played es s) new
     → IsKnown y new (played es s)
 known_after x y far new s es k run allowed sized sound = let seen =
@@ -175,17 +175,17 @@ known_after x y far new s es k run allowed sized sound = let seen =
 
 -- what the events can tell of is known: hot bits of words that are looked at, and the words of
 -- objects that are claimed
-record AreToldOf (x : Words) (s : Shown) (es : List Event) : Type 0 where
+record AreToldOf (x : Words) (s : Shown) (es : List Access) : Type 0 where
   pub hots : (h : ℕ) → NoLook h es ⊎ (hot_at s h ≡ hot_of (get_or x.words h 0))
   pub words : NoClaim es ⊎ ((s.versions ≡ x.versions) × (s.memory ≡ x.memory))
 
-later : {P : Type 0} (h : ℕ) (e : Event) (es : List Event) → NoLook h (e ∷ es) ⊎ P
+later : {P : Type 0} (h : ℕ) (e : Access) (es : List Access) → NoLook h (e ∷ es) ⊎ P
     → NoLook h es ⊎ P
 later h e es (inl none) = inl none.1
 later h e es (inr p) = inr p
 
 -- the other objects' words are as they were
-other_told : (x : Words) (s : Shown) (h w : ℕ) (es : List Event) → NoLook h es
+other_told : (x : Words) (s : Shown) (h w : ℕ) (es : List Access) → NoLook h es
     → ((k : ℕ) → NoLook k es ⊎ (hot_at s k ≡ hot_of (get_or x.words k 0)))
     → (k : ℕ) → NoLook k es ⊎ (hot_at s k ≡ hot_of (get_or (set x.words h w) k 0))
 other_told x s h w es none told k = elim (ℕ_discrete k h) [
@@ -196,7 +196,7 @@ other_told x s h w es none told k = elim (ℕ_discrete k h) [
   ]
 ]
 
-same_hots : (x : Words) (s : Shown) (h w : ℕ) (es : List Event) → get_or x.words h 0 ≡ w
+same_hots : (x : Words) (s : Shown) (h w : ℕ) (es : List Access) → get_or x.words h 0 ≡ w
     → NoLook h es ⊎ (hot_at s h ≡ hot_of (get_or x.words h 0)) → (NoLook h es → ⊥)
     → set s.hots h (hot_of w) ≡ s.hots
 same_hots x s h w es found (inl none) looked = absurd (looked none)
@@ -204,7 +204,7 @@ same_hots x s h w es found (inr told) looked =
     ap (set s.hots h) (ap hot_of (sym found) ∙ sym told) ∙ set-get_or s.hots h false
 
 -- what the events tell was known
-told_is : (es : List Event) (x y : Words) (s : Shown) → Plain x es y → LooksFirst es
+told_is : (es : List Access) (x y : Words) (s : Shown) → Plain x es y → LooksFirst es
     → AreToldOf x s es → told_by es s ≡ s
 told_is [] x y s run first a = refl
 told_is (Looked h w ∷ es) x y s run first a =
@@ -260,7 +260,7 @@ told_is (Settled h w ∷ es) x y s run first a =
     })
 
 -- what the events of a call tell was known
-pub told_known : (x y : Words) (far : FarState) (s : Shown) (es : List Event) → IsKnown x far s
+pub told_known : (x y : Words) (far : FarState) (s : Shown) (es : List Access) → IsKnown x far s
     → Plain x es y → LooksFirst es → told_by es s ≡ s
 told_known x y far s es k run first = told_is es x y s run first (record {
   hots = λ h. by h (cases_lt h (length x.words));

@@ -8,14 +8,14 @@ use Rattle.cb_ptr.specs.declared.word.State.TheVariants as word
 use Rattle.cb_ptr.specs.Word.{state_of, len_of, place_of, pins_of}
 use Rattle.cb_world.specs.declared.object.Object.{Object}
 use Rattle.cb_world.specs.declared.object.Object.TheVariants as is
-use Rattle.cb_world.specs.declared.event.Event.{Event}
-use Rattle.cb_world.specs.declared.event.Event.TheVariants.{Looked, Claimed, Told, Loaded, Stored, Stamped, Settled}
+use Rattle.cb_world.specs.declared.access.Access.{Access}
+use Rattle.cb_world.specs.declared.access.Access.TheVariants.{Looked, Claimed, Told, Loaded, Stored, Stamped, Settled}
 use Rattle.cb_world.specs.declared.shown.Shown.{Shown}
 use Rattle.cb_world.specs.FarState.{FarState, handle_in}
 use Rattle.cb_world.specs.Memory.{window, words_for}
 use Rattle.cb_world.specs.Plain.{Words, Plain}
 use Rattle.cb_world.specs.Played.{after, played}
-use Rattle.cb_world.specs.declared.seats.Pin.{Pin}
+use Rattle.cb_world.specs.declared.seats.SeatPin.{SeatPin}
 use Rattle.cb_world.specs.Pinned.{with_word}
 use Rattle.cb_world.specs.Seats.{SeatState, OpenWriteState, IsClaimAt, AtMostOneHolds, idle_seat, seat_at, claims_of_seat, with_pins}
 use Rattle.cb_world.specs.Shown.{Fits, object_at, never}
@@ -35,7 +35,7 @@ use Rattle.cb_world.proofs.Untouched.{untouched}
 use Rattle.cb_world.proofs.Windows.{window_same}
 
 -- an object that is here and that is not claimed is here afterwards, at its place
-stays_here : (es : List Event) (x y : Words) (s : Shown) (k len place : ℕ) → Plain x es y
+stays_here : (es : List Access) (x y : Words) (s : Shown) (k len place : ℕ) → Plain x es y
     → Allowed s es → LeavesUnclaimed k es → object_at s k ≡ is.Here len place
     → object_at (played es s) k ≡ is.Here len place
 stays_here [] x y s k len place run ok l here = here
@@ -92,7 +92,7 @@ open_here x far s seats seat at c k ongoing there =
         absurd (ongoing.apart seat at c there (leaves_now far s c.handle _ _ words leaving))
 
 -- an open write stays open
-open_stays : (es : List Event) (x y : Words) (s : Shown) (c : OpenWriteState) → Plain x es y
+open_stays : (es : List Access) (x y : Words) (s : Shown) (c : OpenWriteState) → Plain x es y
     → Allowed s es → length y.words ≡ length x.words → IsOpen x c
     → object_at s c.handle ≡ is.Here (len_of (word_at x c.handle)) (place_of (word_at x c.handle))
     → IsOpen y c
@@ -175,8 +175,8 @@ open_same x far new s seats k l ongoing = record {
     ]
 
 -- An operation at the still desk keeps the open writes.
-pub open_kept : (x y : Words) (far new : FarState) (rules : List Event → Type 0)
-    (does : List Event → Shown → Shown → Type 0) (s : Shown) (seats : List SeatState) → IsKnown x far s
+pub open_kept : (x y : Words) (far new : FarState) (rules : List Access → Type 0)
+    (does : List Access → Shown → Shown → Type 0) (s : Shown) (seats : List SeatState) → IsKnown x far s
     → PerformsStill x y far new rules does → AreOpen x far seats → AreOpen y new seats
 open_kept x y far new rules does s seats k p ongoing = record {
   each = λ seat at c there.
@@ -193,7 +193,7 @@ open_kept x y far new rules does s seats k p ongoing = record {
       moving_then h below moved (moving_is y new (played es s) h after_all below moved);
 }
   where
-    es : List Event
+    es : List Access
     es = p.events
 
     r : RunsStill x y far s es
@@ -307,14 +307,14 @@ seat_beside f seats seat new same k = by (ℕ_discrete k seat) (cases_lt seat (l
         ∙ ap (λ (i : ℕ). f (get_or seats i idle_seat)) (sym e)
 
 -- other pins of a seat leave the open writes of all
-pub pins_leave : (seats : List SeatState) (seat : ℕ) (pins : List Pin) (k : ℕ)
+pub pins_leave : (seats : List SeatState) (seat : ℕ) (pins : List SeatPin) (k : ℕ)
     → claims_of_seat (with_pins seats seat pins) k ≡ claims_of_seat seats k
 pins_leave seats seat pins k =
     seat_beside (λ (x : SeatState). x.claims) seats seat (record (seat_at seats seat) { pins = pins })
     refl k
 
 -- and whoever holds the far lock
-pub pins_hold : (seats : List SeatState) (seat : ℕ) (pins : List Pin) → AtMostOneHolds seats
+pub pins_hold : (seats : List SeatState) (seat : ℕ) (pins : List SeatPin) → AtMostOneHolds seats
     → AtMostOneHolds (with_pins seats seat pins)
 pins_hold seats seat pins one a b held other = one a b (sym (same a) ∙ held) (sym (same b) ∙ other)
   where

@@ -8,8 +8,8 @@ use Rattle.cb_ptr.specs.declared.word.State.{State}
 use Rattle.cb_ptr.specs.declared.word.State.TheVariants as word
 use Rattle.cb_ptr.specs.Word.{state_of, len_of, place_of}
 use Rattle.cb_world.specs.Allowed.{Allowed}
-use Rattle.cb_world.specs.declared.event.Event.{Event}
-use Rattle.cb_world.specs.declared.event.Event.TheVariants.{Looked, Claimed, Told, Loaded, Stored, Stamped, Settled}
+use Rattle.cb_world.specs.declared.access.Access.{Access}
+use Rattle.cb_world.specs.declared.access.Access.TheVariants.{Looked, Claimed, Told, Loaded, Stored, Stamped, Settled}
 use Rattle.cb_world.specs.declared.object.Object.{Object}
 use Rattle.cb_world.specs.declared.object.Object.TheVariants as is
 use Rattle.cb_world.specs.declared.shown.Shown.{Shown}
@@ -182,7 +182,7 @@ stamped_born s h v k held b = elim (ℕ_discrete k h) [
 ]
 
 -- ---- one event after another
-well_after : (es : List Event) (x y : Words) (s : Shown) → Plain x es y → Allowed s es → Shows x s
+well_after : (es : List Access) (x y : Words) (s : Shown) → Plain x es y → Allowed s es → Shows x s
     → AreWell x s → AreWell y (played es s)
 well_after [] x y s run ok r a = subst (λ (z : Words). AreWell z s) (sym run) a
 well_after (Looked h w ∷ es) x y s run ok r a =
@@ -311,7 +311,7 @@ pub record AreBothThen (y : Words) (t : Shown) : Type 0 where
   pub freed : AreFreedLater t
 
 -- after an operation that did what it may
-pub both_then : (x y : Words) (far : FarState) (s : Shown) (es : List Event) → IsKnown x far s
+pub both_then : (x y : Words) (far : FarState) (s : Shown) (es : List Access) → IsKnown x far s
     → Plain x es y → Allowed s es → AreBothThen y (played es s)
 both_then x y far s es k run ok = let z = well_after es x y s run ok k.shows (record {
   packed = k.packed;

@@ -12,10 +12,10 @@ use Rattle.std.proofs.lemmas.List.Sums.{sum_by-set, sum_by-append, sum_by-remove
 use Rattle.cb_ptr.specs.declared.word.State.TheVariants as word
 use Rattle.cb_ptr.specs.Word.{state_of, hot_of, len_of, place_of, pins_of}
 use Rattle.cb_ptr.specs.Steps.{TakesPin, GivesPin}
-use Rattle.cb_world.specs.declared.event.Event.TheVariants.{Looked}
+use Rattle.cb_world.specs.declared.access.Access.TheVariants.{Looked}
 use Rattle.cb_world.specs.declared.object.Object.{Object}
 use Rattle.cb_world.specs.declared.object.Object.TheVariants as is
-use Rattle.cb_world.specs.declared.seats.Pin.{Pin}
+use Rattle.cb_world.specs.declared.seats.SeatPin.{SeatPin}
 use Rattle.cb_world.specs.declared.shown.Shown.{Shown}
 use Rattle.cb_world.specs.Shown.{Fits, object_at, never}
 use Rattle.cb_world.specs.Played.{after}
@@ -96,32 +96,32 @@ still_packed s v w (is.Here len place) here m = λ e. m here
 still_packed s v w (is.Claimed len place n words) here m = m
 
 -- ---- the seats with other pins at one of them
-abbrev one_pin : ℕ → Pin → ℕ
+abbrev one_pin : ℕ → SeatPin → ℕ
 one_pin k pin = if nat_eq pin.handle k then 1 else 0
 
-seats_on : (seats : List SeatState) (seat k : ℕ) (pins : List Pin) → seat < length seats
+seats_on : (seats : List SeatState) (seat k : ℕ) (pins : List SeatPin) → seat < length seats
     → all_pins_on k (with_pins seats seat pins) + pins_among k (pins_of_seat seats seat)
     ≡ all_pins_on k seats + pins_among k pins
 seats_on seats seat k pins within =
     sum_by-set (λ (x : SeatState). pins_among k x.pins) seats seat
     (record (seat_at seats seat) { pins = pins }) idle_seat within
 
-more_on : (pins : List Pin) (pin : Pin) (k : ℕ)
+more_on : (pins : List SeatPin) (pin : SeatPin) (k : ℕ)
     → pins_among k (pins ++ pin ∷ []) ≡ pins_among k pins + one_pin k pin
 more_on pins pin k = let e = sum_by-append (one_pin k) pins (pin ∷ []) in omega (arith, e)
 
-less_on : (pins : List Pin) (at k : ℕ) (pin : Pin) → slice_get pins at ≡ Some pin
+less_on : (pins : List SeatPin) (at k : ℕ) (pin : SeatPin) → slice_get pins at ≡ Some pin
     → pins_among k (remove pins at) + one_pin k pin ≡ pins_among k pins
 less_on pins at k pin there =
-    ap (λ (x : Pin). pins_among k (remove pins at) + one_pin k x)
+    ap (λ (x : SeatPin). pins_among k (remove pins at) + one_pin k x)
     (sym (get_or_from_slice_get pins at pin pin there))
     ∙ sum_by-remove (one_pin k) pins at pin (slice_get_within pins at pin there)
 
-all_but : (P : Pin → Type 0) (pins : List Pin) (at : ℕ) → at < length pins → All P pins
+all_but : (P : SeatPin → Type 0) (pins : List SeatPin) (at : ℕ) → at < length pins → All P pins
     → All P (remove pins at)
 all_but P pins at lt all = All-from_get_or P (remove pins at) none (λ i below. go i below (cases_lt i at))
   where
-    none : Pin
+    none : SeatPin
     none = record { handle = 0; version = 0 }
 
     go : (i : ℕ) → i < length (remove pins at) → (i < at) ⊎ (at ≤ i)
@@ -131,40 +131,40 @@ all_but P pins at lt all = All-from_get_or P (remove pins at) none (λ i below. 
     go i below (inr behind) = subst P (sym (get_or-remove_above pins at none i behind lt))
         (All-get_or P pins (i + 1) none (let n = length-remove pins at lt in omega (arith, n, below)) all)
 
-pinned_word : (desk : Words) (seats : List SeatState) (seat h w : ℕ) (pins : List Pin)
+pinned_word : (desk : Words) (seats : List SeatState) (seat h w : ℕ) (pins : List SeatPin)
     → ArePinned desk seats → seat < length seats → h < length desk.words
     → state_of w ≡ word.Here → (1 ≤ pins_of w → hot_of w ≡ true)
     → length pins ≤ 16
     → ((k : ℕ) → k < length desk.words → pins_among k pins + pins_of (word_at desk k)
     ≡ pins_among k (pins_of_seat seats seat) + pins_of (get_or (set desk.words h w) k 0))
-    → All (λ (pin : Pin). pin.handle < length desk.words) pins
-    → All (λ (pin : Pin). pin.version ≡ get_or desk.versions pin.handle 0) pins
+    → All (λ (pin : SeatPin). pin.handle < length desk.words) pins
+    → All (λ (pin : SeatPin). pin.version ≡ get_or desk.versions pin.handle 0) pins
     → ArePinned (with_word desk h w) (with_pins seats seat pins)
 pinned_word desk seats seat h w pins p within below here hot few counts known versions = record {
   count = length-set seats seat _ ∙ p.count;
   few = All-set (λ (x : SeatState). length x.pins ≤ 16) seats seat new few p.few;
   counted = λ k lt. counted k (let l = length-set desk.words h w in omega (arith, l, lt));
   known = All-set (λ (x : SeatState).
-      All (λ (pin : Pin). pin.handle < length (set desk.words h w)) x.pins) seats seat new
+      All (λ (pin : SeatPin). pin.handle < length (set desk.words h w)) x.pins) seats seat new
       (longer pins known) (all_longer seats p.known);
   here = λ k lt some.
       held k (let l = length-set desk.words h w in omega (arith, l, lt)) some (ℕ_discrete k h);
   versions = All-set (λ (x : SeatState).
-      All (λ (pin : Pin). pin.version ≡ get_or desk.versions pin.handle 0) x.pins) seats seat new
+      All (λ (pin : SeatPin). pin.version ≡ get_or desk.versions pin.handle 0) x.pins) seats seat new
       versions p.versions;
 }
   where
     new : SeatState
     new = record (seat_at seats seat) { pins = pins }
 
-    longer : (xs : List Pin) → All (λ (pin : Pin). pin.handle < length desk.words) xs
-        → All (λ (pin : Pin). pin.handle < length (set desk.words h w)) xs
+    longer : (xs : List SeatPin) → All (λ (pin : SeatPin). pin.handle < length desk.words) xs
+        → All (λ (pin : SeatPin). pin.handle < length (set desk.words h w)) xs
     longer xs all = λ i d lt. let l = length-set desk.words h w in
         let n = all i d lt in omega (arith, l, n)
 
     all_longer : (xs : List SeatState)
-        → All (λ (x : SeatState). All (λ (pin : Pin). pin.handle < length desk.words) x.pins) xs
-        → All (λ (x : SeatState). All (λ (pin : Pin). pin.handle < length (set desk.words h w)) x.pins) xs
+        → All (λ (x : SeatState). All (λ (pin : SeatPin). pin.handle < length desk.words) x.pins) xs
+        → All (λ (x : SeatState). All (λ (pin : SeatPin). pin.handle < length (set desk.words h w)) x.pins) xs
     all_longer xs all = λ i d lt. longer (get_or xs i d).pins (all i d lt)
 
     counted : (k : ℕ) → k < length desk.words → pins_of (get_or (set desk.words h w) k 0)
@@ -215,27 +215,27 @@ pin_sound desk far seats s seat h v w known p within below here room few told ta
   pinned_word desk seats seat h w (pins ++ pin ∷ []) p (omega (arith, within, p.count)) below
       (takes.state ∙ here) (λ some. takes.hot) (let n = length_push pins pin in omega (arith, n, few))
       (λ k lt. counts k lt (ℕ_discrete k h))
-      (All-append (λ (x : Pin). x.handle < length desk.words) pins (pin ∷ [])
-      (All-get_or (λ (x : SeatState). All (λ (y : Pin). y.handle < length desk.words) x.pins) seats seat
+      (All-append (λ (x : SeatPin). x.handle < length desk.words) pins (pin ∷ [])
+      (All-get_or (λ (x : SeatState). All (λ (y : SeatPin). y.handle < length desk.words) x.pins) seats seat
       idle_seat (omega (arith, within, p.count)) p.known)
-      (one (λ (x : Pin). x.handle < length desk.words) below))
-      (All-append (λ (x : Pin). x.version ≡ get_or desk.versions x.handle 0) pins (pin ∷ [])
-      (All-get_or (λ (x : SeatState). All (λ (y : Pin). y.version ≡ get_or desk.versions y.handle 0) x.pins)
+      (one (λ (x : SeatPin). x.handle < length desk.words) below))
+      (All-append (λ (x : SeatPin). x.version ≡ get_or desk.versions x.handle 0) pins (pin ∷ [])
+      (All-get_or (λ (x : SeatState). All (λ (y : SeatPin). y.version ≡ get_or desk.versions y.handle 0) x.pins)
       seats seat idle_seat (omega (arith, within, p.count)) p.versions)
-      (one (λ (x : Pin). x.version ≡ get_or desk.versions x.handle 0) told)),
+      (one (λ (x : SeatPin). x.version ≡ get_or desk.versions x.handle 0) told)),
 )
   where
-    pins : List Pin
+    pins : List SeatPin
     pins = pins_of_seat seats seat
 
-    pin : Pin
+    pin : SeatPin
     pin = record { handle = h; version = v }
 
     wide : w < 2 ^ 53
     wide = wider (word_at desk h) w (below_here (object_at s h) (word_at desk h) (known.shows.fit h below) here)
         takes
 
-    one : (P : Pin → Type 0) → P pin → All P (pin ∷ [])
+    one : (P : SeatPin → Type 0) → P pin → All P (pin ∷ [])
     one P is = All-cons P pin [] is (λ i d lt. absurd (omega (arith, lt)))
 
     counts : (k : ℕ) → k < length desk.words → Dec (k ≡ h)
@@ -259,7 +259,7 @@ pin_sound desk far seats s seat h v w known p within below here room few told ta
         omega (arith, more, none, same)
 
 pub unpin_sound : (desk : Words) (far : FarState) (seats : List SeatState) (s : Shown)
-    (seat at h w : ℕ) (pin : Pin) → IsKnown desk far s → ArePinned desk seats → seat < 64
+    (seat at h w : ℕ) (pin : SeatPin) → IsKnown desk far s → ArePinned desk seats → seat < 64
     → slice_get (pins_of_seat seats seat) at ≡ Some pin → pin.handle ≡ h → h < length desk.words
     → state_of (word_at desk h) ≡ word.Here → GivesPin (word_at desk h) w
     → IsKnown (with_word desk h w) far (after (Looked h w) s)
@@ -274,15 +274,15 @@ unpin_sound desk far seats s seat at h w pin known p within there on below here 
   pinned_word desk seats seat h w (remove pins at) p inside below (gives.state ∙ here) hot
       (let n = length-remove pins at lt in let few = few in omega (arith, n, few))
       (λ k below. counts k (ℕ_discrete k h))
-      (all_but (λ (x : Pin). x.handle < length desk.words) pins at lt
-      (All-get_or (λ (x : SeatState). All (λ (y : Pin). y.handle < length desk.words) x.pins) seats seat
+      (all_but (λ (x : SeatPin). x.handle < length desk.words) pins at lt
+      (All-get_or (λ (x : SeatState). All (λ (y : SeatPin). y.handle < length desk.words) x.pins) seats seat
       idle_seat inside p.known))
-      (all_but (λ (x : Pin). x.version ≡ get_or desk.versions x.handle 0) pins at lt
-      (All-get_or (λ (x : SeatState). All (λ (y : Pin). y.version ≡ get_or desk.versions y.handle 0) x.pins)
+      (all_but (λ (x : SeatPin). x.version ≡ get_or desk.versions x.handle 0) pins at lt
+      (All-get_or (λ (x : SeatState). All (λ (y : SeatPin). y.version ≡ get_or desk.versions y.handle 0) x.pins)
       seats seat idle_seat inside p.versions)),
 )
   where
-    pins : List Pin
+    pins : List SeatPin
     pins = pins_of_seat seats seat
 
     inside : seat < length seats
@@ -331,7 +331,7 @@ pin_counts desk seats seat at h p within newest below =
     omega (arith, all, less, one, counted)
 
 -- an object on which a seat has any pin has one in its word
-any_counts : (desk : Words) (seats : List SeatState) (seat at : ℕ) (pin : Pin)
+any_counts : (desk : Words) (seats : List SeatState) (seat at : ℕ) (pin : SeatPin)
     → ArePinned desk seats → seat < length seats → at < length (pins_of_seat seats seat)
     → get_or (pins_of_seat seats seat) at pin ≡ pin
     → 1 ≤ pins_of (word_at desk pin.handle)
@@ -342,10 +342,10 @@ any_counts desk seats seat at pin p within lt there =
     let less = sum_by-remove (one_pin h) pins at pin lt in
     let one : one_pin h (get_or pins at pin) ≡ 1 =
     ap (one_pin h) there ∙ ap (λ (b : Bool). if b then 1 else 0) (eq-eqb h h refl) in
-    let below = All-get_or (λ (y : Pin). y.handle < length desk.words) pins at pin lt
-    (All-get_or (λ (x : SeatState). All (λ (y : Pin). y.handle < length desk.words) x.pins) seats
+    let below = All-get_or (λ (y : SeatPin). y.handle < length desk.words) pins at pin lt
+    (All-get_or (λ (x : SeatState). All (λ (y : SeatPin). y.handle < length desk.words) x.pins) seats
     seat idle_seat within p.known) in
-    let counted = p.counted h (subst (λ (y : Pin). y.handle < length desk.words) there below) in
+    let counted = p.counted h (subst (λ (y : SeatPin). y.handle < length desk.words) there below) in
     omega (arith, all, less, one, counted)
 
 -- The pins stay right where objects with pins keep their words and versions, and others get no pin.
@@ -382,7 +382,7 @@ pinned_still x y seats p same kept none = record {
     held k lt some (inr zero) =
         absurd (let z = none k lt (omega (arith, zero)) in omega (arith, z, some))
 
-    version : (i : ℕ) (d : SeatState) → i < length seats → (j : ℕ) (e : Pin)
+    version : (i : ℕ) (d : SeatState) → i < length seats → (j : ℕ) (e : SeatPin)
         → j < length (get_or seats i d).pins
         → (get_or (get_or seats i d).pins j e).version
         ≡ get_or y.versions (get_or (get_or seats i d).pins j e).handle 0
@@ -390,10 +390,10 @@ pinned_still x y seats p same kept none = record {
         let pin = get_or (get_or seats i d).pins j e in
         let seat : get_or seats i d ≡ get_or seats i idle_seat = get_or_default seats i d idle_seat lt in
         let pins : (get_or seats i d).pins ≡ pins_of_seat seats i = ap (λ (z : SeatState). z.pins) seat in
-        let inside : j < length (pins_of_seat seats i) = subst (λ (l : List Pin). j < length l) pins below in
+        let inside : j < length (pins_of_seat seats i) = subst (λ (l : List SeatPin). j < length l) pins below in
         let there : get_or (pins_of_seat seats i) j pin ≡ pin =
         get_or_default (pins_of_seat seats i) j pin e inside
-        ∙ ap (λ (l : List Pin). get_or l j e) (sym pins) in
+        ∙ ap (λ (l : List SeatPin). get_or l j e) (sym pins) in
         let some = any_counts x seats i j pin p lt inside there in
         let known = p.known i d lt j e below in
         p.versions i d lt j e below ∙ sym (kept pin.handle known some).1

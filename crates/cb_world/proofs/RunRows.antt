@@ -6,8 +6,8 @@ use Rattle.std.proofs.lemmas.List.{drop-take, length-drop, length-take-le, take-
 use Rattle.std.proofs.lemmas.List.Elements.{All-append, All-nil}
 use borrow.Rule.Slice.PartMut.{put_mid, same_len_mid}
 use Rattle.std.specs.Int.{from_le_bytes, to_le_bytes, w64}
-use Rattle.cb_world.specs.declared.event.Event.{Event}
-use Rattle.cb_world.specs.declared.event.Event.TheVariants.{Loaded, Stored}
+use Rattle.cb_world.specs.declared.access.Access.{Access}
+use Rattle.cb_world.specs.declared.access.Access.TheVariants.{Loaded, Stored}
 use Rattle.cb_world.specs.declared.shown.Shown.{Shown}
 use Rattle.cb_world.specs.FrameWords.{OwnsRun, OwnsWords, ReadsFrame, ReadsRun, loads_from, stores_from}
 use Rattle.cb_world.specs.Played.{played}
@@ -19,7 +19,7 @@ pub loads_append : (p : ℕ) (ws vs : List ℕ)
     → loads_from p (ws ++ vs) ≡ loads_from p ws ++ loads_from (p + length ws) vs
 loads_append p [] vs = ap (λ (q : ℕ). loads_from q vs) (omega arith)
 loads_append p (w ∷ ws) vs =
-    ap (λ (es : List Event). Loaded p w ∷ es) (loads_append (p + 1) ws vs
+    ap (λ (es : List Access). Loaded p w ∷ es) (loads_append (p + 1) ws vs
     ∙ ap (λ (q : ℕ). loads_from (p + 1) ws ++ loads_from q vs)
     (let e : (p + 1) + length ws ≡ p + suc (length ws) = omega arith in e))
 
@@ -27,7 +27,7 @@ pub stores_append : (p : ℕ) (ws vs : List ℕ)
     → stores_from p (ws ++ vs) ≡ stores_from p ws ++ stores_from (p + length ws) vs
 stores_append p [] vs = ap (λ (q : ℕ). stores_from q vs) (omega arith)
 stores_append p (w ∷ ws) vs =
-    ap (λ (es : List Event). Stored p w ∷ es) (stores_append (p + 1) ws vs
+    ap (λ (es : List Access). Stored p w ∷ es) (stores_append (p + 1) ws vs
     ∙ ap (λ (q : ℕ). stores_from (p + 1) ws ++ stores_from q vs)
     (let e : (p + 1) + length ws ≡ p + suc (length ws) = omega arith in e))
 
@@ -92,7 +92,7 @@ pub words_whole : (row : List ℕ) (pages : ℕ) → length row ≡ 4096 * pages
 words_whole row pages long = ap (λ (k : ℕ). words_from k row) (omega (arith, long))
 
 -- ---- the pages that are read so far
-pub record HasRead (runs : List Event → Type 0) (f pages page : ℕ) (row : List ℕ) : Type 0 where
+pub record HasRead (runs : List Access → Type 0) (f pages page : ℕ) (row : List ℕ) : Type 0 where
   pub words : List ℕ
   pub count : length words ≡ 512 * page
   pub small : All (λ w. w < 2 ^ 64) words
@@ -100,7 +100,7 @@ pub record HasRead (runs : List Event → Type 0) (f pages page : ℕ) (row : Li
   pub ran : runs (loads_from (512 * f) words)
   pub sized : length row ≡ 4096 * pages
 
-pub none_read : (runs : List Event → Type 0) (f pages : ℕ) (row : List ℕ) → runs []
+pub none_read : (runs : List Access → Type 0) (f pages : ℕ) (row : List ℕ) → runs []
     → length row ≡ 4096 * pages → HasRead runs f pages 0 row
 none_read runs f pages row none long = record {
   words = [];
@@ -112,8 +112,8 @@ none_read runs f pages row none long = record {
 }
 
 -- one page more
-pub page_read : (runs then_ all : List Event → Type 0) (f pages page k : ℕ) (row new piece : List ℕ)
-    → ((es fs : List Event) → runs es → then_ fs → all (es ++ fs))
+pub page_read : (runs then_ all : List Access → Type 0) (f pages page k : ℕ) (row new piece : List ℕ)
+    → ((es fs : List Access) → runs es → then_ fs → all (es ++ fs))
     → HasRead runs f pages page row → ReadsFrame then_ (f + page) piece → page < pages
     → k ≡ 4096 → new ≡ put_mid (4096 * page) k row piece
     → HasRead all f pages (page + 1) new
@@ -147,7 +147,7 @@ page_read runs then_ all f pages page k row new piece more x y below wide is =
     }
 
 -- all pages
-pub run_read : (runs : List Event → Type 0) (f pages page : ℕ) (row : List ℕ)
+pub run_read : (runs : List Access → Type 0) (f pages page : ℕ) (row : List ℕ)
     → HasRead runs f pages page row → page ≡ pages → ReadsRun runs f pages row
 run_read runs f pages page row x all = record {
   words = x.words;
@@ -158,13 +158,13 @@ run_read runs f pages page row x all = record {
 }
 
 -- ---- the pages that are stored so far
-pub none_stored : (runs : List Event → Type 0) (f : ℕ) (row : List ℕ) → runs []
+pub none_stored : (runs : List Access → Type 0) (f : ℕ) (row : List ℕ) → runs []
     → runs (stores_from (512 * f) (words_from (512 * 0) row))
 unfolding words_from
 none_stored runs f row none = none
 
-pub page_stored : (runs then_ all : List Event → Type 0) (f page k : ℕ) (row : List ℕ)
-    → ((es fs : List Event) → runs es → then_ fs → all (es ++ fs))
+pub page_stored : (runs then_ all : List Access → Type 0) (f page k : ℕ) (row : List ℕ)
+    → ((es fs : List Access) → runs es → then_ fs → all (es ++ fs))
     → runs (stores_from (512 * f) (words_from (512 * page) row))
     → k ≡ 4096
     → then_ (stores_from (512 * (f + page)) (words_in (take k (drop (4096 * page) row))))

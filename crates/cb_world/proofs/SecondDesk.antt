@@ -3,8 +3,8 @@ use Rattle.std.proofs.Common.{◌≡◌, ◌*◌, List, [], ◌∷◌, ◌++◌,
 use Rattle.cb_types.specs.declared.config.Config.{Config}
 use Rattle.cb_ptr.specs.Word.{state_of, hot_of, len_of, place_of}
 use Rattle.cb_world.specs.declared.object.Object.TheVariants as is
-use Rattle.cb_world.specs.declared.event.Event.{Event}
-use Rattle.cb_world.specs.declared.event.Event.TheVariants.{Looked, Claimed, Told, Loaded, Stored, Stamped, Settled}
+use Rattle.cb_world.specs.declared.access.Access.{Access}
+use Rattle.cb_world.specs.declared.access.Access.TheVariants.{Looked, Claimed, Told, Loaded, Stored, Stamped, Settled}
 use Rattle.cb_world.specs.declared.shown.Shown.{Shown}
 use Rattle.cb_world.specs.Played.{Agree, after, played, settled_by}
 use Rattle.cb_world.specs.Shown.{version_at, object_at}
@@ -22,18 +22,18 @@ record AreSized (c : Config) (s : Shown) : Type 0 where
   pub versions : length s.versions ≡ c.handles
   pub memory : length s.memory ≡ 512 * c.frames
 
-abbrev Runs : SecondSeat → List Event → SecondSeat → Type 0
+abbrev Runs : SecondSeat → List Access → SecondSeat → Type 0
 Runs d es e = (e.settings ≡ d.settings) × (e.known ≡ played es d.known) × Agree d.known es
 
 abbrev Tells : SecondSeat → Shown → Type 0
 Tells d s = (s ≡ d.known) × AreSized d.settings s
 
-agree_more : (es fs : List Event) (s : Shown) → Agree s es → Agree (played es s) fs
+agree_more : (es fs : List Access) (s : Shown) → Agree s es → Agree (played es s) fs
     → Agree s (es ++ fs)
 agree_more [] fs s a b = b
 agree_more (e ∷ es) fs s a b = (a.0, agree_more es fs (after e s) a.1 b)
 
-sized_after : (c : Config) (e : Event) (s : Shown) → AreSized c s → AreSized c (after e s)
+sized_after : (c : Config) (e : Access) (s : Shown) → AreSized c s → AreSized c (after e s)
 sized_after c (Looked h w) s z =
     record {
       objects = z.objects;
@@ -77,14 +77,14 @@ sized_after c (Settled h w) s z =
           z.memory;
     }
 
-sized_played : (c : Config) (es : List Event) (s : Shown) → AreSized c s → AreSized c (played es s)
+sized_played : (c : Config) (es : List Access) (s : Shown) → AreSized c s → AreSized c (played es s)
 sized_played c [] s z = z
 sized_played c (e ∷ es) s z = sized_played c es (after e s) (sized_after c e s z)
 
 seat_none : (d : SecondSeat) → Runs d [] d
 seat_none d = (refl, refl, tt)
 
-seat_more : (d e f : SecondSeat) (es fs : List Event) → Runs d es e → Runs e fs f
+seat_more : (d e f : SecondSeat) (es fs : List Access) → Runs d es e → Runs e fs f
     → Runs d (es ++ fs) f
 seat_more d e f es fs a b = (
   b.0 ∙ a.0,
@@ -93,7 +93,7 @@ seat_more d e f es fs a b = (
   agree_more es fs d.known a.2 (subst (λ (s : Shown). Agree s fs) a.1 b.2),
 )
 
-seat_follows : (d e : SecondSeat) (es : List Event) (s : Shown) → Runs d es e → Tells d s
+seat_follows : (d e : SecondSeat) (es : List Access) (s : Shown) → Runs d es e → Tells d s
     → Agree s es
     × Tells e (played es s)
 seat_follows d e es s a b = (

@@ -1,6 +1,6 @@
 -- An operation at the still desk.
 use Rattle.std.proofs.Common.{◌≡◌, ℕ, List}
-use Rattle.cb_world.specs.declared.event.Event.{Event}
+use Rattle.cb_world.specs.declared.access.Access.{Access}
 use Rattle.cb_world.specs.declared.shown.Shown.{Shown}
 use Rattle.cb_world.specs.Now.{now}
 use Rattle.cb_world.specs.Played.{played}
@@ -17,21 +17,21 @@ use Rattle.cb_world.proofs.StillWords.{still_exact}
 
 -- how an operation's clause reads where its desk is still: it leads from the words x to the words
 -- y
-abbrev pub PerformsStill : Words → Words → FarState → FarState → (List Event → Type 0)
-    → (List Event → Shown → Shown → Type 0) → Type 0
+abbrev pub PerformsStill : Words → Words → FarState → FarState → (List Access → Type 0)
+    → (List Access → Shown → Shown → Type 0) → Type 0
 PerformsStill x y far new rules does = Performs (λ es. Plain x es y × (IsSized x → IsSized y))
     (λ s. (IsSized x × Shows x s) × Sound s far) rules (λ t. Sound t new) does
 
 -- What its events are, where all is known of the desk.
-pub record RunsStill (x y : Words) (far : FarState) (s : Shown) (es : List Event) : Type 0 where
+pub record RunsStill (x y : Words) (far : FarState) (s : Shown) (es : List Access) : Type 0 where
   pub known : IsKnown x far s
   pub ran : Plain x es y
   pub looks_first : LooksFirst es
   pub allowed : Allowed s es
   pub told : told_by es s ≡ s
 
-pub runs_still : (x y : Words) (far new : FarState) (rules : List Event → Type 0)
-    (does : List Event → Shown → Shown → Type 0) (s : Shown) → IsKnown x far s
+pub runs_still : (x y : Words) (far new : FarState) (rules : List Access → Type 0)
+    (does : List Access → Shown → Shown → Type 0) (s : Shown) → IsKnown x far s
     → (p : PerformsStill x y far new rules does) → RunsStill x y far s p.events
 runs_still x y far new rules does s k p = record {
   known = k;
@@ -42,8 +42,8 @@ runs_still x y far new rules does s k p = record {
 }
 
 -- all is known of it afterwards
-pub known_then : (x y : Words) (far new : FarState) (rules : List Event → Type 0)
-    (does : List Event → Shown → Shown → Type 0) (s : Shown) → IsKnown x far s
+pub known_then : (x y : Words) (far new : FarState) (rules : List Access → Type 0)
+    (does : List Access → Shown → Shown → Type 0) (s : Shown) → IsKnown x far s
     → (p : PerformsStill x y far new rules does) → IsKnown y new (played p.events s)
 known_then x y far new rules does s k p = known_after x y far new s p.events k p.ran.0
     (p.allowed s ((k.sized, k.shows), k.sound)) p.ran.1
@@ -56,7 +56,7 @@ pub record IsStepKnown (y : Words) (far new : FarState) (s : Shown) : Type 0 whe
   pub same_now : (h : ℕ) → now shown new h ≡ now s far h
 
 -- what changes nothing leaves every word
-pub stays_still : (x y : Words) (far : FarState) (s : Shown) (es : List Event)
+pub stays_still : (x y : Words) (far : FarState) (s : Shown) (es : List Access)
     → RunsStill x y far s es → IsStill es s (played es s) → y ≡ x
 stays_still x y far s es r still = still_exact x y far s es r.known r.ran r.looks_first r.allowed
     still

@@ -9,8 +9,8 @@ use Rattle.cb_ptr.specs.Word.{flag_number, fields_of, word_of, state_of, hot_of,
 use Rattle.cb_ptr.proofs.Laws.{same_but_hot, word_of-fields_of}
 use Rattle.cb_world.specs.declared.object.Object.{Object}
 use Rattle.cb_world.specs.declared.object.Object.TheVariants as is
-use Rattle.cb_world.specs.declared.event.Event.{Event}
-use Rattle.cb_world.specs.declared.event.Event.TheVariants.{Looked, Claimed, Told, Loaded, Stored, Stamped, Settled}
+use Rattle.cb_world.specs.declared.access.Access.{Access}
+use Rattle.cb_world.specs.declared.access.Access.TheVariants.{Looked, Claimed, Told, Loaded, Stored, Stamped, Settled}
 use Rattle.cb_world.specs.declared.shown.Shown.{Shown}
 use Rattle.cb_world.specs.Shown.{Fits, IsHeld, object_at, hot_at, version_at, never}
 use Rattle.cb_world.specs.Settling.{MaySettle, MaySettleAs}
@@ -28,13 +28,13 @@ use Rattle.cb_world.specs.StillDesk.{here_is as fits_here, plain_follows, plain_
 use Rattle.cb_world.proofs.Untouched.{may_held, untouched}
 use Rattle.cb_world.proofs.Known.{HereIs, AreHotsKnown, seen_after, here_after, seen_known, told_known}
 
-not_told : (h v : ℕ) (es : List Event) → NoTell es → IsTold h v es → ⊥
+not_told : (h v : ℕ) (es : List Access) → NoTell es → IsTold h v es → ⊥
 not_told h v [] none told = told
 not_told h v (Told k u ∷ es) none told = none
 not_told h v (e ∷ es) none told = not_told h v es none told
 
 -- a version word that was told is the one that was there
-pub told_exact : (es : List Event) (x y : Words) (h v : ℕ) → Plain x es y → SettlesLast es
+pub told_exact : (es : List Access) (x y : Words) (h v : ℕ) → Plain x es y → SettlesLast es
     → IsTold h v es → v ≡ get_or x.versions h 0
 told_exact [] x y h v run last told = absurd told
 told_exact (Looked k w ∷ es) x y h v run last told = told_exact es x y h v run.1 last told
@@ -56,7 +56,7 @@ settles_other s h k w len place here may e =
     subst IsHeld (ap (object_at s) (sym e) ∙ here) (may_held s k w may)
 
 -- an object that is here with pins is not claimed
-pub busy_leaves : (es : List Event) (x y : Words) (s : Shown) (h len place : ℕ) → Plain x es y
+pub busy_leaves : (es : List Access) (x y : Words) (s : Shown) (h len place : ℕ) → Plain x es y
     → Allowed s es → object_at s h ≡ is.Here len place → (IsFree (get_or x.words h 0) → ⊥)
     → LeavesUnclaimed h es
 busy_leaves [] x y s h len place run ok here busy = tt
@@ -122,7 +122,7 @@ set_free objects ws h k w o among within mine free = elim (ℕ_discrete h k) [
 ]
 
 -- a claimed object is settled without pins
-pub free_after : (es : List Event) (x y : Words) (s : Shown) (h : ℕ) → Plain x es y → Allowed s es
+pub free_after : (es : List Access) (x y : Words) (s : Shown) (h : ℕ) → Plain x es y → Allowed s es
     → length s.objects ≡ length x.words → FreeIs (object_at s h) (get_or x.words h 0)
     → FreeIs (object_at (played es s) h) (get_or y.words h 0)
 free_after [] x y s h run ok same free =
@@ -186,7 +186,7 @@ free_or_busy (is.Here len place) w = elim (is_free w) [
 ]
 
 -- the word of an object of which nothing else is known then is what it was
-pub word_back : (x y : Words) (far : FarState) (s : Shown) (es : List Event) (h : ℕ)
+pub word_back : (x y : Words) (far : FarState) (s : Shown) (es : List Access) (h : ℕ)
     → IsKnown x far s → Plain x es y → Allowed s es → h < length x.words → h < length y.words
     → object_at (played es s) h ≡ object_at s h → hot_at (played es s) h ≡ hot_at s h
     → word_at y h ≡ word_at x h
@@ -235,7 +235,7 @@ words_but xs ys h w same others mine =
     by k below (no off) = others k below off ∙ sym (get_or-set_other xs h k w 0 off)
 
 -- a refusal leaves every word
-pub still_exact : (x y : Words) (far : FarState) (s : Shown) (es : List Event) → IsKnown x far s
+pub still_exact : (x y : Words) (far : FarState) (s : Shown) (es : List Access) → IsKnown x far s
     → Plain x es y → LooksFirst es → Allowed s es → IsStill es s (played es s) → y ≡ x
 still_exact x y far s es k run first ok still =
     let told = told_known x y far s es k run first in
@@ -273,7 +273,7 @@ hot_word v w fits here none hot free =
     sym (word_of-fields_of v fits.0) ∙ ap word_of fields
 
 -- where nothing is known then but of one object, only its word changed
-pub one_exact : (x y : Words) (far : FarState) (s : Shown) (es : List Event) (h w : ℕ)
+pub one_exact : (x y : Words) (far : FarState) (s : Shown) (es : List Access) (h w : ℕ)
     → IsKnown x far s → Plain x es y → Allowed s es → length y.words ≡ length x.words
     → ((k : ℕ) → k ≢ h → object_at (played es s) k ≡ object_at s k)
     → ((k : ℕ) → k ≢ h → hot_at (played es s) k ≡ hot_at s k)
@@ -284,14 +284,14 @@ one_exact x y far s es h w k run ok count objects hots mine =
     (objects i off) (hots i off))
     mine
 
-still_count : (x y : Words) (far : FarState) (s : Shown) (es : List Event) → IsKnown x far s
+still_count : (x y : Words) (far : FarState) (s : Shown) (es : List Access) → IsKnown x far s
     → Plain x es y → length (played es s).objects ≡ length s.objects
     → length y.words ≡ length x.words
 still_count x y far s es k run same =
     sym (plain_follows es x y s run k.shows).1.objects ∙ same ∙ k.shows.objects
 
 -- a free object that is settled where it was, hot
-pub hot_exact : (x y : Words) (far : FarState) (s : Shown) (es : List Event) (h : ℕ)
+pub hot_exact : (x y : Words) (far : FarState) (s : Shown) (es : List Access) (h : ℕ)
     → IsKnown x far s → Plain x es y → Allowed s es → IsFree (word_at x h)
     → (played es s).objects ≡ s.objects → (played es s).hots ≡ set s.hots h true
     → y.words ≡ set x.words h (with_hot (word_at x h))
@@ -329,7 +329,7 @@ hot_exact x y far s es h k run ok free objects hots =
         (sym (seen_then.hot h still) ∙ hot) free
 
 -- an object that is freed has the word 0
-pub empty_exact : (x y : Words) (far : FarState) (s : Shown) (es : List Event) (h v : ℕ)
+pub empty_exact : (x y : Words) (far : FarState) (s : Shown) (es : List Access) (h v : ℕ)
     → IsKnown x far s → Plain x es y → Allowed s es
     → (played es s).objects ≡ set s.objects h (is.Empty v)
     → (played es s).hots ≡ set s.hots h false → y.words ≡ set x.words h 0

@@ -2,8 +2,8 @@
 use Rattle.std.proofs.Common.{◌≡◌, ◌≢◌, ℕ, ◌+◌, List, [], ◌∷◌, ◌++◌, get_or, set, sym, refl, ap, ◌∙◌, subst, get_or-set_other}
 use Rattle.cb_world.specs.declared.object.Object.{Object}
 use Rattle.cb_world.specs.declared.object.Object.TheVariants as is
-use Rattle.cb_world.specs.declared.event.Event.{Event}
-use Rattle.cb_world.specs.declared.event.Event.TheVariants.{Looked, Claimed, Told, Loaded, Stored, Stamped, Settled}
+use Rattle.cb_world.specs.declared.access.Access.{Access}
+use Rattle.cb_world.specs.declared.access.Access.TheVariants.{Looked, Claimed, Told, Loaded, Stored, Stamped, Settled}
 use Rattle.cb_world.specs.declared.shown.Shown.{Shown}
 use Rattle.cb_world.specs.Played.{played, after}
 use Rattle.cb_world.specs.Shown.{Covers, Spares, IsHeld, object_at, never}
@@ -37,7 +37,7 @@ may_held s h w may = go (state_of w) (object_at s h) refl may
     go word.Here (is.Here len place) e m = absurd (subst (MayBring s h w) e m.3)
     go word.Moving (is.Here len place) e m = absurd m
 
-pub untouched : (es : List Event) (x y : Words) (s : Shown) (k len place : ℕ) → Plain x es y
+pub untouched : (es : List Access) (x y : Words) (s : Shown) (k len place : ℕ) → Plain x es y
     → Allowed s es → LeavesUnclaimed k es → object_at s k ≡ is.Here len place
     → IsWordUntouched k len place x y
 untouched [] x y s k len place run ok l here =
@@ -103,7 +103,7 @@ untouched (Settled h w ∷ es) x y s k len place run ok l here =
           z.memory;
     }
 
-pub allowed_append : (es fs : List Event) (s : Shown) → Allowed s es → Allowed (played es s) fs
+pub allowed_append : (es fs : List Access) (s : Shown) → Allowed s es → Allowed (played es s) fs
     → Allowed s (es ++ fs)
 allowed_append [] fs s a b = b
 allowed_append (e ∷ es) fs s a b = (a.0, allowed_append es fs (after e s) a.1 b)

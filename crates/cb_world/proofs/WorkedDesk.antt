@@ -1,7 +1,7 @@
 -- Worked examples of what is known at a desk: what meets each definition, and what breaks one part.
 use Rattle.std.proofs.Common.{◌≡◌, ◌≤◌, ℕ, zero, suc, true, false, [], ◌∷◌, refl, inl, inr, lit<, lit≤, arith}
 use Rattle.cb_world.specs.declared.object.Object.TheVariants as is
-use Rattle.cb_world.specs.declared.event.Event.TheVariants.{Looked, Claimed, Told, Loaded, Stored, Stamped, Settled}
+use Rattle.cb_world.specs.declared.access.Access.TheVariants.{Looked, Claimed, Told, Loaded, Stored, Stamped, Settled}
 use Rattle.cb_world.specs.declared.shown.Shown.{Shown}
 use Rattle.cb_world.specs.Memory.{window, put, words_for, memory_byte, bytes_in, IsPacked}
 use Rattle.cb_world.specs.LocalMemory.{padded}

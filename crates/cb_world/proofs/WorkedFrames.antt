@@ -1,8 +1,8 @@
 -- Worked examples of the words of a frame and of a run of frames, read or stored one after another.
 use Rattle.std.proofs.Common.{◌≡◌, ℕ, suc, ◌+◌, ◌*◌, ◌^◌, ◌<◌, List, [], ◌∷◌, All, length, replicate, refl, sym, ap, subst, lit<, lit≤, arith}
 use Rattle.std.proofs.lemmas.List.{get_or-replicate, length-replicate}
-use Rattle.cb_world.specs.declared.event.Event.{Event}
-use Rattle.cb_world.specs.declared.event.Event.TheVariants.{Loaded, Stored}
+use Rattle.cb_world.specs.declared.access.Access.{Access}
+use Rattle.cb_world.specs.declared.access.Access.TheVariants.{Loaded, Stored}
 use Rattle.cb_world.specs.declared.object.Object.{Object}
 use Rattle.cb_world.specs.declared.object.Object.TheVariants as is
 use Rattle.cb_world.specs.declared.shown.Shown.{Shown}
@@ -48,7 +48,7 @@ no_word_read x = by x.words x.count x.ran
     by (w ∷ ws) count ran = cc
 
 -- the row of other words
-other_row : (runs : List Event → Type 0) → ReadsFrame runs 1 [] → ⊥
+other_row : (runs : List Access → Type 0) → ReadsFrame runs 1 [] → ⊥
 other_row runs x = by x.words x.count x.made
   where
     by : (ws : List ℕ) → length ws ≡ 512 → [] ≡ row_of ws → ⊥
@@ -56,7 +56,7 @@ other_row runs x = by x.words x.count x.made
     by (w ∷ ws) count made = cc
 
 -- a word that has too many bits
-abbrev BeginsWide : List Event → Type 0
+abbrev BeginsWide : List Access → Type 0
 BeginsWide (Loaded p w ∷ es) = w ≡ 2 ^ 64
 BeginsWide _ = ⊥
 

@@ -10,7 +10,7 @@ use Rattle.cb_ptr.specs.Word.{state_of, hot_of, pins_of}
 use Rattle.cb_types.specs.declared.config.Config.{Config}
 use Rattle.cb_types.specs.declared.order.Kept.{Kept}
 use Rattle.cb_types.specs.declared.order.Kept.TheVariants as kept
-use Rattle.cb_world.specs.declared.seats.Pin.{Pin}
+use Rattle.cb_world.specs.declared.seats.SeatPin.{SeatPin}
 use Rattle.cb_set.specs.SetState.{SetState}
 use Rattle.cb_world.specs.Codes.{HaveCodes, IsCodeOf}
 use Rattle.cb_member.specs.Membership.{fresh_members}
@@ -25,20 +25,20 @@ use Rattle.cb_world.specs.Sets.{set_in}
 use Rattle.cb_world.specs.World.{ArePinned, AreCounted, IsConfigured, word_at}
 use Rattle.cb_world.proofs.WorkedWorld.{far}
 
-abbrev pin_on : ℕ → ℕ → Pin
+abbrev pin_on : ℕ → ℕ → SeatPin
 pin_on h version = record { handle = h; version = version }
 
-abbrev seat_with : List Pin → SeatState
+abbrev seat_with : List SeatPin → SeatState
 seat_with pins = record { pins = pins; claims = []; holds = false; order = None }
 
 -- ---- the pins of a seat
-abbrev three : List Pin
+abbrev three : List SeatPin
 three = pin_on 0 3 ∷ pin_on 1 5 ∷ pin_on 0 3 ∷ []
 
 last_is_newest : IsNewestOf three 0 2
 last_is_newest = record { pin = pin_on 0 3; there = refl; on = refl; newest = behind }
   where
-    behind : (later : ℕ) (other : Pin) → 2 < later → slice_get three later ≡ Some other
+    behind : (later : ℕ) (other : SeatPin) → 2 < later → slice_get three later ≡ Some other
         → other.handle ≡ 0 → ⊥
     behind later other less at on =
         let n = slice_get_within three later other at in omega (arith, less, n)
@@ -50,7 +50,7 @@ another_is_not : IsNewestOf three 0 1 → ⊥
 another_is_not n = let e : 1 ≡ n.pin.handle = ap handle_of n.there in
     let on = n.on in omega (arith, e, on)
   where
-    handle_of : Option Pin → ℕ
+    handle_of : Option SeatPin → ℕ
     handle_of (Some pin) = pin.handle
     handle_of None = 0
 
@@ -157,15 +157,15 @@ all_less p = let e : 16390 ≡ p.word = ap (λ (x : Words). get_or x.words 0 0) 
     let n : p.word + 8 ≡ 16406 = p.gives.number in omega (arith, e, n)
 
 -- one seat of 64 has these pins
-abbrev seats : List Pin → List SeatState
+abbrev seats : List SeatPin → List SeatState
 seats pins = seat_with pins ∷ replicate 63 idle_seat
 
-of_seats : (P : SeatState → Type 0) (pins : List Pin) → P (seat_with pins) → P idle_seat
+of_seats : (P : SeatState → Type 0) (pins : List SeatPin) → P (seat_with pins) → P idle_seat
     → All P (seats pins)
 of_seats P pins first idle =
     All-cons P (seat_with pins) (replicate 63 idle_seat) first (All-replicate P 63 idle_seat idle)
 
-none_of : (P : Pin → Type 0) → All P []
+none_of : (P : SeatPin → Type 0) → All P []
 none_of P = λ k d below. absurd (omega (arith, below))
 
 are_pinned : ArePinned (desk pinned) (seats (pin_on 0 3 ∷ []))
@@ -174,16 +174,16 @@ are_pinned = record {
   few = of_seats (λ (seat : SeatState). length seat.pins ≤ 16) one
       (lit≤ tt) (lit≤ tt);
   counted = counted;
-  known = of_seats (λ (seat : SeatState). All (λ (pin : Pin). pin.handle < 2) seat.pins) one
-      (All-cons (λ (pin : Pin). pin.handle < 2) (pin_on 0 3) [] (lit< tt) (none_of _)) (none_of _);
+  known = of_seats (λ (seat : SeatState). All (λ (pin : SeatPin). pin.handle < 2) seat.pins) one
+      (All-cons (λ (pin : SeatPin). pin.handle < 2) (pin_on 0 3) [] (lit< tt) (none_of _)) (none_of _);
   here = here;
   versions = of_seats (λ (seat : SeatState).
-      All (λ (pin : Pin). pin.version ≡ get_or (3 ∷ 0 ∷ []) pin.handle 0) seat.pins) one
-      (All-cons (λ (pin : Pin). pin.version ≡ get_or (3 ∷ 0 ∷ []) pin.handle 0) (pin_on 0 3) [] refl
+      All (λ (pin : SeatPin). pin.version ≡ get_or (3 ∷ 0 ∷ []) pin.handle 0) seat.pins) one
+      (All-cons (λ (pin : SeatPin). pin.version ≡ get_or (3 ∷ 0 ∷ []) pin.handle 0) (pin_on 0 3) [] refl
       (none_of _)) (none_of _);
 }
   where
-    one : List Pin
+    one : List SeatPin
     one = pin_on 0 3 ∷ []
 
     counted : (h : ℕ) → h < 2 → pins_of (word_at (desk pinned) h) ≡ all_pins_on h (seats (pin_on 0 3 ∷ []))

@@ -12,7 +12,7 @@ use Rattle.cb_ptr.specs.declared.word.State.TheVariants as word
 use Rattle.cb_ptr.specs.Word.{state_of, hot_of, pins_of}
 use Rattle.cb_world.proofs.OpenKept.{none_open}
 use Rattle.cb_world.specs.Codes.{IsCodeOf}
-use Rattle.cb_world.specs.declared.seats.Pin.{Pin}
+use Rattle.cb_world.specs.declared.seats.SeatPin.{SeatPin}
 use Rattle.cb_world.specs.Empty.{empty_words, empty_shown, empty_far}
 use Rattle.cb_world.specs.Packed.{IsFreedLater, IsPackedAs}
 use Rattle.cb_world.specs.Orders.{KeepsOrder}
@@ -43,7 +43,7 @@ none_on h = sum_by-replicate (λ (seat : SeatState). pins_among h seat.pins) 64 
 no_pins : (c : Config) (h : ℕ) → pins_of (word_at (empty_words c) h) ≡ 0
 no_pins c h = ap pins_of (reads_one c.handles h 0)
 
-none_of : (P : Pin → Type 0) → All P []
+none_of : (P : SeatPin → Type 0) → All P []
 none_of P = λ k d lt. absurd (omega (arith, lt))
 
 idle : (P : SeatState → Type 0) → P idle_seat → All P (replicate 64 idle_seat)
@@ -55,10 +55,10 @@ pinned c = record {
   few = idle (λ (seat : SeatState). length seat.pins ≤ 16) (omega arith);
   counted = λ h below. no_pins c h ∙ sym (none_on h);
   known = idle (λ (seat : SeatState).
-      All (λ (pin : Pin). pin.handle < length (empty_words c).words) seat.pins) (none_of _);
+      All (λ (pin : SeatPin). pin.handle < length (empty_words c).words) seat.pins) (none_of _);
   here = λ h below some. absurd (let n = no_pins c h in omega (arith, n, some));
   versions = idle (λ (seat : SeatState).
-      All (λ (pin : Pin). pin.version ≡ get_or (empty_words c).versions pin.handle 0) seat.pins)
+      All (λ (pin : SeatPin). pin.version ≡ get_or (empty_words c).versions pin.handle 0) seat.pins)
       (none_of _);
 }
 

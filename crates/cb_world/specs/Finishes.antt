@@ -1,6 +1,6 @@
 -- How the part of an operation is told that begins with a claimed object.
 use Rattle.std.specs.Prelude.{◌≡◌, ℕ, List}
-use Rattle.cb_world.specs.declared.event.Event.{Event}
+use Rattle.cb_world.specs.declared.access.Access.{Access}
 use Rattle.cb_world.specs.declared.shown.Shown.{Shown}
 use Rattle.cb_world.specs.Played.{played}
 use Rattle.cb_ptr.specs.Word.{len_of, place_of}
@@ -11,9 +11,9 @@ use Rattle.cb_world.specs.Allowed.{Allowed}
 -- Its events, which the desk ran: each is at a word of the object, whose word was claimed; none
 -- looks at it or claims it, and it is settled last. And for all that is known of the claimed
 -- object, its version and its words: the events are allowed, and end so.
-pub record Finishes (runs : List Event → Type 0) (knows : Shown → ℕ → List ℕ → Type 0) (h word : ℕ)
-    (ends : List Event → Shown → ℕ → List ℕ → Shown → Type 0) : Type 0 where
-  pub events : List Event
+pub record Finishes (runs : List Access → Type 0) (knows : Shown → ℕ → List ℕ → Type 0) (h word : ℕ)
+    (ends : List Access → Shown → ℕ → List ℕ → Shown → Type 0) : Type 0 where
+  pub events : List Access
   pub ran : runs events
   pub no_look : NoLook h events
   pub looks_first : LooksFirst events

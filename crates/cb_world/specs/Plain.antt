@@ -4,8 +4,8 @@ use Rattle.cb_types.specs.declared.config.Config.{Config}
 use Rattle.cb_ptr.specs.declared.word.State.{State}
 use Rattle.cb_ptr.specs.declared.word.State.TheVariants as word
 use Rattle.cb_ptr.specs.Word.{state_of, hot_of, len_of, place_of, pins_of}
-use Rattle.cb_world.specs.declared.event.Event.{Event}
-use Rattle.cb_world.specs.declared.event.Event.TheVariants.{Looked, Claimed, Told, Loaded, Stored, Stamped, Settled}
+use Rattle.cb_world.specs.declared.access.Access.{Access}
+use Rattle.cb_world.specs.declared.access.Access.TheVariants.{Looked, Claimed, Told, Loaded, Stored, Stamped, Settled}
 use Rattle.cb_world.specs.declared.shown.Shown.{Shown}
 use Rattle.cb_world.specs.Memory.{window, words_for}
 use Rattle.cb_world.specs.Shown.{Fits, object_at, hot_at}
@@ -53,7 +53,7 @@ pub record IsClaim (x : Words) (h w v : ℕ) (words : List ℕ) : Type 0 where
   pub contents : words ≡ window x.memory (place_of w) (words_for (len_of w))
 
 -- the events lead from the first words to the last
-abbrev pub Plain : Words → List Event → Words → Type 0
+abbrev pub Plain : Words → List Access → Words → Type 0
 Plain x [] y = y ≡ x
 Plain x (Looked h w ∷ es) y =
     ((slice_index x.words h ≡ w) × (h < length x.words)) × Plain x es y

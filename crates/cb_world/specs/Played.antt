@@ -3,8 +3,8 @@ use Rattle.std.specs.Prelude.{◌≡◌, ℕ, true, ◌^◌, ◌<◌, ◌≤◌,
 use Rattle.cb_ptr.specs.declared.word.State.{State}
 use Rattle.cb_ptr.specs.declared.word.State.TheVariants as word
 use Rattle.cb_ptr.specs.Word.{state_of, hot_of, len_of, place_of}
-use Rattle.cb_world.specs.declared.event.Event.{Event}
-use Rattle.cb_world.specs.declared.event.Event.TheVariants.{Looked, Claimed, Told, Loaded, Stored, Stamped, Settled}
+use Rattle.cb_world.specs.declared.access.Access.{Access}
+use Rattle.cb_world.specs.declared.access.Access.TheVariants.{Looked, Claimed, Told, Loaded, Stored, Stamped, Settled}
 use Rattle.cb_world.specs.declared.object.Object.{Object}
 use Rattle.cb_world.specs.declared.object.Object.TheVariants as is
 use Rattle.cb_world.specs.declared.shown.Shown.{Shown}
@@ -22,7 +22,7 @@ settled_by word.Here w version o = is.Here (len_of w) (place_of w)
 settled_by word.Moving w version o = o
 
 -- what is known after an event
-abbrev pub after : Event → Shown → Shown
+abbrev pub after : Access → Shown → Shown
 after (Looked h w) s = record s { hots = slice_set s.hots h (hot_of w) }
 after (Claimed h w v words) s = record s {
   objects = slice_set s.objects h (is.Claimed (len_of w) (place_of w) v words);
@@ -39,7 +39,7 @@ after (Settled h w) s = record s {
 after _ s = s
 
 -- what is known after events, the first one first
-abbrev pub played : List Event → Shown → Shown
+abbrev pub played : List Access → Shown → Shown
 played [] s = s
 played (e ∷ es) s = played es (after e s)
 
@@ -48,7 +48,7 @@ abbrev pub StaysHot : Shown → ℕ → ℕ → Type 0
 StaysHot s h w = hot_at s h ≡ true → hot_of w ≡ true
 
 -- what an event tells agrees with what is known
-abbrev pub Agrees : Shown → Event → Type 0
+abbrev pub Agrees : Shown → Access → Type 0
 Agrees s (Looked h w) = Fits (object_at s h) w × StaysHot s h w
 Agrees s (Claimed h w v words) = (object_at s h ≡ is.Here (len_of w) (place_of w))
     × StaysHot s h w × (w < 2 ^ 53) × (length words ≡ words_for (len_of w))
@@ -58,6 +58,6 @@ Agrees s (Loaded p x) = Owns s p → x ≡ slice_index s.memory p
 Agrees s _ = Unit {0}
 
 -- each event agrees with what is known after those before it
-abbrev pub Agree : Shown → List Event → Type 0
+abbrev pub Agree : Shown → List Access → Type 0
 Agree s [] = Unit {0}
 Agree s (e ∷ es) = Agrees s e × Agree (after e s) es

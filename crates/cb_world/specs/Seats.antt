@@ -2,7 +2,7 @@
 use Rattle.std.specs.Prelude.{◌≡◌, ◌≢◌, ℕ, ◌<◌, Bool, false, true, nat_eq, List, [], Option, None, Some, slice_get, slice_index_or, slice_set, if◌then◌else◌}
 use Rattle.std.specs.List.{sum_by}
 use Rattle.cb_types.specs.declared.order.Kept.{Kept}
-use Rattle.cb_world.specs.declared.seats.Pin.{Pin}
+use Rattle.cb_world.specs.declared.seats.SeatPin.{SeatPin}
 
 -- a write of a seat that is open: its object's handle and length; the version and the words that
 -- the object had when it was claimed; the bytes that are written, from the byte number `at` on; and
@@ -19,7 +19,7 @@ pub record OpenWriteState : Type 0 where
 -- what a seat has: its pins, the newest one last, its open writes, whether it holds the far lock,
 -- and the order that it keeps
 pub record SeatState : Type 0 where
-  pub pins : List Pin
+  pub pins : List SeatPin
   pub claims : List OpenWriteState
   pub holds : Bool
   pub order : Option Kept
@@ -32,7 +32,7 @@ abbrev pub seat_at : List SeatState → ℕ → SeatState
 seat_at seats seat = slice_index_or seats seat idle_seat
 
 -- the pins of a seat
-abbrev pub pins_of_seat : List SeatState → ℕ → List Pin
+abbrev pub pins_of_seat : List SeatState → ℕ → List SeatPin
 pins_of_seat seats seat = (seat_at seats seat).pins
 
 -- the open writes of a seat
@@ -69,23 +69,23 @@ abbrev pub IsClaimAt : List SeatState → ℕ → ℕ → OpenWriteState → Typ
 IsClaimAt seats seat at c = slice_get (claims_of_seat seats seat) at ≡ Some c
 
 -- the seats, where one has these pins
-abbrev pub with_pins : List SeatState → ℕ → List Pin → List SeatState
+abbrev pub with_pins : List SeatState → ℕ → List SeatPin → List SeatState
 with_pins seats seat pins = slice_set seats seat (record (seat_at seats seat) { pins = pins })
 
 -- the pin at this place is the newest one on the object
-pub record IsNewestOf (pins : List Pin) (h at : ℕ) : Type 0 where
-  pub pin : Pin
+pub record IsNewestOf (pins : List SeatPin) (h at : ℕ) : Type 0 where
+  pub pin : SeatPin
   pub there : slice_get pins at ≡ Some pin
   pub on : pin.handle ≡ h
-  pub newest : (later : ℕ) (other : Pin) → at < later → slice_get pins later ≡ Some other
+  pub newest : (later : ℕ) (other : SeatPin) → at < later → slice_get pins later ≡ Some other
       → other.handle ≢ h
 
 -- no pin is on the object
-abbrev pub NoneOn : List Pin → ℕ → Type 0
-NoneOn pins h = (at : ℕ) (pin : Pin) → slice_get pins at ≡ Some pin → pin.handle ≢ h
+abbrev pub NoneOn : List SeatPin → ℕ → Type 0
+NoneOn pins h = (at : ℕ) (pin : SeatPin) → slice_get pins at ≡ Some pin → pin.handle ≢ h
 
 -- how many of these pins are on the object
-abbrev pub pins_among : ℕ → List Pin → ℕ
+abbrev pub pins_among : ℕ → List SeatPin → ℕ
 pins_among h pins = sum_by (λ pin. if nat_eq pin.handle h then 1 else 0) pins
 
 -- how many pins all seats have on the object

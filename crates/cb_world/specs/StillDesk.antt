@@ -9,8 +9,8 @@ use Rattle.cb_ptr.specs.Steps.{Claims}
 use Rattle.cb_ptr.proofs.Laws.{claims, state_number-state_of}
 use Rattle.cb_world.specs.declared.object.Object.{Object}
 use Rattle.cb_world.specs.declared.object.Object.TheVariants as is
-use Rattle.cb_world.specs.declared.event.Event.{Event}
-use Rattle.cb_world.specs.declared.event.Event.TheVariants.{Looked, Claimed, Told, Loaded, Stored, Stamped, Settled}
+use Rattle.cb_world.specs.declared.access.Access.{Access}
+use Rattle.cb_world.specs.declared.access.Access.TheVariants.{Looked, Claimed, Told, Loaded, Stored, Stamped, Settled}
 use Rattle.cb_world.specs.Memory.{window, put, words_for}
 use Rattle.cb_world.specs.declared.shown.Shown.{Shown}
 use Rattle.cb_world.specs.Shown.{Fits, object_at, version_at, never}
@@ -30,7 +30,7 @@ put_window ms p (suc n) =
     ap (λ (l : List ℕ). put l (p + 1) (window ms (p + 1) n)) (set-get_or ms p 0)
     ∙ put_window ms (p + 1) n
 
-pub plain_more : (x y z : Words) (es fs : List Event) → Plain x es y → Plain y fs z
+pub plain_more : (x y z : Words) (es fs : List Access) → Plain x es y → Plain y fs z
     → Plain x (es ++ fs) z
 plain_more x y z [] fs a b = subst (λ (l : Words). Plain l fs z) a b
 plain_more x y z (Looked h w ∷ es) fs a b = (a.0, plain_more x y z es fs a.1 b)
@@ -45,7 +45,7 @@ plain_more x y z (Stamped h v ∷ es) fs a b =
 plain_more x y z (Settled h w ∷ es) fs a b =
     (a.0, plain_more (record x { words = set x.words h w }) y z es fs a.1 b)
 
-pub plain_stays : (x y : Words) (es : List Event) → Plain x es y → y.settings ≡ x.settings
+pub plain_stays : (x y : Words) (es : List Access) → Plain x es y → y.settings ≡ x.settings
 plain_stays x y [] a = ap (λ (l : Words). l.settings) a
 plain_stays x y (Looked h w ∷ es) a = plain_stays x y es a.1
 plain_stays x y (Claimed h w v xs ∷ es) a =
@@ -166,7 +166,7 @@ below_here (is.Far len v words) w fit here =
 below_here (is.Here len place) w fit here = fit.0
 below_here (is.Claimed len place v words) w fit here = fit.0
 
-pub plain_follows : (es : List Event) (x y : Words) (s : Shown) → Plain x es y → Shows x s
+pub plain_follows : (es : List Access) (x y : Words) (s : Shown) → Plain x es y → Shows x s
     → Agree s es × Shows y (played es s)
 plain_follows [] x y s a r = (tt, subst (λ (l : Words). Shows l s) (sym a) r)
 plain_follows (Looked h w ∷ es) x y s a r = let next =

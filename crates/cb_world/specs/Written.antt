@@ -4,8 +4,8 @@ use Rattle.cb_ptr.specs.declared.word.State.{State}
 use Rattle.cb_ptr.specs.declared.word.State.TheVariants as word
 use Rattle.cb_ptr.specs.Word.{state_of, len_of}
 use Rattle.cb_world.specs.declared.entry.Entry.{Entry}
-use Rattle.cb_world.specs.declared.event.Event.{Event}
-use Rattle.cb_world.specs.declared.event.Event.TheVariants.{Settled}
+use Rattle.cb_world.specs.declared.access.Access.{Access}
+use Rattle.cb_world.specs.declared.access.Access.TheVariants.{Settled}
 use Rattle.cb_world.specs.declared.object.Object.{Object}
 use Rattle.cb_world.specs.declared.object.Object.TheVariants as is
 use Rattle.cb_world.specs.declared.shown.Shown.{Shown}
@@ -52,15 +52,15 @@ adds_as word.Here s h w (is.Claimed len place v words) =
 adds_as state s h w o = []
 
 -- what an event writes: to settle an object writes its version, where that is a new one
-abbrev pub adds : Event → Shown → List Entry
+abbrev pub adds : Access → Shown → List Entry
 adds (Settled h w) s = adds_as (state_of w) s h w (object_at s h)
 adds _ s = []
 
 -- the entries with those that the events write, the newest first
-abbrev pub written_by : List Event → Shown → List Entry → List Entry
+abbrev pub written_by : List Access → Shown → List Entry → List Entry
 written_by [] s old = old
 written_by (e ∷ es) s old = written_by es (after e s) (adds e s ++ old)
 
 -- the events write these entries and no others
-abbrev pub Writes : List Event → Shown → List Entry → Type 0
+abbrev pub Writes : List Access → Shown → List Entry → Type 0
 Writes es s more = (old : List Entry) → written_by es s old ≡ more ++ old

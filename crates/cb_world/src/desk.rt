@@ -2,8 +2,8 @@ ghost use Rattle.std.specs.Prelude.{◌≡◌, ◌≢◌, ℕ, ◌+◌, ◌*◌,
 ghost use Rattle.cb_types.specs.declared.config.Config.{Config};
 ghost use Rattle.cb_ptr.specs.declared.word.State.TheVariants as word;
 ghost use Rattle.cb_ptr.specs.Word.{state_of, pins_of};
-ghost use Rattle.cb_world.specs.declared.event.Event.{Event};
-ghost use Rattle.cb_world.specs.declared.event.Event.TheVariants.{Looked, Claimed, Told, Loaded, Stored, Stamped, Settled};
+ghost use Rattle.cb_world.specs.declared.access.Access.{Access};
+ghost use Rattle.cb_world.specs.declared.access.Access.TheVariants.{Looked, Claimed, Told, Loaded, Stored, Stamped, Settled};
 ghost use Rattle.cb_world.specs.declared.desk.Claim.TheVariants as answer;
 ghost use Rattle.cb_world.specs.declared.shown.Shown.{Shown};
 ghost use Rattle.cb_world.specs.Shown.{Owns, IsHeld, object_at};
@@ -37,7 +37,7 @@ pub trait Desk {
     ghost shows: { Self → Shown → Type 0 };
 
     // These events lead from one desk to the other.
-    ghost run: { Self → List Event → Self → Type 0 };
+    ghost run: { Self → List Access → Self → Type 0 };
 
     /// The configuration.
     fn config(&self) -> Config
@@ -106,14 +106,14 @@ pub trait Desk {
     ghost none: { (d : Self) → run d [] d };
 
     // Events and then more events lead on.
-    ghost more: { (d e f : Self) (es fs : List Event) → run d es e → run e fs f → run d (es ++ fs) f };
+    ghost more: { (d e f : Self) (es fs : List Access) → run d es e → run e fs f → run d (es ++ fs) f };
 
     // The configuration stays.
-    ghost stays: { (d e : Self) (es : List Event) → run d es e → settings e ≡ settings d };
+    ghost stays: { (d e : Self) (es : List Access) → run d es e → settings e ≡ settings d };
 
     // What events tell agrees with what was known, and what is known afterwards is what they make
     // of it.
-    ghost follows: { (d e : Self) (es : List Event) (s : Shown) → run d es e → shows d s
+    ghost follows: { (d e : Self) (es : List Access) (s : Shown) → run d es e → shows d s
         → Agree s es × shows e (played es s) };
 
     // What is known has as many objects and words as the configuration says; a frame has 512 words.

@@ -1,5 +1,5 @@
 ghost use Rattle.std.specs.Prelude.{◌≡◌, ◌<◌, List, true, false};
-ghost use Rattle.cb_world.specs.declared.event.Event.{Event};
+ghost use Rattle.cb_world.specs.declared.access.Access.{Access};
 ghost use Rattle.cb_world.specs.declared.shown.Shown.{Shown};
 ghost use Rattle.cb_world.specs.Grasped.{Grasps, IsFree};
 
@@ -31,7 +31,7 @@ pub fn is_free(word: u64) -> bool
 pub fn try_claim<D: Desk>(desk: &mut D, h: Handle) -> Grasp
     requires handle { h.n < (D.settings desk.old).handles }
     requires shown { (s : Shown) × D.shows desk.old s }
-    ensures { (es : List Event) × D.run desk.old es desk.new × Grasps h.n es result }
+    ensures { (es : List Access) × D.run desk.old es desk.new × Grasps h.n es result }
 {
     let saw = desk.word(h);
     if !is_free(saw) {

@@ -84,7 +84,7 @@ fn drop_if_dead(far: &mut Far, id: u64)
 }
 
 /// Drops the rows of these shards.
-fn drop_rows(nodes: &mut Nodes, shards: &[Shard])
+pub fn drop_rows(nodes: &mut Nodes, shards: &[Shard])
     requires there { AreThere nodes.old shards.now }
     ensures dropped { nodes.new ≡ all_dropped nodes.old shards.now }
 {

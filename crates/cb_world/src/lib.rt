@@ -1,11 +1,11 @@
 //! The world: the words of local memory at a desk, and the far state beside them.
 #![tactic(auto)]
 
+pub mod access;
 pub mod choosing;
 pub mod counts;
 pub mod desk;
 pub mod entry;
-pub mod event;
 pub mod far;
 pub mod fetching;
 pub mod grasp;
@@ -32,11 +32,11 @@ pub mod spans;
 pub mod survey;
 pub mod world;
 
+pub use access::Access;
 pub use choosing::{least_node, nodes_with_room};
 pub use counts::Counts;
 pub use desk::{Claim, Desk};
 pub use entry::Entry;
-pub use event::Event;
 pub use far::Far;
 pub use fetching::{GivenRows, fetched, solved};
 pub use grasp::{Grasp, is_free, try_claim};
@@ -45,15 +45,16 @@ pub use homes::{Home, Homes};
 pub use joining::Joining;
 pub use kept_set::KeptSet;
 pub use leaving::{Former, Leaving, Parities};
-pub use leftover::{kill_position, remove_far};
+pub use leftover::{drop_rows, kill_position, remove_far};
+pub use local_memory::FRAME_WORDS;
 pub use object::Object;
 pub use placing::{leaving_frames, place_object};
 pub use plain_desk::PlainDesk;
-pub use putting::{next_shard, put_row};
+pub use putting::{next_number, next_shard, put_row};
 pub use rehoming::put_homes;
 pub use releasing::release;
 pub use run_words::{load_run, store_run};
-pub use seats::{MOST_PINS, OpenWrite, Pin, SEATS, Seat, Seats};
+pub use seats::{MOST_PINS, OpenWrite, SEATS, Seat, SeatPin, Seats};
 pub use sets::Sets;
 pub use shown::Shown;
 pub use spans::Spans;

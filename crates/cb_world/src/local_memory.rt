@@ -9,7 +9,7 @@ use std::alloc::Global;
 use std::marker::Model;
 
 /// How many words of memory a frame has.
-const FRAME_WORDS: usize = 512;
+pub const FRAME_WORDS: usize = 512;
 
 /// The words of local memory. A frame's words are touched when one of them is stored, so that a
 /// large memory of which little is used costs its addresses alone.

@@ -7,14 +7,11 @@ ghost use Rattle.cb_world.specs.OpenSteps.{IsClaimed, IsSettled};
 ghost use Rattle.cb_world.specs.Pinned.{IsPinned, IsUnpinned};
 
 use crate::desk::{Claim, Desk};
-use crate::local_memory::LocalMemory;
+use crate::local_memory::{FRAME_WORDS, LocalMemory};
 use cb_ptr::{claimed, pinned, settled, unpack, unpinned};
 use cb_types::{Config, Handle, NoMemory};
 use std::alloc::Global;
 use std::marker::Model;
-
-/// How many words of memory a frame has.
-const FRAME_WORDS: usize = 512;
 
 /// The still desk: pointer words, version words and memory words that no one else changes.
 #[derive(Drop)]

@@ -6,6 +6,13 @@ use crate::far::Far;
 use cb_member::{NoMemory, NodeId, Shard};
 use cb_node::{Nodes, PutAnswer};
 
+/// The number of the next set.
+pub fn next_number(far: &Far) -> u64
+    ensures { result ≡ far.now.counts.sets }
+{
+    far.counts.sets
+}
+
 /// The shard for the next row on the node: of its incarnation, under the next key.
 pub fn next_shard(far: &Far, node: NodeId) -> Shard
     requires { node.n < length far.now.members.nodes }

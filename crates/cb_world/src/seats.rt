@@ -1,6 +1,6 @@
 ghost use Rattle.std.specs.Prelude.{◌≡◌, ◌<◌, ◌≤◌, ◌+◌, ◌^◌, true, false, List, [], ◌++◌, ◌∷◌, length, replicate, Option, Some, None, IfSome, IfNone, IfOk, OnOk, OnErr, slice_get, slice_set};
 ghost use Rattle.std.specs.List.{remove};
-ghost use Rattle.cb_world.specs.declared.seats.Pin.{Pin};
+ghost use Rattle.cb_world.specs.declared.seats.SeatPin.{SeatPin};
 ghost use Rattle.cb_world.specs.OpenWrites.{stores_left, touched};
 ghost use Rattle.cb_world.specs.OpenSteps.{IsClaimOn, NoClaimOn, NoneHolds, stored_once};
 ghost use Rattle.cb_world.specs.Seats.{SeatState, OpenWriteState, Holds, IsNewestOf, NoneOn, claims_of_seat, idle_seat, pins_of_seat, seat_at, order_of, with_claims, with_holds, with_order, with_pins};
@@ -19,7 +19,7 @@ pub const MOST_PINS: usize = 16;
 
 /// A pin: the object stays where it is, at this version, until the pin is given back.
 #[derive(Clone, Copy, Default)]
-pub struct Pin {
+pub struct SeatPin {
     pub handle: u32,
     pub version: u64,
 }
@@ -82,7 +82,7 @@ fn touched(at: u32, count: u32) -> u32
 /// and the order that it keeps.
 #[derive(Drop)]
 pub struct Seat {
-    pins: ArrayVec<Pin, MOST_PINS>,
+    pins: ArrayVec<SeatPin, MOST_PINS>,
     claims: Vec<OpenWrite>,
     holds: bool,
     order: Option<Kept>,
@@ -142,7 +142,7 @@ impl Seats {
     }
 
     /// The pins of a seat, the newest one last.
-    pub fn pins(&self, seat: u32) -> &[Pin]
+    pub fn pins(&self, seat: u32) -> &[SeatPin]
         requires { seat < length self.now }
         ensures pins { result.now ≡ pins_of_seat self.now seat }
         ensures few { length result.now ≤ 16 }
@@ -161,7 +161,7 @@ impl Seats {
     }
 
     /// Adds a pin to a seat that has room for one more.
-    pub fn add(&mut self, seat: u32, pin: Pin)
+    pub fn add(&mut self, seat: u32, pin: SeatPin)
         requires seat { seat < length self.old }
         requires room { length (pins_of_seat self.old seat) < 16 }
         ensures added { self.new
@@ -171,7 +171,7 @@ impl Seats {
     }
 
     /// Takes the pin at a place out of a seat.
-    pub fn remove(&mut self, seat: u32, at: u32) -> Pin
+    pub fn remove(&mut self, seat: u32, at: u32) -> SeatPin
         requires seat { seat < length self.old }
         requires at { at < length (pins_of_seat self.old seat) }
         ensures pin { slice_get (pins_of_seat self.old seat) at ≡ Some result }
@@ -338,7 +338,7 @@ fn claim_among(claims: &[OpenWrite], handle: u32) -> Option<usize>
 }
 
 /// The place of the last of these pins on an object, None exactly where none is on it.
-fn newest_among(pins: &[Pin], handle: u32) -> Option<u32>
+fn newest_among(pins: &[SeatPin], handle: u32) -> Option<u32>
     requires { length pins.now ≤ 16 }
     ensures found { IfSome result (λ at. IsNewestOf pins.now handle at) }
     ensures none { IfNone result (NoneOn pins.now handle) }

@@ -27,7 +27,7 @@ use Rattle.cb_types.specs.declared.order.Kept.TheVariants as work
 use Rattle.cb_types.specs.Config.{IsAccepted}
 use Rattle.cb_world.specs.declared.object.Object.{Object}
 use Rattle.cb_world.specs.declared.object.Object.TheVariants as is
-use Rattle.cb_world.specs.declared.seats.Pin.{Pin}
+use Rattle.cb_world.specs.declared.seats.SeatPin.{SeatPin}
 use Rattle.cb_world.specs.declared.shown.Shown.{Shown}
 use Rattle.cb_world.specs.Empty.{empty_far, empty_shown}
 use Rattle.cb_world.specs.FarSound.{IsShardOf, Owner}
@@ -143,7 +143,7 @@ no_pins : (w : ℕ) → pins_of w ≡ 0 → (h : ℕ) → pins_of (get_or (w ∷
 no_pins w none zero = none
 no_pins w none (suc h) = refl
 
-none_of : (P : Pin → Type 0) → All P []
+none_of : (P : SeatPin → Type 0) → All P []
 none_of P = λ k d below. absurd (omega (arith, below))
 
 each_seat : (order : Option Kept) (P : SeatState → Type 0) → P (keeping order) → All P (seats order)
@@ -156,10 +156,10 @@ pinned w v memory order none = record {
   few = each_seat order (λ (seat : SeatState). length seat.pins ≤ 16) (omega arith);
   counted = λ h below. no_pins w none h ∙ sym (none_on order h);
   known = each_seat order (λ (seat : SeatState).
-      All (λ (pin : Pin). pin.handle < length (w ∷ [])) seat.pins) (none_of _);
+      All (λ (pin : SeatPin). pin.handle < length (w ∷ [])) seat.pins) (none_of _);
   here = λ h below some. absurd (let n = no_pins w none h in omega (arith, n, some));
   versions = each_seat order (λ (seat : SeatState).
-      All (λ (pin : Pin). pin.version ≡ get_or (v ∷ []) pin.handle 0) seat.pins) (none_of _);
+      All (λ (pin : SeatPin). pin.version ≡ get_or (v ∷ []) pin.handle 0) seat.pins) (none_of _);
 }
 
 no_claims : (order : Option Kept) (seat n : ℕ)

@@ -1,6 +1,6 @@
 use Rattle.std.proofs.Common.{[], ◌∷◌, refl, sym, ap, ◌∙◌}
 use Rattle.cb_ptr.specs.declared.word.PtrWord.{PtrWord}
-use Rattle.cb_world.specs.declared.event.Event.TheVariants.{Told}
+use Rattle.cb_world.specs.declared.access.Access.TheVariants.{Told}
 use Rattle.cb_mutate.proofs.Laws.{found_far}
 use Rattle.cb_core.proofs.DeclinedLooks.{finds_by, is_empty, is_far, is_here, is_moving, never_made, was_freed}
 use Rattle.cb_core.proofs.declining.find.Goals as goal

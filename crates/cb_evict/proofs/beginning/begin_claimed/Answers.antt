@@ -1,7 +1,7 @@
 use Rattle.std.proofs.Common.{◌≡◌, ℕ, ◌+◌, ◌<◌, ◌≤◌, ◌^◌, Bool, List, length, get_or, All, Some, sym, ap, ◌∙◌, subst, arith}
 use Rattle.cb_span.specs.Contents.{Contents}
 use Rattle.cb_types.specs.declared.config.Config.{Config}
-use Rattle.cb_world.specs.declared.event.Event.{Event}
+use Rattle.cb_world.specs.declared.access.Access.{Access}
 use Rattle.cb_world.specs.declared.leaving.Former.{Former}
 use Rattle.cb_world.specs.declared.shown.Shown.{Shown}
 use Rattle.cb_world.specs.Leaving.{AreRoomy, shown_rows}
@@ -125,7 +125,7 @@ returns-in-Ok-clause-begun g c =
     c.requires.ready.1 c.index.result.now c.span_pages-pages.result c.requires.taken
     c.requires.ready.2.sound.here c.requires.configured.codes.force.range.data_least
     (c.span_pages-pages.ensures.pages ∙ ap (pages_at c.args.far.now.spans) c.index.ensures) in
-    let runs = λ (es : List Event). g.D.Desk.run c.args.desk.now es c.reserve_frames.new.desk in
+    let runs = λ (es : List Access). g.D.Desk.run c.args.desk.now es c.reserve_frames.new.desk in
     let y = subst (λ (n : ℕ). ReservesFrames runs shows far c.reserve_frames.new.far n frames
     made rows p) pages
     (reserves_as runs shows far c.reserve_frames.new.far _ _ frames made rows p

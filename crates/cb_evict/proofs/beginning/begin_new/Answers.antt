@@ -2,7 +2,7 @@ use Rattle.std.proofs.lemmas.Result.{IfOk-from_err}
 use Rattle.std.proofs.Common.{List, sym, subst, refl}
 use Rattle.cb_types.specs.Config.{IsAccepted}
 use Rattle.cb_types.specs.declared.config.Config.{Config}
-use Rattle.cb_world.specs.declared.event.Event.{Event}
+use Rattle.cb_world.specs.declared.access.Access.{Access}
 use Rattle.cb_world.specs.declared.shown.Shown.{Shown}
 use Rattle.cb_world.specs.FarState.{FarState}
 use Rattle.cb_world.specs.Performs.{Performs}
@@ -37,7 +37,7 @@ returns-in_err-taken-clause-unchanged g c = any_err _ _ refl
 
 pub returns-in-Few-clause-begun : goal.returns-in-Few-clause-begun
 returns-in-Few-clause-begun g c =
-    let runs = λ (es : List Event). g.D.Desk.run c.args.desk.now es c.take_spans.new.desk in
+    let runs = λ (es : List Access). g.D.Desk.run c.args.desk.now es c.take_spans.new.desk in
     let shows = λ (s : Shown). g.D.Desk.shows c.args.desk.now s in
     begin_few c.args.far.now c.args.made c.refusal.result
     (Refused c.in-Few.lack c.in-Few.loose c.in-Few.nodes) runs shows c.requires.none c.refusal.ensures

@@ -1,7 +1,7 @@
 use Rattle.std.proofs.Common.{ℕ, ◌<◌, List, [], ◌∷◌, ◌++◌, refl, sym, subst, rules}
 use Rattle.std.proofs.lemmas.List.{append-nil}
-use Rattle.cb_world.specs.declared.event.Event.{Event}
-use Rattle.cb_world.specs.declared.event.Event.TheVariants.{Looked}
+use Rattle.cb_world.specs.declared.access.Access.{Access}
+use Rattle.cb_world.specs.declared.access.Access.TheVariants.{Looked}
 use Rattle.cb_evict.proofs.Claims.{claim_of, claim_one, left_one}
 use Rattle.cb_evict.proofs.Slots.{claim_touches, claim_looks_first, look_touches, looks_first}
 use Rattle.cb_world.proofs.Laws.{found_last}
@@ -12,7 +12,7 @@ returns-in-Claimed-clause-claims g c =
     let h = c.args.n in let w = c.in-Claimed.word in let got = c.in-Claimed.ensures in
     let tried = got.2 in let v = tried.1 in let words = tried.2 in
     let es = claim_of tried.0 h w v words in
-    let ran = subst (λ (l : List Event). g.D.Desk.run c.args.desk.now l c.try_claim.new.desk)
+    let ran = subst (λ (l : List Access). g.D.Desk.run c.args.desk.now l c.try_claim.new.desk)
     tried.3 got.1 in
     record {
       more = record { handle = h; word = w } ∷ [];
@@ -40,7 +40,7 @@ returns-in-Left-clause-claims g c =
     let h = c.args.n in let w = c.in-Left.word in let got = c.in-Left.ensures in
     let tried = got.2 in
     let es = tried.0 ++ Looked h w ∷ [] in
-    let ran = subst (λ (l : List Event). g.D.Desk.run c.args.desk.now l c.try_claim.new.desk)
+    let ran = subst (λ (l : List Access). g.D.Desk.run c.args.desk.now l c.try_claim.new.desk)
     tried.1 got.1 in
     record {
       more = [];

@@ -2,7 +2,7 @@ use Rattle.std.proofs.Common.{◌≡◌, ℕ, ◌<◌, List, [], ◌++◌, lengt
 use Rattle.std.proofs.lemmas.List.{drop_all}
 use Rattle.cb_types.specs.declared.config.Config.{Config}
 use Rattle.cb_world.specs.declared.leaving.Former.{Former}
-use Rattle.cb_world.specs.declared.event.Event.{Event}
+use Rattle.cb_world.specs.declared.access.Access.{Access}
 use Rattle.cb_world.specs.declared.shown.Shown.{Shown}
 use Rattle.cb_world.specs.Played.{played}
 use Rattle.cb_evict.specs.Candidates.{AreUnique}
@@ -12,7 +12,7 @@ use Rattle.cb_evict.proofs.CallParts.{joins}
 use Rattle.cb_evict.proofs.claiming.claim_spans.Goals as goal
 
 pub loop-frame-init : goal.loop-frame-init
-loop-frame-init g c = let runs = λ (fs : List Event). g.D.Desk.run c.args.desk.now fs c.args.desk.now in
+loop-frame-init g c = let runs = λ (fs : List Access). g.D.Desk.run c.args.desk.now fs c.args.desk.now in
     let shows = λ (s : Shown). g.D.Desk.shows c.args.desk.now s in
     let spans = c.args.spans.now in let loose = c.args.loose.now in (
       [],

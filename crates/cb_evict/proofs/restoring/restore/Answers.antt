@@ -2,7 +2,7 @@ use Rattle.std.proofs.Common.{ℕ, ◌<◌, List, [], ◌∷◌, ◌++◌, get_o
 use Rattle.std.proofs.lemmas.List.{take_all}
 use Rattle.cb_types.specs.declared.config.Config.{Config}
 use Rattle.cb_world.specs.declared.leaving.Former.{Former}
-use Rattle.cb_world.specs.declared.event.Event.TheVariants.{Settled}
+use Rattle.cb_world.specs.declared.access.Access.TheVariants.{Settled}
 use Rattle.cb_world.specs.Played.{played}
 use Rattle.cb_world.proofs.Laws.{may_put_back}
 use Rattle.cb_evict.specs.Claiming.{IsOne}

@@ -1,5 +1,5 @@
 use Rattle.std.proofs.Common.{ℕ, List, All, take}
-use Rattle.cb_world.specs.declared.event.Event.{Event}
+use Rattle.cb_world.specs.declared.access.Access.{Access}
 use Rattle.cb_world.specs.declared.shown.Shown.{Shown}
 use Rattle.cb_world.specs.Looks.{NoLook, LooksFirst}
 use Rattle.cb_world.specs.FarState.{FarState}
@@ -11,7 +11,7 @@ use Rattle.cb_evict.proofs.restoring.restore.Given as goal
 
 -- the earlier objects are here again
 abbrev pub invariant-loop-former : goal.invariant-loop-former
-invariant-loop-former g l = (es : List Event) × g.D.Desk.run l.fn.desk es l.desk
+invariant-loop-former g l = (es : List Access) × g.D.Desk.run l.fn.desk es l.desk
     × TouchesOnly (IsOne l.formers) (λ p. ⊥) es × ((k : ℕ) → NoLook k es) × LooksFirst es
     × ((s : Shown) (far : FarState) → g.D.Desk.shows l.fn.desk s → LocalSound s far
     → All (IsClaimedFrom s) l.formers → IsRestoring far es s (take l.former-index l.formers))

@@ -1,7 +1,7 @@
 use Rattle.std.proofs.Common.{◌≡◌, ◌-◌, ℕ, List, length, sym, ap, ◌∙◌, subst, arith}
 use Rattle.cb_gf256.specs.Rows.{row_at}
 use Rattle.cb_node.specs.NodesState.{with_row}
-use Rattle.cb_world.specs.declared.event.Event.{Event}
+use Rattle.cb_world.specs.declared.access.Access.{Access}
 use Rattle.cb_world.specs.declared.shown.Shown.{Shown}
 use Rattle.cb_world.specs.Leaving.{LeavingState, ParitiesState}
 use Rattle.cb_world.specs.contracts.leaving.Leaving.{the_view}
@@ -22,7 +22,7 @@ returns-in_err-put_row-clause-unchanged g c =
 pub returns-clause-ok : goal.returns-clause-ok
 returns-clause-ok g c =
     let rows = c.make_from.new.parities.rows in
-    let runs = λ (es : List Event). g.D.Desk.run c.args.desk.now es c.make_from.new.desk in
+    let runs = λ (es : List Access). g.D.Desk.run c.args.desk.now es c.make_from.new.desk in
     let shows = λ (s : Shown). g.D.Desk.shows c.args.desk.now s in
     let value = ap (λ (l : List ℕ). length l) c.deref.ensures.value in
     let k : c.len-k.result ≡ length c.batch.inside.frames.items =

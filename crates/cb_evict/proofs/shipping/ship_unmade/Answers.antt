@@ -1,6 +1,6 @@
 use Rattle.std.proofs.Common.{◌≡◌, List, Some, refl, sym, ap, ◌∙◌, subst}
 use Rattle.cb_node.specs.NodesState.{NodesState}
-use Rattle.cb_world.specs.declared.event.Event.{Event}
+use Rattle.cb_world.specs.declared.access.Access.{Access}
 use Rattle.cb_world.specs.declared.shown.Shown.{Shown}
 use Rattle.cb_world.specs.FarState.{FarState}
 use Rattle.cb_world.specs.Leaving.{LeavingState}
@@ -24,7 +24,7 @@ pub returns-clause-ok : goal.returns-clause-ok
 returns-clause-ok g c = λ batch there.
     let far = c.args.far.now in let x = c.requires.there in
     let p = c.args.position in let shard = c.args.shard in
-    let runs = λ (es : List Event). g.D.Desk.run c.args.desk.now es c.put_unmade.new.desk in
+    let runs = λ (es : List Access). g.D.Desk.run c.args.desk.now es c.put_unmade.new.desk in
     let shows = λ (s : Shown). g.D.Desk.shows c.args.desk.now s in
     let then_batch = c.put_unmade.new.batch in let nodes = c.put_unmade.new.nodes in
     let is : far.leaving ≡ Some c.in-Some.batch =

@@ -31,8 +31,8 @@ put_row-requires-clause-room c =
     (next_room c.args.nodes.now shards (c.args.rows.now ++ c.args.parities.now) p shard
     c.requires.stores.fits at)
 
-pub drop_rows-requires : goal.drop_rows-requires
-drop_rows-requires c = record {
+pub take_rows_back-requires : goal.take_rows_back-requires
+take_rows_back-requires c = record {
   within = within_first c.args.nodes.now c.put_row.new.nodes c.args.shards.now c.loop-p.p c.requires.stores.can
       (ap (λ (x : NodesState). length x.nodes) (c.in_default.ensures.err ∙ c.loop-p.invariant)
       ∙ put_count c.args.nodes.now (take c.loop-p.p c.args.shards.now) (c.args.rows.now ++ c.args.parities.now));
@@ -42,7 +42,7 @@ pub returns-in_default-clause-err : goal.returns-in_default-clause-err
 returns-in_default-clause-err c =
     let all = length-append c.args.rows.now c.args.parities.now in
     let t = length-take-le c.loop-p.p c.args.shards.now (omega (arith, c.loop-p-test.true)) in
-    c.drop_rows.ensures.dropped c.args.nodes.now (c.args.rows.now ++ c.args.parities.now)
+    c.take_rows_back.ensures.dropped c.args.nodes.now (c.args.rows.now ++ c.args.parities.now)
     (can_first c.args.nodes.now c.args.shards.now c.loop-p.p c.requires.stores.can)
     (omega (arith, all, t, c.requires.stores.count, c.loop-p-test.true))
     (c.in_default.ensures.err ∙ c.loop-p.invariant)

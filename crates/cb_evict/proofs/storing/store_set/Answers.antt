@@ -6,8 +6,8 @@ use Rattle.cb_world.specs.Stored.{all_put}
 use Rattle.cb_evict.proofs.Putting.{within_all}
 use Rattle.cb_evict.proofs.storing.store_set.Goals as goal
 
-pub drop_rows-requires : goal.drop_rows-requires
-drop_rows-requires c = record {
+pub take_rows_back-requires : goal.take_rows_back-requires
+take_rows_back-requires c = record {
   within = within_all c.args.far.now.nodes c.far-2.inside.nodes c.args.shards.now
       (c.args.rows.now ++ c.args.parities.now) c.requires.stores.can
       (ap (λ (q : FarState). q.nodes) (c.far-2.view_is ∙ c.in-Err.ensures.err)

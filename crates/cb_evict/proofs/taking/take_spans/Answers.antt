@@ -2,7 +2,7 @@ use Rattle.std.proofs.lemmas.Result.{IfOk-from_err}
 use Rattle.std.proofs.lemmas.List.{append-nil}
 use Rattle.std.proofs.Common.{◌≢◌, ℕ, List, All, sym, subst}
 use Rattle.std.specs.List.{Contains, AllPairs}
-use Rattle.cb_world.specs.declared.event.Event.{Event}
+use Rattle.cb_world.specs.declared.access.Access.{Access}
 use Rattle.cb_world.specs.declared.shown.Shown.{Shown}
 use Rattle.cb_world.specs.Played.{played}
 use Rattle.cb_evict.specs.Candidates.{candidates}
@@ -36,7 +36,7 @@ returns-in_err-found-clause-error g c = any_err _ _ (nothing_done c.args.far.now
 
 pub returns-in-Few-clause-taken : goal.returns-in-Few-clause-taken
 returns-in-Few-clause-taken g c =
-    let runs = λ (es : List Event). g.D.Desk.run c.args.desk.now es c.find_spans.new.desk in
+    let runs = λ (es : List Access). g.D.Desk.run c.args.desk.now es c.find_spans.new.desk in
     let shows = λ (s : Shown). g.D.Desk.shows c.args.desk.now s in
     subst (FindsSpans runs shows c.args.far.now) c.in-Few.is c.in_ok-found.ensures.found
 
@@ -96,7 +96,7 @@ returns-in-Loose-clause-error g c =
     let found = found_loose _ _ _ _ _ _ _ c.in-Loose.is c.in_ok-found.ensures.found in
     on_err _ _ c.claim_first.result c.claim_first.ensures.error (λ ran.
     looked_fails c.args.far.now c.in-Loose.frames.items found.looks
-    (λ es a. subst (λ (l : List Event). g.D.Desk.run c.args.desk.now l c.claim_first.new.desk)
+    (λ es a. subst (λ (l : List Access). g.D.Desk.run c.args.desk.now l c.claim_first.new.desk)
     (append-nil es) (g.met.D.Desk.more _ _ _ _ _ a ran)))
 
 pub claim_first-requires-clause-counts : goal.claim_first-requires-clause-counts

@@ -1,7 +1,7 @@
 use Rattle.std.proofs.Common.{ℕ, ◌+◌, List, [], ◌∷◌, ◌++◌, refl, sym, ap, ◌∙◌, subst, arith}
 use Rattle.cb_types.specs.declared.config.Field.TheVariants.{Frames}
-use Rattle.cb_world.specs.declared.event.Event.{Event}
-use Rattle.cb_world.specs.declared.event.Event.TheVariants.{Loaded, Stored}
+use Rattle.cb_world.specs.declared.access.Access.{Access}
+use Rattle.cb_world.specs.declared.access.Access.TheVariants.{Loaded, Stored}
 use Rattle.cb_world.specs.declared.shown.Shown.{Shown}
 use Rattle.cb_world.specs.Shown.{Owns}
 use Rattle.cb_world.specs.Played.{played}
@@ -42,7 +42,7 @@ loop-i-preserved g c =
     let from = c.args.from in let to = c.args.to in (
       inv.0 ++ x ∷ [],
       length_then inv.0 x ∙ ap (λ (n : ℕ). n + 1) inv.1,
-      subst (λ (es : List Event). g.D.Desk.run c.args.desk.now es c.store.new.self)
+      subst (λ (es : List Access). g.D.Desk.run c.args.desk.now es c.store.new.self)
           (copied_then from to inv.0 x)
           (g.met.D.Desk.more _ _ _ _ _ inv.2
           (subst (λ (n : ℕ). g.D.Desk.run c.loop-i.desk

@@ -3,7 +3,7 @@ use Rattle.cb_ptr.specs.declared.word.PtrWord.{PtrWord}
 use Rattle.cb_ptr.specs.Word.{hot_of, place_of}
 use Rattle.cb_types.specs.declared.config.Config.{Config}
 use Rattle.cb_types.specs.declared.reply.Reply.TheVariants as answer
-use Rattle.cb_world.specs.declared.event.Event.TheVariants.{Settled}
+use Rattle.cb_world.specs.declared.access.Access.TheVariants.{Settled}
 use Rattle.cb_world.specs.declared.shown.Shown.{Shown}
 use Rattle.cb_world.specs.FarState.{FarState}
 use Rattle.cb_world.specs.Played.{played}

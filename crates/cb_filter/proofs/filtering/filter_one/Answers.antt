@@ -5,8 +5,8 @@ use Rattle.cb_ptr.specs.Word.{state_of, hot_of, len_of, place_of}
 use Rattle.cb_types.specs.declared.config.Config.{Config}
 use Rattle.cb_types.specs.declared.config.Field.TheVariants.{Frames}
 use Rattle.cb_types.specs.declared.reply.Reply.{Reply}
-use Rattle.cb_world.specs.declared.event.Event.{Event}
-use Rattle.cb_world.specs.declared.event.Event.TheVariants.{Settled}
+use Rattle.cb_world.specs.declared.access.Access.{Access}
+use Rattle.cb_world.specs.declared.access.Access.TheVariants.{Settled}
 use Rattle.cb_world.specs.declared.shown.Shown.{Shown}
 use Rattle.cb_world.specs.Played.{played}
 use Rattle.cb_world.specs.Sound.{Sound}
@@ -38,7 +38,7 @@ filter_claimed-requires-clause-seat g c =
     let tried = got.2 in let v = tried.1 in let words = tried.2 in
     let first = claim_after tried.0 h w v words in
     let had = c.requires.sound in let s = had.0 in
-    let ran = subst (λ (l : List Event). g.D.Desk.run c.args.desk.now l c.try_claim.new.desk)
+    let ran = subst (λ (l : List Access). g.D.Desk.run c.args.desk.now l c.try_claim.new.desk)
     tried.3 got.1 in
     let follows = g.met.D.Desk.follows _ _ first s ran had.1 in
     let sized = g.met.D.Desk.sized _ s had.1 in
@@ -57,7 +57,7 @@ filter_claimed-requires-clause-ready g c =
     let tried = got.2 in let v = tried.1 in let words = tried.2 in
     let first = claim_after tried.0 h w v words in
     let had = c.requires.sound in let s = had.0 in
-    let ran = subst (λ (l : List Event). g.D.Desk.run c.args.desk.now l c.try_claim.new.desk)
+    let ran = subst (λ (l : List Access). g.D.Desk.run c.args.desk.now l c.try_claim.new.desk)
     tried.3 got.1 in
     let follows = g.met.D.Desk.follows _ _ first s ran had.1 in
     let sized = g.met.D.Desk.sized _ s had.1 in
@@ -88,7 +88,7 @@ returns-in-Left-clause-filter g c =
     let h = c.args.h.n in let w = c.in-Left.word in let got = c.in-Left.ensures in
     let tried = got.2 in let before = tried.0 in let far = c.args.far.now in
     let first = look_after before h w in
-    let ran = subst (λ (l : List Event). g.D.Desk.run c.args.desk.now l c.try_claim.new.desk)
+    let ran = subst (λ (l : List Access). g.D.Desk.run c.args.desk.now l c.try_claim.new.desk)
     tried.1 got.1 in
     let rest = c.refuse.ensures in let r = c.refuse.result in
     record {
@@ -115,13 +115,13 @@ returns-in-Claimed-clause-filter g c =
     let far = c.args.far.now in let new = c.filter_claimed.new.far in
     let tried = got.2 in let before = tried.0 in let v = tried.1 in let words = tried.2 in
     let first = claim_after before h w v words in
-    let ran = subst (λ (l : List Event). g.D.Desk.run c.args.desk.now l c.try_claim.new.desk)
+    let ran = subst (λ (l : List Access). g.D.Desk.run c.args.desk.now l c.try_claim.new.desk)
     tried.3 got.1 in
     let had = c.requires.sound in
     let same = g.met.D.Desk.stays _ _ _ ran in
     IfOk-weaker c.filter_claimed.result
     (λ (r : Reply).
-    ClaimEnds (λ (es : List Event). g.D.Desk.run c.try_claim.new.desk es c.filter_claimed.new.desk)
+    ClaimEnds (λ (es : List Access). g.D.Desk.run c.try_claim.new.desk es c.filter_claimed.new.desk)
     (λ (s : Shown) (v : ℕ) (words : List ℕ).
     g.D.Desk.shows c.try_claim.new.desk s × IsKnownAt s far h w v words) h
     (FilterEnds (g.D.Desk.settings c.try_claim.new.desk).frames far new h w r)) _
@@ -185,7 +185,7 @@ returns-in-Claimed-clause-error g c =
     let far = c.args.far.now in let new = c.filter_claimed.new.far in
     let tried = got.2 in let before = tried.0 in let v = tried.1 in let words = tried.2 in
     let first = claim_after before h w v words in let done = Settled h w ∷ [] in
-    let ran = subst (λ (l : List Event). g.D.Desk.run c.args.desk.now l c.try_claim.new.desk)
+    let ran = subst (λ (l : List Access). g.D.Desk.run c.args.desk.now l c.try_claim.new.desk)
     tried.3 got.1 in
     let had = c.requires.sound in
     let begun = λ (s : Shown) (a : g.D.Desk.shows c.args.desk.now s) (sound : Sound s far).

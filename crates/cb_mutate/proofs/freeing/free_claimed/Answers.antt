@@ -1,7 +1,7 @@
 use Rattle.cb_types.specs.declared.config.Config.{Config}
 use Rattle.std.proofs.Common.{ℕ, ◌+◌, [], ◌∷◌, sym, refl, ap, ◌∙◌, arith, inl, inr, subst, ◌<◌}
 use Rattle.cb_types.specs.declared.reply.Reply.TheVariants as answer
-use Rattle.cb_world.specs.declared.event.Event.TheVariants.{Told, Stamped, Settled}
+use Rattle.cb_world.specs.declared.access.Access.TheVariants.{Told, Stamped, Settled}
 use Rattle.cb_world.proofs.Laws.{held, may_put_back, settled_here, back_written}
 use Rattle.cb_mutate.proofs.Emptied.{with_stamped, may_free, emptied, emptied_once}
 use Rattle.cb_mutate.proofs.freeing.free_claimed.Goals as goal

@@ -1,5 +1,5 @@
 use Rattle.std.proofs.Common.{ℕ, ◌+◌, ◌<◌, [], ◌∷◌, sym, refl, subst, arith, inr}
-use Rattle.cb_world.specs.declared.event.Event.TheVariants.{Told, Stamped}
+use Rattle.cb_world.specs.declared.access.Access.TheVariants.{Told, Stamped}
 use Rattle.cb_world.proofs.Laws.{are_members, home_within, shards_there}
 use Rattle.cb_mutate.proofs.Emptied.{with_stamped}
 use Rattle.cb_mutate.proofs.FarFreed.{far_held, far_may_free, far_told, home_known, its_home}

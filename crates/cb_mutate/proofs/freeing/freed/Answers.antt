@@ -2,8 +2,8 @@ use Rattle.cb_types.specs.declared.config.Config.{Config}
 use Rattle.std.proofs.Common.{ℕ, ◌+◌, ◌<◌, List, [], ◌∷◌, ◌++◌, sym, refl, ap, ◌∙◌, subst, inl, inr}
 use Rattle.cb_ptr.specs.declared.word.State.{State}
 use Rattle.cb_ptr.specs.Word.{state_of, len_of, place_of}
-use Rattle.cb_world.specs.declared.event.Event.{Event}
-use Rattle.cb_world.specs.declared.event.Event.TheVariants.{Told}
+use Rattle.cb_world.specs.declared.access.Access.{Access}
+use Rattle.cb_world.specs.declared.access.Access.TheVariants.{Told}
 use Rattle.cb_world.specs.declared.shown.Shown.{Shown}
 use Rattle.cb_world.specs.Played.{played}
 use Rattle.cb_world.specs.Sound.{Sound}
@@ -20,7 +20,7 @@ free_claimed-requires-clause-claimed g c =
     let tried = got.2 in let v = tried.1 in let words = tried.2 in
     let first = claim_after tried.0 h w v words in
     let had = c.requires.sound in let s = had.0 in
-    let ran = subst (λ (l : List Event). g.D.Desk.run c.args.desk.now l c.try_claim.new.desk)
+    let ran = subst (λ (l : List Access). g.D.Desk.run c.args.desk.now l c.try_claim.new.desk)
     tried.3 got.1 in
     let follows = g.met.D.Desk.follows _ _ first s ran had.1 in
     let sized = g.met.D.Desk.sized _ s had.1 in (
@@ -42,7 +42,7 @@ free_claimed-requires-clause-slot g c =
     let tried = got.2 in let v = tried.1 in let words = tried.2 in
     let first = claim_after tried.0 h w v words in
     let had = c.requires.sound in let s = had.0 in
-    let ran = subst (λ (l : List Event). g.D.Desk.run c.args.desk.now l c.try_claim.new.desk)
+    let ran = subst (λ (l : List Access). g.D.Desk.run c.args.desk.now l c.try_claim.new.desk)
     tried.3 got.1 in
     let follows = g.met.D.Desk.follows _ _ first s ran had.1 in
     let sized = g.met.D.Desk.sized _ s had.1 in
@@ -62,7 +62,7 @@ returns-in-Claimed g c =
     let h = c.args.h.n in let w = c.in-Claimed.word in let got = c.in-Claimed.ensures in
     let tried = got.2 in let before = tried.0 in let v = tried.1 in let words = tried.2 in
     let first = claim_after before h w v words in
-    let ran = subst (λ (l : List Event). g.D.Desk.run c.args.desk.now l c.try_claim.new.desk)
+    let ran = subst (λ (l : List Access). g.D.Desk.run c.args.desk.now l c.try_claim.new.desk)
     tried.3 got.1 in
     let rest = c.free_claimed.ensures.ends in let done = rest.events in
     let r = c.free_claimed.result in
@@ -122,7 +122,7 @@ free_far-requires-clause-away g c =
     let h = c.args.h.n in let w = c.in-Left.word in let got = c.in-Left.ensures in
     let tried = got.2 in let first = look_after tried.0 h w in
     let had = c.requires.sound in let s = had.0 in
-    let ran = subst (λ (l : List Event). g.D.Desk.run c.args.desk.now l c.try_claim.new.desk)
+    let ran = subst (λ (l : List Access). g.D.Desk.run c.args.desk.now l c.try_claim.new.desk)
     tried.1 got.1 in
     let follows = g.met.D.Desk.follows _ _ first s ran had.1 in
     let p = looks_played h first s (one_look_more h w tried.0 tried.2) in
@@ -130,7 +130,7 @@ free_far-requires-clause-away g c =
       record s { hots = p.0 },
       subst (λ (t : Shown). g.D.Desk.shows c.try_claim.new.desk t) p.2 follows.1,
       subst (λ (t : Shown). Sound t c.args.far.now)
-          (ap (λ (l : List Event). played l s) (no_more first) ∙ p.2)
+          (ap (λ (l : List Access). played l s) (no_more first) ∙ p.2)
           (look_sound c.args.far.now s tried.0 [] h w had.2 tried.2 tt),
       (away.0, away.1, away.2, away.3),
     )
@@ -142,7 +142,7 @@ returns-then-is_far g c =
     let first = look_after before h w in
     let new = c.free_far.new.far in let r = c.free_far.result in
     let is_far = c.is_far.ensures.far c.if-is_far.true in
-    let ran = subst (λ (l : List Event). g.D.Desk.run c.args.desk.now l c.try_claim.new.desk)
+    let ran = subst (λ (l : List Access). g.D.Desk.run c.args.desk.now l c.try_claim.new.desk)
     tried.1 got.1 in
     let had = c.requires.sound in
     let frees = c.free_far.ensures.frees in let x = frees.0 in
@@ -219,7 +219,7 @@ returns-else-is_far g c =
     let h = c.args.h.n in let w = c.in-Left.word in let got = c.in-Left.ensures in
     let tried = got.2 in let before = tried.0 in
     let first = look_after before h w in
-    let ran = subst (λ (l : List Event). g.D.Desk.run c.args.desk.now l c.try_claim.new.desk)
+    let ran = subst (λ (l : List Access). g.D.Desk.run c.args.desk.now l c.try_claim.new.desk)
     tried.1 got.1 in
     let rest = c.refuse_free.ensures in let r = c.refuse_free.result in
     let near = c.is_far.ensures.other c.if-is_far.false in

@@ -1,8 +1,8 @@
 use Rattle.std.proofs.Common.{ℕ, ◌+◌, ◌*◌, ◌<◌, List, [], ◌∷◌, ◌++◌, length, sym, subst, arith}
 use Rattle.cb_types.specs.declared.config.Config.{Config}
 use Rattle.cb_types.specs.declared.config.Field.TheVariants.{Frames}
-use Rattle.cb_world.specs.declared.event.Event.{Event}
-use Rattle.cb_world.specs.declared.event.Event.TheVariants.{Stored}
+use Rattle.cb_world.specs.declared.access.Access.{Access}
+use Rattle.cb_world.specs.declared.access.Access.TheVariants.{Stored}
 use Rattle.cb_world.specs.Memory.{words_for}
 use Rattle.cb_world.specs.Played.{played}
 use Rattle.cb_mutate.specs.Stores.{stores_from}
@@ -46,7 +46,7 @@ loop-i-preserved g c =
     let inv = c.loop-i.invariant in let x = c.word_at.result in (
       inv.0 ++ x ∷ [],
       words_more c.args.bytes.now inv.0 c.loop-i.i x inv.1 c.word_at.ensures c.word_at.type_inv,
-      subst (λ (es : List Event). g.D.Desk.run c.args.desk.now es c.store.new.self)
+      subst (λ (es : List Access). g.D.Desk.run c.args.desk.now es c.store.new.self)
           (stores_then c.args.place inv.0 x)
           (g.met.D.Desk.more _ _ _ _ _ inv.2
           (subst (λ (n : ℕ). g.D.Desk.run c.loop-i.desk

@@ -1,7 +1,7 @@
 use Rattle.cb_types.specs.declared.config.Config.{Config}
 use Rattle.std.proofs.Common.{ℕ, [], ◌∷◌, ◌++◌, length, sym, subst, arith, ◌<◌, ◌∙◌}
 use Rattle.cb_types.specs.declared.config.Field.TheVariants.{Frames}
-use Rattle.cb_world.specs.declared.event.Event.TheVariants.{Stamped, Settled}
+use Rattle.cb_world.specs.declared.access.Access.TheVariants.{Stamped, Settled}
 use Rattle.cb_world.specs.declared.shown.Shown.{Shown}
 use Rattle.cb_world.specs.Shown.{IsHeld, object_at}
 use Rattle.cb_world.specs.Settling.{MaySettle}

@@ -1,7 +1,7 @@
 use Rattle.std.proofs.Common.{ℕ, ◌+◌, ◌*◌, ◌<◌, List, [], ◌∷◌, ◌++◌, length, sym, ap, ◌∙◌, subst, arith}
 use Rattle.cb_types.specs.declared.config.Config.{Config}
 use Rattle.cb_types.specs.declared.config.Field.TheVariants.{Frames}
-use Rattle.cb_world.specs.declared.event.Event.TheVariants.{Loaded, Stored}
+use Rattle.cb_world.specs.declared.access.Access.TheVariants.{Loaded, Stored}
 use Rattle.cb_world.specs.Memory.{window, words_for}
 use Rattle.cb_world.specs.StillDesk.{put_window}
 use Rattle.cb_world.specs.declared.shown.Shown.{Shown}

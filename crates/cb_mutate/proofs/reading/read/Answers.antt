@@ -2,8 +2,8 @@ use Rattle.std.proofs.Common.{ℕ, ◌*◌, ◌<◌, List, [], ◌∷◌, ◌++�
 use Rattle.cb_types.specs.declared.config.Config.{Config}
 use Rattle.cb_ptr.specs.declared.word.State.{State}
 use Rattle.cb_ptr.specs.Word.{state_of, len_of, place_of}
-use Rattle.cb_world.specs.declared.event.Event.{Event}
-use Rattle.cb_world.specs.declared.event.Event.TheVariants.{Looked}
+use Rattle.cb_world.specs.declared.access.Access.{Access}
+use Rattle.cb_world.specs.declared.access.Access.TheVariants.{Looked}
 use Rattle.cb_world.specs.declared.shown.Shown.{Shown}
 use Rattle.cb_world.specs.Played.{played}
 use Rattle.cb_world.specs.Performs.{Performs}
@@ -38,12 +38,12 @@ returns-in_err-word-clause-error g c = let e = c.in_err-word.ensures.error in
 pub read_claimed-requires-clause-claimed : goal.read_claimed-requires-clause-claimed
 read_claimed-requires-clause-claimed g c =
     let h = c.args.h.n in let w = c.in-Claimed.word in
-    let got = subst (λ (q : Reached). (es : List Event) × g.D.Desk.run c.args.desk.now es c.reach.new.desk
+    let got = subst (λ (q : Reached). (es : List Access) × g.D.Desk.run c.args.desk.now es c.reach.new.desk
     × Grasps h es (grasp_of q)) c.in-Claimed.is c.in_ok-word.ensures.reached in
     let tried = got.2 in let v = tried.1 in let words = tried.2 in
     let first = claim_after tried.0 h w v words in
     let had = c.requires.sound in let s = had.0 in
-    let ran = subst (λ (l : List Event). g.D.Desk.run c.args.desk.now l c.reach.new.desk)
+    let ran = subst (λ (l : List Access). g.D.Desk.run c.args.desk.now l c.reach.new.desk)
     tried.3 got.1 in
     let follows = g.met.D.Desk.follows _ _ first s ran had.1 in
     let sized = g.met.D.Desk.sized _ s had.1 in (
@@ -69,18 +69,18 @@ read_left-requires-clause-room g c =
     c.in_ok-word.ensures.room
 
 pub read_left-requires-clause-left : goal.read_left-requires-clause-left
-read_left-requires-clause-left g c = (subst (λ (q : Reached). (es : List Event)
+read_left-requires-clause-left g c = (subst (λ (q : Reached). (es : List Access)
     × g.D.Desk.run c.args.desk.now es c.reach.new.desk × Grasps c.args.h.n es (grasp_of q))
     c.in-Left.is c.in_ok-word.ensures.reached).2.3
 
 pub read_left-requires-clause-within : goal.read_left-requires-clause-within
 read_left-requires-clause-within g c =
     let h = c.args.h.n in let w = c.in-Left.word in
-    let got = subst (λ (q : Reached). (es : List Event) × g.D.Desk.run c.args.desk.now es c.reach.new.desk
+    let got = subst (λ (q : Reached). (es : List Access) × g.D.Desk.run c.args.desk.now es c.reach.new.desk
     × Grasps h es (grasp_of q)) c.in-Left.is c.in_ok-word.ensures.reached in
     let tried = got.2 in let before = tried.0 in
     let first = look_after before h w in
-    let ran = subst (λ (l : List Event). g.D.Desk.run c.args.desk.now l c.reach.new.desk)
+    let ran = subst (λ (l : List Access). g.D.Desk.run c.args.desk.now l c.reach.new.desk)
     tried.1 got.1 in
     let had = c.requires.sound in let s = had.0 in
     let follows = g.met.D.Desk.follows _ _ first s ran had.1 in
@@ -94,12 +94,12 @@ returns-clause-read g c = let h = c.args.h.n in
     elim c.match-branch-2.branch [
       | in-Claimed u ↦
           let w = u.in-Claimed.word in
-          let got = subst (λ (q : Reached). (es : List Event)
+          let got = subst (λ (q : Reached). (es : List Access)
           × g.D.Desk.run c.args.desk.now es c.reach.new.desk × Grasps h es (grasp_of q))
           u.in-Claimed.is c.in_ok-word.ensures.reached in
           let tried = got.2 in let before = tried.0 in let v = tried.1 in let words = tried.2 in
           let first = claim_after before h w v words in
-          let ran = subst (λ (l : List Event). g.D.Desk.run c.args.desk.now l c.reach.new.desk)
+          let ran = subst (λ (l : List Access). g.D.Desk.run c.args.desk.now l c.reach.new.desk)
           tried.3 got.1 in
           let rest = u.read_claimed.ensures.ends in let done = rest.events in
           let r = u.read_claimed.result in
@@ -147,12 +147,12 @@ returns-clause-read g c = let h = c.args.h.n in
           rw u.result-is (rw u.desk-is all)
       | in-Left u ↦
           let w = u.in-Left.word in
-          let got = subst (λ (q : Reached). (es : List Event)
+          let got = subst (λ (q : Reached). (es : List Access)
           × g.D.Desk.run c.args.desk.now es c.reach.new.desk × Grasps h es (grasp_of q))
           u.in-Left.is c.in_ok-word.ensures.reached in
           let tried = got.2 in let before = tried.0 in
           let first = look_after before h w in
-          let ran = subst (λ (l : List Event). g.D.Desk.run c.args.desk.now l c.reach.new.desk)
+          let ran = subst (λ (l : List Access). g.D.Desk.run c.args.desk.now l c.reach.new.desk)
           tried.1 got.1 in
           let rest = u.read_left.ensures in
           let r = u.read_left.result in
@@ -187,11 +187,11 @@ returns-clause-away g c = let h = c.args.h.n in
           rw u.result-is (λ e s knows. absurd (bytes_not u.read_claimed.result shown.0 shown.1 shown.2 e))
       | in-Left u ↦
           let w = u.in-Left.word in
-          let got = subst (λ (q : Reached). (es : List Event)
+          let got = subst (λ (q : Reached). (es : List Access)
           × g.D.Desk.run c.args.desk.now es c.reach.new.desk × Grasps h es (grasp_of q))
           u.in-Left.is c.in_ok-word.ensures.reached in
           let tried = got.2 in let before = tried.0 in
-          let ran = subst (λ (l : List Event). g.D.Desk.run c.args.desk.now l c.reach.new.desk)
+          let ran = subst (λ (l : List Access). g.D.Desk.run c.args.desk.now l c.reach.new.desk)
           tried.1 got.1 in
           let rest = u.read_left.ensures in
           rw u.result-is (λ e s knows.

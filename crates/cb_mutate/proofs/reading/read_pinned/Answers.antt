@@ -1,7 +1,7 @@
 use Rattle.cb_types.specs.Config.{IsAccepted}
 use Rattle.std.proofs.Common.{◌≡◌, ◌∷◌, refl, subst, ◌∙◌, ap, inr, sym}
 use Rattle.cb_ptr.specs.declared.word.PtrWord.{PtrWord}
-use Rattle.cb_world.specs.declared.event.Event.TheVariants.{Told}
+use Rattle.cb_world.specs.declared.access.Access.TheVariants.{Told}
 use Rattle.cb_world.specs.Memory.{words_for, bytes_in}
 use Rattle.cb_mutate.specs.ReadRule.{AreLoaded}
 use Rattle.cb_mutate.proofs.SettledHot.{loads_are_reads, bytes_are}

@@ -4,7 +4,7 @@ use Rattle.std.proofs.Common.{ℕ, ◌+◌, ◌≤◌, List, [], ◌∷◌, ◌+
 use Rattle.cb_types.specs.declared.reply.Reply.TheVariants as answer
 use Rattle.cb_ptr.specs.declared.word.PtrWord.{PtrWord}
 use Rattle.cb_ptr.specs.Word.{len_of, place_of}
-use Rattle.cb_world.specs.declared.event.Event.TheVariants.{Told, Stamped, Settled}
+use Rattle.cb_world.specs.declared.access.Access.TheVariants.{Told, Stamped, Settled}
 use Rattle.cb_world.specs.declared.shown.Shown.{Shown}
 use Rattle.cb_world.specs.Write.{IsWrite}
 use Rattle.cb_mutate.specs.Wordwise.{IsWordwise}

@@ -3,7 +3,7 @@ use Rattle.cb_types.specs.declared.config.Config.{Config}
 use Rattle.std.proofs.Common.{ℕ, ◌<◌, List, [], ◌++◌, sym, refl, subst}
 use Rattle.cb_ptr.specs.declared.word.State.{State}
 use Rattle.cb_ptr.specs.Word.{state_of, len_of, place_of}
-use Rattle.cb_world.specs.declared.event.Event.{Event}
+use Rattle.cb_world.specs.declared.access.Access.{Access}
 use Rattle.cb_world.specs.declared.shown.Shown.{Shown}
 use Rattle.cb_world.specs.Played.{played}
 use Rattle.cb_world.specs.Sound.{Sound}
@@ -22,7 +22,7 @@ write_claimed-requires-clause-claimed g c =
     let tried = got.2 in let v = tried.1 in let words = tried.2 in
     let first = claim_after tried.0 h w v words in
     let had = c.requires.sound in let s = had.0 in
-    let ran = subst (λ (l : List Event). g.D.Desk.run c.args.desk.now l c.try_claim.new.desk)
+    let ran = subst (λ (l : List Access). g.D.Desk.run c.args.desk.now l c.try_claim.new.desk)
     tried.3 got.1 in
     let follows = g.met.D.Desk.follows _ _ first s ran had.1 in
     let sized = g.met.D.Desk.sized _ s had.1 in (
@@ -43,7 +43,7 @@ returns-in-Claimed-clause-write g c =
     let h = c.args.h.n in let w = c.in-Claimed.word in let got = c.in-Claimed.ensures in
     let tried = got.2 in let before = tried.0 in let v = tried.1 in let words = tried.2 in
     let first = claim_after before h w v words in
-    let ran = subst (λ (l : List Event). g.D.Desk.run c.args.desk.now l c.try_claim.new.desk)
+    let ran = subst (λ (l : List Access). g.D.Desk.run c.args.desk.now l c.try_claim.new.desk)
     tried.3 got.1 in
     let rest = c.write_claimed.ensures.ends in let done = rest.events in
     let r = c.write_claimed.result in
@@ -92,7 +92,7 @@ returns-in-Left-clause-write g c =
     let h = c.args.h.n in let w = c.in-Left.word in let got = c.in-Left.ensures in
     let tried = got.2 in let before = tried.0 in
     let first = look_after before h w in
-    let ran = subst (λ (l : List Event). g.D.Desk.run c.args.desk.now l c.try_claim.new.desk)
+    let ran = subst (λ (l : List Access). g.D.Desk.run c.args.desk.now l c.try_claim.new.desk)
     tried.1 got.1 in
     let rest = c.refuse_write.ensures in let r = c.refuse_write.result in
     record {
@@ -117,7 +117,7 @@ pub returns-in-Left-clause-away : goal.returns-in-Left-clause-away
 returns-in-Left-clause-away g c = λ e s shown.
     let h = c.args.h.n in let w = c.in-Left.word in let got = c.in-Left.ensures in
     let tried = got.2 in let before = tried.0 in
-    let ran = subst (λ (l : List Event). g.D.Desk.run c.args.desk.now l c.try_claim.new.desk)
+    let ran = subst (λ (l : List Access). g.D.Desk.run c.args.desk.now l c.try_claim.new.desk)
     tried.1 got.1 in
     let rest = c.refuse_write.ensures in
     found_far s before h w tried.2 (g.met.D.Desk.follows _ _ (look_after before h w) s ran shown).0

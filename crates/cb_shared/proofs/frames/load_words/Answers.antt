@@ -1,7 +1,7 @@
 use Rattle.std.proofs.Common.{◌∙◌, ◌<◌, ◌+◌, ◌*◌, ℕ, List, length, length-set, sym, ap, subst}
 use Rattle.std.proofs.Common.{arith}
 use Rattle.std.proofs.lemmas.List.{length-take-le, take_all}
-use Rattle.cb_world.specs.declared.event.Event.TheVariants.{Loaded}
+use Rattle.cb_world.specs.declared.access.Access.TheVariants.{Loaded}
 use Rattle.cb_world.specs.FrameWords.{loads_from}
 use Rattle.cb_shared.specs.SeatLaws.{Runs, holds_still}
 use Rattle.cb_shared.proofs.Alone.{loads_at}

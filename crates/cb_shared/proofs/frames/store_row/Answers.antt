@@ -2,7 +2,7 @@ use Rattle.std.proofs.Common.{◌≡◌, ◌∙◌, ◌<◌, ◌+◌, ◌*◌, �
 use Rattle.std.proofs.Common.{subst, arith}
 use Rattle.std.proofs.lemmas.List.{length-take-le, take_all}
 use Rattle.std.proofs.Math.Seq.{take-suc}
-use Rattle.cb_world.specs.declared.event.Event.TheVariants.{Stored}
+use Rattle.cb_world.specs.declared.access.Access.TheVariants.{Stored}
 use Rattle.cb_world.specs.declared.shown.Shown.{Shown}
 use Rattle.cb_world.specs.FrameWords.{OwnsWords, stores_from}
 use Rattle.cb_world.proofs.Laws.{words_read}

@@ -1,5 +1,5 @@
 use Rattle.std.proofs.Common.{[], ◌∷◌}
-use Rattle.cb_world.specs.declared.event.Event.TheVariants.{Looked}
+use Rattle.cb_world.specs.declared.access.Access.TheVariants.{Looked}
 use Rattle.cb_world.specs.Played.{after}
 use Rattle.cb_swapin.proofs.OneBrought.{here_word, may_bring, brings_one}
 use Rattle.cb_swapin.proofs.bringing.bring.Goals as goal

@@ -2,7 +2,7 @@ use Rattle.std.proofs.Common.{ℕ, ◌<◌, List, None, get_or, refl, sym, subst
 use Rattle.cb_types.specs.declared.config.Config.{Config}
 use Rattle.cb_types.specs.declared.config.Field.TheVariants.{Frames}
 use Rattle.cb_class.proofs.Laws.{slots_at_most}
-use Rattle.cb_world.specs.declared.event.Event.{Event}
+use Rattle.cb_world.specs.declared.access.Access.{Access}
 use Rattle.cb_world.specs.declared.shown.Shown.{Shown}
 use Rattle.cb_world.specs.Played.{played}
 use Rattle.cb_swapin.specs.Waiting.{IsReady}
@@ -49,7 +49,7 @@ pub loop-slot-preserved : goal.loop-slot-preserved
 loop-slot-preserved g c =
     let i = c.loop-slot.slot in let slots = c.args.slots.now in
     let inv = c.loop-slot.invariant in let b = inv.1 in
-    let last : List Event → Type 0 =
+    let last : List Access → Type 0 =
     λ es. g.D.Desk.run c.loop-slot.desk es c.bring_slot.new.desk in
     let later : Shown → Type 0 = λ s. g.D.Desk.shows c.loop-slot.desk s in (
       slot_cleared last later i c.slot_place.result slots c.args.homes.now c.loop-slot.homes

@@ -2,7 +2,7 @@ use Rattle.std.proofs.Common.{◌≡◌, ℕ, List, Option, sym, ap, ◌∙◌, 
 use Rattle.cb_types.specs.declared.config.Field.TheVariants.{Frames}
 use Rattle.cb_class.specs.declared.class.Class.{Class}
 use Rattle.cb_class.specs.Class.{pages_of}
-use Rattle.cb_world.specs.declared.event.Event.{Event}
+use Rattle.cb_world.specs.declared.access.Access.{Access}
 use Rattle.cb_world.specs.declared.shown.Shown.{Shown}
 use Rattle.cb_world.specs.Played.{played}
 use Rattle.cb_swapin.specs.Named.{IsNamed}
@@ -13,7 +13,7 @@ use Rattle.cb_swapin.proofs.SpanBrought.{span_brought, waiting_stored}
 use Rattle.cb_swapin.proofs.bringing.bring_span.Goals as goal
 
 -- a row that was stored in a run, by another count of its frames
-abbrev in_run : (runs : List Event → Type 0) (shows : Shown → Type 0)
+abbrev in_run : (runs : List Access → Type 0) (shows : Shown → Type 0)
     (does : Shown → Shown → Type 0) (f n m : ℕ) → n ≡ m
     → Brought runs (λ s. shows s × IsRunVacant s f n) (StoresIn f n) does
     → Brought runs (λ s. shows s × IsRunVacant s f m) (StoresIn f m) does
@@ -83,7 +83,7 @@ returns-clause-brought g c =
     let a = in_run _ _ _ f c.pages.result (pages_of class) c.pages.ensures.pages
     c.store_row.ensures in
     let b = c.bring_all.ensures.brought in
-    let all : List Event → Type 0 = λ es. g.D.Desk.run c.args.desk.now es c.bring_all.new.desk in
+    let all : List Access → Type 0 = λ es. g.D.Desk.run c.args.desk.now es c.bring_all.new.desk in
     let knows : Shown → Type 0 = λ s. g.D.Desk.shows c.args.desk.now s
     × AreWaiting s f span.class span.slots row in
     let vacant : (s : Shown) → knows s → IsRunVacant s f (pages_of class) =

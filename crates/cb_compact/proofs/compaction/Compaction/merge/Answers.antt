@@ -19,7 +19,7 @@ pub replace_sets-requires-clause-number : goal.replace_sets-requires-clause-numb
 replace_sets-requires-clause-number c =
     let x = c.requires.ready in
     let kept = c.in_ok-keep_merged.ensures.kept x.1 x.2 x.3 x.4.fresh in
-    c.next_set-id.ensures ∙ sym (ap (λ (f : FarState). f.counts.sets) kept)
+    c.next_number-id.ensures ∙ sym (ap (λ (f : FarState). f.counts.sets) kept)
 
 pub replace_sets-requires-clause-pair : goal.replace_sets-requires-clause-pair
 replace_sets-requires-clause-pair c =
@@ -38,7 +38,7 @@ replace_sets-requires-clause-pair c =
 pub replace_sets-requires-clause-set : goal.replace_sets-requires-clause-set
 replace_sets-requires-clause-set c =
     let x = c.requires.ready in
-    let id = c.next_set-id.result in
+    let id = c.next_number-id.result in
     let kept = c.in_ok-keep_merged.ensures.kept x.1 x.2 x.3 x.4.fresh in
     let made = merged_set id x.1 x.2 x.3 in (
       made,
@@ -46,7 +46,7 @@ replace_sets-requires-clause-set c =
       subst (λ (l : List _). AreNamedOnce made (length l)) (sym (ap (λ (f : FarState). f.homes)
           kept))
           (subst (λ (n : ℕ). AreNamedOnce (merged_set n x.1 x.2 x.3) (length c.args.far.now.homes))
-          (sym c.next_set-id.ensures) (named_once x.0 c.args.far.now x.1 x.2 x.3 x.4)),
+          (sym c.next_number-id.ensures) (named_once x.0 c.args.far.now x.1 x.2 x.3 x.4)),
     )
 
 pub replace_sets-requires-clause-sets : goal.replace_sets-requires-clause-sets
@@ -60,7 +60,7 @@ pub returns-clause-merged : goal.returns-clause-merged
 returns-clause-merged c pair a b fresh =
     let x = c.requires.ready in
     merged_is x.0 c.args.far.now c.keep_merged.new.far c.replace_sets.new.far pair a b
-    c.next_set-id.result c.moved-moved.result
-    (ready_as x.0 c.args.far.now x.1 pair x.2 x.3 a b x.4 fresh) c.next_set-id.ensures
+    c.next_number-id.result c.moved-moved.result
+    (ready_as x.0 c.args.far.now x.1 pair x.2 x.3 a b x.4 fresh) c.next_number-id.ensures
     (c.in_ok-keep_merged.ensures.kept pair a b fresh) c.replace_sets.ensures.state
     c.replace_sets.ensures.homes (c.moved-moved.ensures pair a b fresh)

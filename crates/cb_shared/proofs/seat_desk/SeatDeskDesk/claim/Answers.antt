@@ -1,5 +1,5 @@
 use Rattle.std.proofs.Common.{ℕ, [], ◌∷◌, ◌∙◌, refl, subst, arith}
-use Rattle.cb_world.specs.declared.event.Event.TheVariants.{Looked}
+use Rattle.cb_world.specs.declared.access.Access.TheVariants.{Looked}
 use Rattle.cb_rule.specs.Steps.{TellsPins}
 use Rattle.cb_shared.specs.SeatLaws.{Runs}
 use Rattle.cb_shared.specs.Seats.{record_at}

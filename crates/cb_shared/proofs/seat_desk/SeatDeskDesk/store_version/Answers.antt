@@ -1,5 +1,5 @@
 use Rattle.std.proofs.Common.{◌+◌, ℕ, refl, sym, ap, subst, arith}
-use Rattle.cb_world.specs.declared.event.Event.TheVariants.{Stamped}
+use Rattle.cb_world.specs.declared.access.Access.TheVariants.{Stamped}
 use Rattle.cb_world.specs.declared.shown.Shown.{Shown}
 use Rattle.cb_world.specs.Shown.{IsHeld, object_at}
 use Rattle.cb_shared.specs.SeatLaws.{holds_still}

@@ -1,5 +1,5 @@
 use Rattle.std.proofs.Common.{◌+◌, ℕ, refl, sym, ap, arith}
-use Rattle.cb_world.specs.declared.event.Event.TheVariants.{Told}
+use Rattle.cb_world.specs.declared.access.Access.TheVariants.{Told}
 use Rattle.cb_shared.specs.SeatLaws.{holds_still}
 use Rattle.cb_shared.proofs.Alone.{tells_at}
 use Rattle.cb_shared.proofs.Rights.{holds_of, rights_moved}

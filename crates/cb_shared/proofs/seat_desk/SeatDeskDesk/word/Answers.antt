@@ -1,5 +1,5 @@
 use Rattle.std.proofs.Common.{refl, arith}
-use Rattle.cb_world.specs.declared.event.Event.TheVariants.{Looked}
+use Rattle.cb_world.specs.declared.access.Access.TheVariants.{Looked}
 use Rattle.cb_shared.specs.SeatLaws.{holds_still}
 use Rattle.cb_shared.proofs.Alone.{looks_at}
 use Rattle.cb_shared.proofs.Rights.{holds_of, rights_moved}

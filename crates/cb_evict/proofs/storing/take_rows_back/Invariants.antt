@@ -2,7 +2,7 @@ use Rattle.std.proofs.Common.{◌≡◌, ◌≤◌, ℕ, List, length, take}
 use Rattle.cb_node.specs.NodesState.{NodesState}
 use Rattle.cb_world.specs.Stored.{all_put}
 use Rattle.cb_evict.specs.Storing.{CanPut}
-use Rattle.cb_evict.proofs.storing.drop_rows.Given as goal
+use Rattle.cb_evict.proofs.storing.take_rows_back.Given as goal
 
 -- the rows behind this one were dropped
 abbrev pub invariant-loop-p : goal.invariant-loop-p

@@ -3,7 +3,7 @@ use Rattle.std.proofs.lemmas.Option.{slice_get-get_or}
 use Rattle.cb_node.specs.NodesState.{NodesState, with_dropped}
 use Rattle.cb_world.specs.Stored.{all_put}
 use Rattle.cb_evict.proofs.Putting.{drop_last, no_shard}
-use Rattle.cb_evict.proofs.storing.drop_rows.Goals as goal
+use Rattle.cb_evict.proofs.storing.take_rows_back.Goals as goal
 
 pub loop-p-preserved : goal.loop-p-preserved
 loop-p-preserved c =

@@ -2,7 +2,7 @@
 /// list of its events, the first one first, and read a field that is an array as a list of any
 /// length. Objects are named by handle, places and words are those of local memory, of eight bytes
 /// each.
-pub enum Event {
+pub enum Access {
     /// The pointer word of an object was found, by a look or by a claim that was raced.
     Looked {
         handle: u32,
