@@ -41,16 +41,16 @@ pub(crate) fn make_with_room<D: Desk>(
         × (far.old.counts.keys + 2 ^ 18 < 2 ^ 62) }
     requires sound { (s : Shown) × D.shows desk.old s × Sound s far.old }
     ensures makes { IfOk result (λ reply. WithRoom (D.settings desk.old).frames
-        (Makes (λ d es e. D.run d es e) (λ d s. D.shows d s) (D.settings desk.old) bytes.now)
-        (WinsRoom (λ d es e. D.run d es e) (λ d s. D.shows d s) (D.settings desk.old))
+        (Makes D.run D.shows (D.settings desk.old) bytes.now)
+        (WinsRoom D.run D.shows (D.settings desk.old))
         most_evictions
         (record { desk = desk.old; far = far.old }) reply
         (record { desk = desk.new; far = far.new })) }
     ensures error { OnErr result (RoomStops
-        (Makes (λ d es e. D.run d es e) (λ d s. D.shows d s) (D.settings desk.old) bytes.now)
-        (MakeLacks (λ d es e. D.run d es e) (D.settings desk.old) bytes.now)
-        (WinsRoom (λ d es e. D.run d es e) (λ d s. D.shows d s) (D.settings desk.old))
-        (EvictLacks (λ d es e. D.run d es e) (λ d s. D.shows d s)) most_evictions
+        (Makes D.run D.shows (D.settings desk.old) bytes.now)
+        (MakeLacks D.run (D.settings desk.old) bytes.now)
+        (WinsRoom D.run D.shows (D.settings desk.old))
+        (EvictLacks D.run D.shows) most_evictions
         (record { desk = desk.old; far = far.old }) (record { desk = desk.new; far = far.new })) }
 {
     for _ in 0..MOST_EVICTIONS + 1 {
@@ -72,10 +72,10 @@ fn win_room<D: Desk>(desk: &mut D, far: &mut Far) -> Result<Option<Reply>, NoMem
     requires configured { IsConfigured (D.settings desk.old) far.old }
     requires counts { (far.old.counts.sets < 2 ^ 62) × (far.old.counts.keys < 2 ^ 62) }
     requires sound { (s : Shown) × D.shows desk.old s × Sound s far.old }
-    ensures tries { IfOk result (λ refusal. TriesRoom (λ d es e. D.run d es e) (λ d s. D.shows d s)
+    ensures tries { IfOk result (λ refusal. TriesRoom D.run D.shows
         (D.settings desk.old) (record { desk = desk.old; far = far.old }) refusal
         (record { desk = desk.new; far = far.new })) }
-    ensures error { OnErr result (EvictLacks (λ d es e. D.run d es e) (λ d s. D.shows d s)
+    ensures error { OnErr result (EvictLacks D.run D.shows
         (record { desk = desk.old; far = far.old }) (record { desk = desk.new; far = far.new })) }
 {
     let room = evict_counted(desk, far)?;
@@ -99,11 +99,11 @@ fn bring<D: Desk>(desk: &mut D, far: &mut Far, h: Handle) -> Result<Reply, NoMem
     requires home { (home : Home) × (home_at far.old.homes h.n ≡ Some home) }
     requires sound { (s : Shown) × D.shows desk.old s × Sound s far.old }
     ensures brings { IfOk result (λ reply. Brings
-        (λ d es e. D.run d es e) (λ d s. D.shows d s) (D.settings desk.old) h.n
+        D.run D.shows (D.settings desk.old) h.n
         (record { desk = desk.old; far = far.old }) reply
         (record { desk = desk.new; far = far.new })) }
     ensures error { OnErr result (BringLacks
-        (λ d es e. D.run d es e) (λ d s. D.shows d s) (D.settings desk.old) h.n
+        D.run D.shows (D.settings desk.old) h.n
         (record { desk = desk.old; far = far.old }) (record { desk = desk.new; far = far.new })) }
     ensures settings { D.settings desk.new ≡ D.settings desk.old }
     ensures sound { IfOk result (λ reply. (s : Shown) × D.shows desk.new s × Sound s far.new) }
@@ -137,16 +137,16 @@ pub(crate) fn land_with_room<D: Desk>(
     requires kept { (s : Shown) × D.shows desk.old s × Sound s far.old
         × KeepsOrder s far.old (done_order done) }
     ensures lands { IfOk result (λ reply. WithRoom (D.settings desk.old).frames
-        (Lands (λ d es e. D.run d es e) (λ d s. D.shows d s) (done_order done.entry))
-        (WinsRoom (λ d es e. D.run d es e) (λ d s. D.shows d s) (D.settings desk.old))
+        (Lands D.run D.shows (done_order done.entry))
+        (WinsRoom D.run D.shows (D.settings desk.old))
         most_evictions
         (record { desk = desk.old; far = far.old }) reply
         (record { desk = desk.new; far = far.new })) }
     ensures error { OnErr result (RoomStops
-        (Lands (λ d es e. D.run d es e) (λ d s. D.shows d s) (done_order done.entry))
-        (NothingDone (λ d es e. D.run d es e))
-        (WinsRoom (λ d es e. D.run d es e) (λ d s. D.shows d s) (D.settings desk.old))
-        (EvictLacks (λ d es e. D.run d es e) (λ d s. D.shows d s)) most_evictions
+        (Lands D.run D.shows (done_order done.entry))
+        (NothingDone D.run)
+        (WinsRoom D.run D.shows (D.settings desk.old))
+        (EvictLacks D.run D.shows) most_evictions
         (record { desk = desk.old; far = far.old }) (record { desk = desk.new; far = far.new })) }
 {
     for _ in 0..MOST_EVICTIONS + 1 {
@@ -179,17 +179,17 @@ pub(crate) fn write_anywhere<D: Desk>(
     requires given { far.old.nodes.given + 16 < 2 ^ 64 }
     requires sound { (s : Shown) × D.shows desk.old s × Sound s far.old }
     ensures writes { IfOk result (λ reply. WhereItIs
-        (WritesObject (λ d es e. D.run d es e) (λ d s. D.shows d s) h.n at bytes.now)
-        (Declines (λ d es e. D.run d es e) (λ d s. D.shows d s) h.n at (length bytes.now))
-        (Brings (λ d es e. D.run d es e) (λ d s. D.shows d s) (D.settings desk.old) h.n)
+        (WritesObject D.run D.shows h.n at bytes.now)
+        (Declines D.run D.shows h.n at (length bytes.now))
+        (Brings D.run D.shows (D.settings desk.old) h.n)
         (record { desk = desk.old; far = far.old }) reply
         (record { desk = desk.new; far = far.new })) }
     ensures error { OnErr result (CallStops
-        (WritesObject (λ d es e. D.run d es e) (λ d s. D.shows d s) h.n at bytes.now)
+        (WritesObject D.run D.shows h.n at bytes.now)
         NeverLacks
-        (Declines (λ d es e. D.run d es e) (λ d s. D.shows d s) h.n at (length bytes.now))
-        (Brings (λ d es e. D.run d es e) (λ d s. D.shows d s) (D.settings desk.old) h.n)
-        (BringLacks (λ d es e. D.run d es e) (λ d s. D.shows d s) (D.settings desk.old) h.n)
+        (Declines D.run D.shows h.n at (length bytes.now))
+        (Brings D.run D.shows (D.settings desk.old) h.n)
+        (BringLacks D.run D.shows (D.settings desk.old) h.n)
         (record { desk = desk.old; far = far.old }) (record { desk = desk.new; far = far.new })) }
 {
     let reply = write(desk, far, h, at, bytes)?;
@@ -220,10 +220,10 @@ pub(crate) fn swap_object<D: Desk>(
         × (far.old.counts.keys + 2 ^ 18 < 2 ^ 62) }
     requires given { far.old.nodes.given + 16 < 2 ^ 64 }
     requires sound { (s : Shown) × D.shows desk.old s × Sound s far.old }
-    ensures comes { IfOk result (λ reply. ComesIn (λ d es e. D.run d es e) (λ d s. D.shows d s)
+    ensures comes { IfOk result (λ reply. ComesIn D.run D.shows
         (D.settings desk.old) h.n (record { desk = desk.old; far = far.old }) reply
         (record { desk = desk.new; far = far.new })) }
-    ensures error { OnErr result (ComeLacks (λ d es e. D.run d es e) (λ d s. D.shows d s)
+    ensures error { OnErr result (ComeLacks D.run D.shows
         (D.settings desk.old) h.n (record { desk = desk.old; far = far.old })
         (record { desk = desk.new; far = far.new })) }
     ensures settings { D.settings desk.new ≡ D.settings desk.old }

@@ -19,7 +19,7 @@ pub(crate) fn find<D: Desk>(desk: &mut D, far: &Far, h: Handle) -> Reply
     requires sound { (s : Shown) × D.shows desk.old s × Sound s far.now }
     ensures away { result ≡ answer.NotHere → (s : Shown) → D.shows desk.old s
         → (len v : ℕ) × (words : List ℕ) × (object_at s h.n ≡ is.Far len v words) }
-    ensures finds { FindsWhere (λ d es e. D.run d es e) (λ d s. D.shows d s) h.n
+    ensures finds { FindsWhere D.run D.shows h.n
         (record { desk = desk.old; far = far.now }) result
         (record { desk = desk.new; far = far.now }) }
 {
@@ -48,7 +48,7 @@ pub(crate) fn decline<D: Desk>(
     requires sound { (s : Shown) × D.shows desk.old s × Sound s far.now }
     requires away { (s : Shown) × D.shows desk.old s
         × ((len v : ℕ) × (words : List ℕ) × (object_at s h.n ≡ is.Far len v words)) }
-    ensures declines { Declines (λ d es e. D.run d es e) (λ d s. D.shows d s) h.n at
+    ensures declines { Declines D.run D.shows h.n at
         (length bytes.now) (record { desk = desk.old; far = far.now }) result
         (record { desk = desk.new; far = far.now }) }
 {

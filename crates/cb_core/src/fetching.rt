@@ -47,15 +47,15 @@ pub fn fetch<D: Desk>(
     requires counted { AreCounted far.old }
     requires sound { (s : Shown) × D.shows desk.old s × Sound s far.old }
     ensures turned { IfOk result (λ g. (order : Option Kept) → TurnedWith
-        (λ d es e. D.run d es e) (λ d s. D.shows d s) (D.settings desk.old) (job.Fetch h) order
+        D.run D.shows (D.settings desk.old) (job.Fetch h) order
         (record { desk = desk.old; far = far.old }) (fetching_reply g) (fetching_order order g)
         (record { desk = desk.new; far = far.new })) }
     ensures unavailable { IfOk result (λ g.
         TurnTells (job.Fetch h) far.old (fetching_reply g)) }
-    ensures error { OnErr result ((order : Option Kept) → StoppedWith (λ d es e. D.run d es e)
-        (λ d s. D.shows d s) (D.settings desk.old) (job.Fetch h) order
+    ensures error { OnErr result ((order : Option Kept) → StoppedWith D.run
+        D.shows (D.settings desk.old) (job.Fetch h) order
         (record { desk = desk.old; far = far.old }) (record { desk = desk.new; far = far.new })) }
-    ensures leaves { HandsOrder (λ d es e. D.run d es e) (λ d s. D.shows d s) (D.settings desk.old)
+    ensures leaves { HandsOrder D.run D.shows (D.settings desk.old)
         (record { desk = desk.old; far = far.old }) (record { desk = desk.new; far = far.new })
         (fetch_hands result) }
 {
@@ -71,9 +71,9 @@ fn hand_rows<D: Desk>(desk: &mut D, far: &mut Far, h: Handle) -> Result<Fetching
     requires handle { h.n < (D.settings desk.old).handles }
     requires given { far.old.nodes.given + 16 < 2 ^ 64 }
     requires sound { (s : Shown) × D.shows desk.old s × Sound s far.old }
-    ensures fetches { IfOk result (λ g. FetchRun (λ d es e. D.run d es e) (λ d s. D.shows d s) h.n
+    ensures fetches { IfOk result (λ g. FetchRun D.run D.shows h.n
         (record { desk = desk.old; far = far.old }) g (record { desk = desk.new; far = far.new })) }
-    ensures error { OnErr result (FetchStops (λ d es e. D.run d es e) (λ d s. D.shows d s) h.n
+    ensures error { OnErr result (FetchStops D.run D.shows h.n
         (record { desk = desk.old; far = far.old }) (record { desk = desk.new; far = far.new })) }
     ensures sound { (s : Shown) → Sound s far.old → Sound s far.new }
     ensures kept { IfOk result (λ g. (s : Shown) → Sound s far.old
@@ -125,16 +125,16 @@ pub fn land<D: Desk>(
         × KeepsOrder s far.old (done_order done) }
     ensures turned { IfOk result (λ reply. (order : Option Kept)
         → decode_in order ≡ done_order done.entry → TurnedWith
-        (λ d es e. D.run d es e) (λ d s. D.shows d s) (D.settings desk.old) job.Land order
+        D.run D.shows (D.settings desk.old) job.Land order
         (record { desk = desk.old; far = far.old }) reply (landed_order order reply)
         (record { desk = desk.new; far = far.new })) }
     ensures no_frame { IfOk result (λ reply. reply ≡ answer.NoFrame → ⊥) }
     ensures unavailable { IfOk result (λ reply. LandTells (done_order done.entry) far.old reply) }
     ensures error { OnErr result ((order : Option Kept) → decode_in order ≡ done_order done.entry
-        → StoppedWith (λ d es e. D.run d es e)
-        (λ d s. D.shows d s) (D.settings desk.old) job.Land order
+        → StoppedWith D.run
+        D.shows (D.settings desk.old) job.Land order
         (record { desk = desk.old; far = far.old }) (record { desk = desk.new; far = far.new })) }
-    ensures leaves { TurnLeaves (λ d es e. D.run d es e) (λ d s. D.shows d s) (D.settings desk.old)
+    ensures leaves { TurnLeaves D.run D.shows (D.settings desk.old)
         (record { desk = desk.old; far = far.old }) (record { desk = desk.new; far = far.new })
         (λ more. more ≡ []) }
 {

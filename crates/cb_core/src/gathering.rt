@@ -33,13 +33,13 @@ pub fn gather<D: Desk>(alloc: Global, desk: &mut D, far: &mut Far) -> Result<Gat
     requires counted { AreCounted far.old }
     requires sound { (s : Shown) × D.shows desk.old s × Sound s far.old }
     ensures turned { IfOk result (λ g. (order : Option Kept) → TurnedWith
-        (λ d es e. D.run d es e) (λ d s. D.shows d s) (D.settings desk.old) job.Gather order
+        D.run D.shows (D.settings desk.old) job.Gather order
         (record { desk = desk.old; far = far.old }) (gathered_reply g) (gathered_order order g)
         (record { desk = desk.new; far = far.new })) }
-    ensures error { OnErr result ((order : Option Kept) → StoppedWith (λ d es e. D.run d es e)
-        (λ d s. D.shows d s) (D.settings desk.old) job.Gather order
+    ensures error { OnErr result ((order : Option Kept) → StoppedWith D.run
+        D.shows (D.settings desk.old) job.Gather order
         (record { desk = desk.old; far = far.old }) (record { desk = desk.new; far = far.new })) }
-    ensures leaves { HandsOrder (λ d es e. D.run d es e) (λ d s. D.shows d s) (D.settings desk.old)
+    ensures leaves { HandsOrder D.run D.shows (D.settings desk.old)
         (record { desk = desk.old; far = far.old }) (record { desk = desk.new; far = far.new })
         (gather_hands result) }
 {

@@ -47,10 +47,10 @@ pub(crate) fn turn_with<D: Desk>(
     requires sound { (s : Shown) × D.shows desk.old s × Sound s far.old }
     requires kept { (s : Shown) → D.shows desk.old s → Sound s far.old
         → KeepsOrder s far.old order }
-    ensures ends { EndsWith (λ d es e. D.run d es e) (λ d s. D.shows d s) (D.settings desk.old)
+    ensures ends { EndsWith D.run D.shows (D.settings desk.old)
         job.now order (record { desk = desk.old; far = far.old }) result.0 result.1
         (record { desk = desk.new; far = far.new }) }
-    ensures leaves { LeavesWith (λ d es e. D.run d es e) (λ d s. D.shows d s)
+    ensures leaves { LeavesWith D.run D.shows
         (D.settings desk.old) (record { desk = desk.old; far = far.old })
         (record { desk = desk.new; far = far.new }) order result.0 }
 {
@@ -74,7 +74,7 @@ fn gather_with<D: Desk>(
     requires configured { IsConfigured (D.settings desk.old) far.old }
     requires counted { AreCounted far.old }
     requires sound { (s : Shown) × D.shows desk.old s × Sound s far.old }
-    ensures turned { TurnsWith (λ d es e. D.run d es e) (λ d s. D.shows d s)
+    ensures turned { TurnsWith D.run D.shows
         (D.settings desk.old) job.Gather order
         (record { desk = desk.old; far = far.old }) result.0 result.1
         (record { desk = desk.new; far = far.new }) }
@@ -114,7 +114,7 @@ fn fetch_with<D: Desk>(
     requires handle { h.n < (D.settings desk.old).handles }
     requires counted { AreCounted far.old }
     requires sound { (s : Shown) × D.shows desk.old s × Sound s far.old }
-    ensures turned { TurnsWith (λ d es e. D.run d es e) (λ d s. D.shows d s)
+    ensures turned { TurnsWith D.run D.shows
         (D.settings desk.old) (job.Fetch h) order
         (record { desk = desk.old; far = far.old }) result.0 result.1
         (record { desk = desk.new; far = far.new }) }
@@ -248,7 +248,7 @@ fn land_with<D: Desk>(
     requires counted { AreCounted far.old }
     requires kept { (s : Shown) × D.shows desk.old s × Sound s far.old
         × KeepsOrder s far.old order }
-    ensures turned { TurnsWith (λ d es e. D.run d es e) (λ d s. D.shows d s)
+    ensures turned { TurnsWith D.run D.shows
         (D.settings desk.old) job.Land order
         (record { desk = desk.old; far = far.old }) result.0 result.1
         (record { desk = desk.new; far = far.new }) }
@@ -278,7 +278,7 @@ fn land_run<D: Desk>(
     requires counted { AreCounted far.old }
     requires kept { (s : Shown) × D.shows desk.old s × Sound s far.old
         × IsDecodeKept far.old order }
-    ensures turned { TurnsWith (λ d es e. D.run d es e) (λ d s. D.shows d s)
+    ensures turned { TurnsWith D.run D.shows
         (D.settings desk.old) job.Land (Some (Decode order))
         (record { desk = desk.old; far = far.old }) result.0 result.1
         (record { desk = desk.new; far = far.new }) }
@@ -301,7 +301,7 @@ fn land_made<D: Desk>(
     requires counted { AreCounted far.old }
     requires kept { (s : Shown) × D.shows desk.old s × Sound s far.old
         × IsDecodeKept far.old done.order }
-    ensures turned { TurnsWith (λ d es e. D.run d es e) (λ d s. D.shows d s)
+    ensures turned { TurnsWith D.run D.shows
         (D.settings desk.old) job.Land (Some (Decode done.order))
         (record { desk = desk.old; far = far.old }) result.0 result.1
         (record { desk = desk.new; far = far.new }) }

@@ -32,14 +32,14 @@ pub fn bring_to_read<D: Desk>(desk: &mut D, far: &mut Far, h: Handle) -> Result<
     requires counted { AreCounted far.old }
     requires sound { (s : Shown) × D.shows desk.old s × Sound s far.old }
     ensures brought { IfOk result
-        (λ reply. BroughtToRead (λ d es e. D.run d es e) (λ d s. D.shows d s)
+        (λ reply. BroughtToRead D.run D.shows
         (D.settings desk.old) h (record { desk = desk.old; far = far.old }) reply
         (record { desk = desk.new; far = far.new })) }
     ensures no_frame { IfOk result (λ reply. reply ≡ answer.NoFrame → ⊥) }
-    ensures error { OnErr result (StoppedToRead (λ d es e. D.run d es e) (λ d s. D.shows d s)
+    ensures error { OnErr result (StoppedToRead D.run D.shows
         (D.settings desk.old) h (record { desk = desk.old; far = far.old })
         (record { desk = desk.new; far = far.new })) }
-    ensures leaves { TurnLeaves (λ d es e. D.run d es e) (λ d s. D.shows d s) (D.settings desk.old)
+    ensures leaves { TurnLeaves D.run D.shows (D.settings desk.old)
         (record { desk = desk.old; far = far.old }) (record { desk = desk.new; far = far.new })
         (λ more. more ≡ []) }
 {
@@ -65,14 +65,14 @@ pub(crate) fn read_anywhere<D: Desk>(
     requires given { far.old.nodes.given + 16 < 2 ^ 64 }
     requires sound { (s : Shown) × D.shows desk.old s × Sound s far.old }
     ensures reads { IfOk result (λ reply. OnceHere
-        (ComesIn (λ d es e. D.run d es e) (λ d s. D.shows d s) (D.settings desk.old) h.n)
-        (Reads (λ d es e. D.run d es e) (λ d s. D.shows d s) h.n)
+        (ComesIn D.run D.shows (D.settings desk.old) h.n)
+        (Reads D.run D.shows h.n)
         (record { desk = desk.old; far = far.old }) reply
         (record { desk = desk.new; far = far.new })) }
     ensures error { OnErr result (OnceHereStops
-        (ComesIn (λ d es e. D.run d es e) (λ d s. D.shows d s) (D.settings desk.old) h.n)
-        (ComeLacks (λ d es e. D.run d es e) (λ d s. D.shows d s) (D.settings desk.old) h.n)
-        (ReadLacks (λ d es e. D.run d es e) (λ d s. D.shows d s) h.n)
+        (ComesIn D.run D.shows (D.settings desk.old) h.n)
+        (ComeLacks D.run D.shows (D.settings desk.old) h.n)
+        (ReadLacks D.run D.shows h.n)
         (record { desk = desk.old; far = far.old }) (record { desk = desk.new; far = far.new })) }
 {
     let place = swap_object(desk, far, h)?;

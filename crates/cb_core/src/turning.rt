@@ -51,16 +51,16 @@ pub fn turn<D: Desk>(
     requires order { NeedsNoOrder job.now }
     requires counted { AreCounted far.old }
     requires sound { (s : Shown) × D.shows desk.old s × Sound s far.old }
-    ensures turned { IfOk result (λ reply. Turned (λ d es e. D.run d es e) (λ d s. D.shows d s)
-        (Reads (λ d es e. D.run d es e) (λ d s. D.shows d s)) (D.settings desk.old) job.now
+    ensures turned { IfOk result (λ reply. Turned D.run D.shows
+        (Reads D.run D.shows) (D.settings desk.old) job.now
         (record { desk = desk.old; far = far.old }) reply
         (record { desk = desk.new; far = far.new })) }
     ensures no_frame { IfOk result (λ reply. reply ≡ answer.NoFrame → ⊥) }
     ensures unavailable { IfOk result (λ reply. TurnTells job.now far.old reply) }
-    ensures error { OnErr result (Stopped (λ d es e. D.run d es e) (λ d s. D.shows d s)
-        (ReadLacks (λ d es e. D.run d es e) (λ d s. D.shows d s)) (D.settings desk.old) job.now
+    ensures error { OnErr result (Stopped D.run D.shows
+        (ReadLacks D.run D.shows) (D.settings desk.old) job.now
         (record { desk = desk.old; far = far.old }) (record { desk = desk.new; far = far.new })) }
-    ensures leaves { TurnLeaves (λ d es e. D.run d es e) (λ d s. D.shows d s) (D.settings desk.old)
+    ensures leaves { TurnLeaves D.run D.shows (D.settings desk.old)
         (record { desk = desk.old; far = far.old }) (record { desk = desk.new; far = far.new })
         (OutcomeWrites job.now result) }
 {
@@ -97,12 +97,12 @@ fn work<D: Desk>(alloc: Global, desk: &mut D, far: &mut Far, job: &Job) -> Resul
     requires epoch { far.old.members.epoch < 2 ^ 62 }
     requires note { HoldsNoPair far.old }
     requires sound { (s : Shown) × D.shows desk.old s × Sound s far.old }
-    ensures does { IfOk result (λ reply. Does (λ d es e. D.run d es e) (λ d s. D.shows d s)
-        (Reads (λ d es e. D.run d es e) (λ d s. D.shows d s)) (D.settings desk.old) job.now
+    ensures does { IfOk result (λ reply. Does D.run D.shows
+        (Reads D.run D.shows) (D.settings desk.old) job.now
         (record { desk = desk.old; far = far.old }) reply
         (record { desk = desk.new; far = far.new })) }
-    ensures error { OnErr result (Stops (λ d es e. D.run d es e) (λ d s. D.shows d s)
-        (ReadLacks (λ d es e. D.run d es e) (λ d s. D.shows d s)) (D.settings desk.old) job.now
+    ensures error { OnErr result (Stops D.run D.shows
+        (ReadLacks D.run D.shows) (D.settings desk.old) job.now
         (record { desk = desk.old; far = far.old }) (record { desk = desk.new; far = far.new })) }
 {
     match job {

@@ -29,7 +29,7 @@ fn ask<D: Desk>(desk: &mut D, far: &mut Far, asked: &Asked<'_>) -> Outcome
     requires sound { (s : Shown) × D.shows desk.old s × Sound s far.old }
     requires kept { (s : Shown) → D.shows desk.old s → Sound s far.old
         → KeepsOrder s far.old (order_run asked.now) }
-    ensures { AsksDesk (λ d es e. D.run d es e) (λ d s. D.shows d s) (D.settings desk.old) asked.now
+    ensures { AsksDesk D.run D.shows (D.settings desk.old) asked.now
         result (record { desk = desk.old; far = far.old })
         (record { desk = desk.new; far = far.new }) }
 {

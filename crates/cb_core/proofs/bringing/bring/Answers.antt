@@ -13,10 +13,10 @@ use Rattle.cb_core.proofs.Winning.{few_drawn, room_lacks, room_refused, wins_mor
 use Rattle.cb_core.proofs.bringing.bring.Goals as goal
 
 pub loop-init : goal.loop-init
-loop-init g c = wins_none (λ d es e. g.D.Desk.run d es e) (λ d s. g.D.Desk.shows d s)
+loop-init g c = wins_none g.D.Desk.run g.D.Desk.shows
     (λ d. g.D.Desk.settings d) (g.D.Desk.settings c.args.desk.now)
-    (Swaps (λ d es e. g.D.Desk.run d es e) (λ d s. g.D.Desk.shows d s) c.args.h.n)
-    (SwapLacks (λ d es e. g.D.Desk.run d es e) c.args.h.n)
+    (Swaps g.D.Desk.run g.D.Desk.shows c.args.h.n)
+    (SwapLacks g.D.Desk.run c.args.h.n)
     (holding c.args.desk.now c.args.far.now) c.requires.config refl c.requires.configured
     c.requires.sound
 
@@ -45,7 +45,7 @@ returns-in_err-swapped-clause-error g c =
     ∙ sym c.at.ensures.home ∙ c.unwrap-home.ensures in
     let w = c.loop.invariant in
     any_err _ c.from_residual.result (w.stops (holding c.swap_in.new.desk c.swap_in.new.far)
-    (lacks_at_once (swap_lacks (λ d es e. g.D.Desk.run d es e) (λ d s. g.D.Desk.shows d s)
+    (lacks_at_once (swap_lacks g.D.Desk.run g.D.Desk.shows
     c.args.h.n
     c.unwrap-home.result (holding c.loop.desk c.loop.far)
     (holding c.swap_in.new.desk c.swap_in.new.far)
@@ -89,10 +89,10 @@ win_room-requires-clause-configured g c =
 
 pub win_room-requires-clause-counts : goal.win_room-requires-clause-counts
 win_room-requires-clause-counts g c = let x = c.in_ok-swapped.ensures.swap in
-    few_drawn (λ d es e. g.D.Desk.run d es e) (λ d s. g.D.Desk.shows d s)
+    few_drawn g.D.Desk.run g.D.Desk.shows
     (λ d. g.D.Desk.settings d) (g.D.Desk.settings c.args.desk.now)
-    (Swaps (λ d es e. g.D.Desk.run d es e) (λ d s. g.D.Desk.shows d s) c.args.h.n)
-    (SwapLacks (λ d es e. g.D.Desk.run d es e) c.args.h.n)
+    (Swaps g.D.Desk.run g.D.Desk.shows c.args.h.n)
+    (SwapLacks g.D.Desk.run c.args.h.n)
     (holding c.args.desk.now c.args.far.now) (holding c.loop.desk c.loop.far)
     c.loop.counter c.loop.invariant c.requires.counts c.swap_in.new.far
     (swap_crammed _ _ c.loop.far c.swap_in.new.far c.in_ok-swapped.swapped x.events x.rule
@@ -107,10 +107,10 @@ returns-in_err-refusal-clause-error g c =
     let at = ap (λ (q : FarState). home_at q.homes c.args.h.n) (sym c.far.view_is)
     ∙ sym c.at.ensures.home ∙ c.unwrap-home.ensures in
     let x = c.in_ok-swapped.ensures.swap in let w = c.loop.invariant in
-    room_lacks (λ d es e. g.D.Desk.run d es e) (λ d s. g.D.Desk.shows d s)
+    room_lacks g.D.Desk.run g.D.Desk.shows
     (λ d. g.D.Desk.settings d) (g.D.Desk.settings c.args.desk.now)
-    (Swaps (λ d es e. g.D.Desk.run d es e) (λ d s. g.D.Desk.shows d s) c.args.h.n)
-    (SwapLacks (λ d es e. g.D.Desk.run d es e) c.args.h.n)
+    (Swaps g.D.Desk.run g.D.Desk.shows c.args.h.n)
+    (SwapLacks g.D.Desk.run c.args.h.n)
     (holding c.args.desk.now c.args.far.now) (holding c.loop.desk c.loop.far)
     c.loop.counter w (holding c.swap_in.new.desk c.swap_in.new.far) c.in_ok-swapped.swapped
     (c.unwrap-home.result, w.homes c.args.h.n c.unwrap-home.result at, x)
@@ -130,17 +130,17 @@ returns-in-Some-clause-brings g c =
     let at = ap (λ (q : FarState). home_at q.homes c.args.h.n) (sym c.far.view_is)
     ∙ sym c.at.ensures.home ∙ c.unwrap-home.ensures in
     let x = c.in_ok-swapped.ensures.swap in let w = c.loop.invariant in
-    room_refused (λ d es e. g.D.Desk.run d es e) (λ d s. g.D.Desk.shows d s)
+    room_refused g.D.Desk.run g.D.Desk.shows
     (λ d. g.D.Desk.settings d) (g.D.Desk.settings c.args.desk.now)
-    (Swaps (λ d es e. g.D.Desk.run d es e) (λ d s. g.D.Desk.shows d s) c.args.h.n)
-    (SwapLacks (λ d es e. g.D.Desk.run d es e) c.args.h.n)
+    (Swaps g.D.Desk.run g.D.Desk.shows c.args.h.n)
+    (SwapLacks g.D.Desk.run c.args.h.n)
     (holding c.args.desk.now c.args.far.now) (holding c.loop.desk c.loop.far)
     c.loop.counter w (holding c.swap_in.new.desk c.swap_in.new.far) c.in_ok-swapped.swapped
     (c.unwrap-home.result, w.homes c.args.h.n c.unwrap-home.result at, x)
     (c.is_no_frame.ensures.yes c.if-not-is_no_frame.false)
     (holding c.win_room.new.desk c.win_room.new.far) c.in_ok-refusal.field-0 c.in-Some.refusal
-    (subst (λ (k : Config). TriesRoom (λ d es e. g.D.Desk.run d es e)
-    (λ d s. g.D.Desk.shows d s) k (holding c.swap_in.new.desk c.swap_in.new.far)
+    (subst (λ (k : Config). TriesRoom g.D.Desk.run
+    g.D.Desk.shows k (holding c.swap_in.new.desk c.swap_in.new.far)
     c.in_ok-refusal.field-0 (holding c.win_room.new.desk c.win_room.new.far))
     (g.met.D.Desk.stays _ _ x.events x.ran ∙ w.desk_settings) c.in_ok-refusal.ensures.tries)
     c.in-Some.is
@@ -164,10 +164,10 @@ loop-preserved g c =
     let at = ap (λ (q : FarState). home_at q.homes c.args.h.n) (sym c.far.view_is)
     ∙ sym c.at.ensures.home ∙ c.unwrap-home.ensures in
     let x = c.in_ok-swapped.ensures.swap in let w = c.loop.invariant in
-    wins_more (λ d es e. g.D.Desk.run d es e) (λ d s. g.D.Desk.shows d s)
+    wins_more g.D.Desk.run g.D.Desk.shows
     (λ d. g.D.Desk.settings d) (g.D.Desk.settings c.args.desk.now)
-    (Swaps (λ d es e. g.D.Desk.run d es e) (λ d s. g.D.Desk.shows d s) c.args.h.n)
-    (SwapLacks (λ d es e. g.D.Desk.run d es e) c.args.h.n)
+    (Swaps g.D.Desk.run g.D.Desk.shows c.args.h.n)
+    (SwapLacks g.D.Desk.run c.args.h.n)
     (holding c.args.desk.now c.args.far.now) (holding c.loop.desk c.loop.far)
     c.loop.counter w (holding c.swap_in.new.desk c.swap_in.new.far) c.in_ok-swapped.swapped
     (c.unwrap-home.result, w.homes c.args.h.n c.unwrap-home.result at, x)
@@ -179,8 +179,8 @@ loop-preserved g c =
     (c.is_no_frame.ensures.yes c.if-not-is_no_frame.false)).0
     (shown_after _ _ _ _ _ _ _ x (λ es s ran a. (g.met.D.Desk.follows _ _ es s ran a).1) w.shown)
     (holding c.win_room.new.desk c.win_room.new.far) c.in_ok-refusal.field-0
-    (subst (λ (k : Config). TriesRoom (λ d es e. g.D.Desk.run d es e)
-    (λ d s. g.D.Desk.shows d s) k (holding c.swap_in.new.desk c.swap_in.new.far)
+    (subst (λ (k : Config). TriesRoom g.D.Desk.run
+    g.D.Desk.shows k (holding c.swap_in.new.desk c.swap_in.new.far)
     c.in_ok-refusal.field-0 (holding c.win_room.new.desk c.win_room.new.far))
     (g.met.D.Desk.stays _ _ x.events x.ran ∙ w.desk_settings) c.in_ok-refusal.ensures.tries)
     c.in_default.is

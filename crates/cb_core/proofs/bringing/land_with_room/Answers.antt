@@ -14,10 +14,10 @@ use Rattle.cb_core.proofs.bringing.land_with_room.Goals as goal
 
 pub loop-init : goal.loop-init
 loop-init g c = let k = c.requires.kept in record {
-  wins = wins_none (λ d es e. g.D.Desk.run d es e) (λ d s. g.D.Desk.shows d s)
+  wins = wins_none g.D.Desk.run g.D.Desk.shows
       (λ d. g.D.Desk.settings d) (g.D.Desk.settings c.args.desk.now)
-      (Lands (λ d es e. g.D.Desk.run d es e) (λ d s. g.D.Desk.shows d s) (done_order c.args.done))
-      (NothingDone (λ d es e. g.D.Desk.run d es e)) (holding c.args.desk.now c.args.far.now)
+      (Lands g.D.Desk.run g.D.Desk.shows (done_order c.args.done))
+      (NothingDone g.D.Desk.run) (holding c.args.desk.now c.args.far.now)
       c.requires.config refl c.requires.configured (k.0, k.1, k.2);
   kept = λ t. any_kept c.args.done c.args.far.now k.0 t k.3;
 }
@@ -34,7 +34,7 @@ pub returns-in_err-landed-clause-error : goal.returns-in_err-landed-clause-error
 returns-in_err-landed-clause-error g c =
     any_err _ c.from_residual.result (c.loop.invariant.wins.stops
     (holding c.land.new.desk c.land.new.far)
-    (lacks_at_once (lands_nothing (λ d es e. g.D.Desk.run d es e) (λ d s. g.D.Desk.shows d s)
+    (lacks_at_once (lands_nothing g.D.Desk.run g.D.Desk.shows
     (λ d. g.D.Desk.settings d) (g.D.Desk.settings c.args.desk.now) (holding c.loop.desk c.loop.far)
     (holding c.land.new.desk c.land.new.far) (λ d. g.met.D.Desk.none d)
     c.in_err-landed.ensures.desk c.in_err-landed.ensures.far)))
@@ -60,10 +60,10 @@ win_room-requires-clause-configured g c =
 
 pub win_room-requires-clause-counts : goal.win_room-requires-clause-counts
 win_room-requires-clause-counts g c = let x = c.in_ok-landed.ensures.land in
-    few_drawn (λ d es e. g.D.Desk.run d es e) (λ d s. g.D.Desk.shows d s)
+    few_drawn g.D.Desk.run g.D.Desk.shows
     (λ d. g.D.Desk.settings d) (g.D.Desk.settings c.args.desk.now)
-    (Lands (λ d es e. g.D.Desk.run d es e) (λ d s. g.D.Desk.shows d s) (done_order c.args.done))
-    (NothingDone (λ d es e. g.D.Desk.run d es e))
+    (Lands g.D.Desk.run g.D.Desk.shows (done_order c.args.done))
+    (NothingDone g.D.Desk.run)
     (holding c.args.desk.now c.args.far.now) (holding c.loop.desk c.loop.far)
     c.loop.counter c.loop.invariant.wins c.requires.counts c.land.new.far
     (land_crammed _ c.loop.far c.land.new.far c.in_ok-landed.landed x.events x.rule
@@ -75,10 +75,10 @@ win_room-requires-clause-sound g c = shown_after _ _ _ _ _ _ _ c.in_ok-landed.en
 
 pub returns-in_err-refusal-clause-error : goal.returns-in_err-refusal-clause-error
 returns-in_err-refusal-clause-error g c =
-    room_lacks (λ d es e. g.D.Desk.run d es e) (λ d s. g.D.Desk.shows d s)
+    room_lacks g.D.Desk.run g.D.Desk.shows
     (λ d. g.D.Desk.settings d) (g.D.Desk.settings c.args.desk.now)
-    (Lands (λ d es e. g.D.Desk.run d es e) (λ d s. g.D.Desk.shows d s) (done_order c.args.done))
-    (NothingDone (λ d es e. g.D.Desk.run d es e))
+    (Lands g.D.Desk.run g.D.Desk.shows (done_order c.args.done))
+    (NothingDone g.D.Desk.run)
     (holding c.args.desk.now c.args.far.now) (holding c.loop.desk c.loop.far)
     c.loop.counter c.loop.invariant.wins (holding c.land.new.desk c.land.new.far)
     c.in_ok-landed.landed c.in_ok-landed.ensures.land
@@ -89,16 +89,16 @@ returns-in_err-refusal-clause-error g c =
 pub returns-in-Some-clause-lands : goal.returns-in-Some-clause-lands
 returns-in-Some-clause-lands g c =
     let x = c.in_ok-landed.ensures.land in let w = c.loop.invariant.wins in
-    room_refused (λ d es e. g.D.Desk.run d es e) (λ d s. g.D.Desk.shows d s)
+    room_refused g.D.Desk.run g.D.Desk.shows
     (λ d. g.D.Desk.settings d) (g.D.Desk.settings c.args.desk.now)
-    (Lands (λ d es e. g.D.Desk.run d es e) (λ d s. g.D.Desk.shows d s) (done_order c.args.done))
-    (NothingDone (λ d es e. g.D.Desk.run d es e))
+    (Lands g.D.Desk.run g.D.Desk.shows (done_order c.args.done))
+    (NothingDone g.D.Desk.run)
     (holding c.args.desk.now c.args.far.now) (holding c.loop.desk c.loop.far)
     c.loop.counter w (holding c.land.new.desk c.land.new.far) c.in_ok-landed.landed x
     (c.is_no_frame.ensures.yes c.if-not-is_no_frame.false)
     (holding c.win_room.new.desk c.win_room.new.far) c.in_ok-refusal.field-0 c.in-Some.refusal
-    (subst (λ (k : Config). TriesRoom (λ d es e. g.D.Desk.run d es e)
-    (λ d s. g.D.Desk.shows d s) k (holding c.land.new.desk c.land.new.far)
+    (subst (λ (k : Config). TriesRoom g.D.Desk.run
+    g.D.Desk.shows k (holding c.land.new.desk c.land.new.far)
     c.in_ok-refusal.field-0 (holding c.win_room.new.desk c.win_room.new.far))
     (g.met.D.Desk.stays _ _ x.events x.ran ∙ w.desk_settings) c.in_ok-refusal.ensures.tries)
     c.in-Some.is
@@ -110,15 +110,15 @@ loop-preserved g c =
     let same = land_crammed _ c.loop.far c.land.new.far c.in_ok-landed.landed x.events x.rule full in
     let known = shown_after _ _ _ _ _ _ _ x (λ es s ran a. (g.met.D.Desk.follows _ _ es s ran a).1)
     w.shown in
-    let tries = subst (λ (k : Config). TriesRoom (λ d es e. g.D.Desk.run d es e)
-    (λ d s. g.D.Desk.shows d s) k (holding c.land.new.desk c.land.new.far)
+    let tries = subst (λ (k : Config). TriesRoom g.D.Desk.run
+    g.D.Desk.shows k (holding c.land.new.desk c.land.new.far)
     c.in_ok-refusal.field-0 (holding c.win_room.new.desk c.win_room.new.far))
     (g.met.D.Desk.stays _ _ x.events x.ran ∙ w.desk_settings) c.in_ok-refusal.ensures.tries in record {
-      wins = wins_more (λ d es e. g.D.Desk.run d es e) (λ d s. g.D.Desk.shows d s)
+      wins = wins_more g.D.Desk.run g.D.Desk.shows
           (λ d. g.D.Desk.settings d) (g.D.Desk.settings c.args.desk.now)
-          (Lands (λ d es e. g.D.Desk.run d es e) (λ d s. g.D.Desk.shows d s)
+          (Lands g.D.Desk.run g.D.Desk.shows
           (done_order c.args.done))
-          (NothingDone (λ d es e. g.D.Desk.run d es e))
+          (NothingDone g.D.Desk.run)
           (holding c.args.desk.now c.args.far.now) (holding c.loop.desk c.loop.far)
           c.loop.counter w (holding c.land.new.desk c.land.new.far) c.in_ok-landed.landed x full
           (λ d e es ran. g.met.D.Desk.stays d e es ran)
@@ -126,7 +126,7 @@ loop-preserved g c =
           (g.met.D.Desk.stays _ _ x.events x.ran ∙ w.desk_settings) same known
           (holding c.win_room.new.desk c.win_room.new.far) c.in_ok-refusal.field-0 tries
           c.in_default.is;
-      kept = evicted_kept (λ d es e. g.D.Desk.run d es e) (λ d s. g.D.Desk.shows d s)
+      kept = evicted_kept g.D.Desk.run g.D.Desk.shows
           (λ d. g.D.Desk.settings d) (g.D.Desk.settings c.args.desk.now) c.args.done
           (holding c.loop.desk c.loop.far) (holding c.land.new.desk c.land.new.far)
           (holding c.win_room.new.desk c.win_room.new.far) c.in_ok-refusal.field-0 same known tries

@@ -11,11 +11,11 @@ use Rattle.cb_core.proofs.Winning.{few_drawn, room_lacks, room_refused, wins_mor
 use Rattle.cb_core.proofs.bringing.make_with_room.Goals as goal
 
 pub loop-init : goal.loop-init
-loop-init g c = wins_none (λ d es e. g.D.Desk.run d es e) (λ d s. g.D.Desk.shows d s)
+loop-init g c = wins_none g.D.Desk.run g.D.Desk.shows
     (λ d. g.D.Desk.settings d) (g.D.Desk.settings c.args.desk.now)
-    (Makes (λ d es e. g.D.Desk.run d es e) (λ d s. g.D.Desk.shows d s)
+    (Makes g.D.Desk.run g.D.Desk.shows
     (g.D.Desk.settings c.args.desk.now) c.args.bytes.now)
-    (MakeLacks (λ d es e. g.D.Desk.run d es e)
+    (MakeLacks g.D.Desk.run
     (g.D.Desk.settings c.args.desk.now) c.args.bytes.now)
     (holding c.args.desk.now c.args.far.now) c.requires.config refl c.requires.configured
     c.requires.sound
@@ -30,7 +30,7 @@ make-requires-clause-sound g c = c.loop.invariant.shown
 pub returns-in_err-reply-clause-error : goal.returns-in_err-reply-clause-error
 returns-in_err-reply-clause-error g c = let w = c.loop.invariant in
     any_err _ c.from_residual.result (w.stops (holding c.make.new.desk c.make.new.far)
-    (lacks_at_once (make_lacks (λ d es e. g.D.Desk.run d es e) (g.D.Desk.settings c.args.desk.now)
+    (lacks_at_once (make_lacks g.D.Desk.run (g.D.Desk.settings c.args.desk.now)
     (g.D.Desk.settings c.loop.desk) c.args.bytes.now (holding c.loop.desk c.loop.far)
     (holding c.make.new.desk c.make.new.far) (λ d. g.met.D.Desk.none d) w.desk_settings
     c.in_err-reply.ensures.error)))
@@ -38,7 +38,7 @@ returns-in_err-reply-clause-error g c = let w = c.loop.invariant in
 pub returns-then-not-is_no_frame-clause-makes : goal.returns-then-not-is_no_frame-clause-makes
 returns-then-not-is_no_frame-clause-makes g c = let w = c.loop.invariant in
     w.goes c.in_ok-reply.reply (holding c.make.new.desk c.make.new.far)
-    (at_once (makes_as (λ d es e. g.D.Desk.run d es e) (λ d s. g.D.Desk.shows d s)
+    (at_once (makes_as g.D.Desk.run g.D.Desk.shows
     (g.D.Desk.settings c.args.desk.now) (g.D.Desk.settings c.loop.desk) c.args.bytes.now
     (holding c.loop.desk c.loop.far) (holding c.make.new.desk c.make.new.far) c.in_ok-reply.reply
     c.in_ok-reply.reply w.desk_settings refl c.in_ok-reply.ensures.make)
@@ -59,11 +59,11 @@ win_room-requires-clause-configured g c =
 
 pub win_room-requires-clause-counts : goal.win_room-requires-clause-counts
 win_room-requires-clause-counts g c = let x = c.in_ok-reply.ensures.make in
-    few_drawn (λ d es e. g.D.Desk.run d es e) (λ d s. g.D.Desk.shows d s)
+    few_drawn g.D.Desk.run g.D.Desk.shows
     (λ d. g.D.Desk.settings d) (g.D.Desk.settings c.args.desk.now)
-    (Makes (λ d es e. g.D.Desk.run d es e) (λ d s. g.D.Desk.shows d s)
+    (Makes g.D.Desk.run g.D.Desk.shows
     (g.D.Desk.settings c.args.desk.now) c.args.bytes.now)
-    (MakeLacks (λ d es e. g.D.Desk.run d es e)
+    (MakeLacks g.D.Desk.run
     (g.D.Desk.settings c.args.desk.now) c.args.bytes.now)
     (holding c.args.desk.now c.args.far.now) (holding c.loop.desk c.loop.far)
     c.loop.counter c.loop.invariant c.requires.counts c.make.new.far
@@ -77,15 +77,15 @@ win_room-requires-clause-sound g c = shown_after _ _ _ _ _ _ _ c.in_ok-reply.ens
 pub returns-in_err-refusal-clause-error : goal.returns-in_err-refusal-clause-error
 returns-in_err-refusal-clause-error g c =
     let x = c.in_ok-reply.ensures.make in let w = c.loop.invariant in
-    room_lacks (λ d es e. g.D.Desk.run d es e) (λ d s. g.D.Desk.shows d s)
+    room_lacks g.D.Desk.run g.D.Desk.shows
     (λ d. g.D.Desk.settings d) (g.D.Desk.settings c.args.desk.now)
-    (Makes (λ d es e. g.D.Desk.run d es e) (λ d s. g.D.Desk.shows d s)
+    (Makes g.D.Desk.run g.D.Desk.shows
     (g.D.Desk.settings c.args.desk.now) c.args.bytes.now)
-    (MakeLacks (λ d es e. g.D.Desk.run d es e)
+    (MakeLacks g.D.Desk.run
     (g.D.Desk.settings c.args.desk.now) c.args.bytes.now)
     (holding c.args.desk.now c.args.far.now) (holding c.loop.desk c.loop.far)
     c.loop.counter w (holding c.make.new.desk c.make.new.far) c.in_ok-reply.reply
-    (makes_as (λ d es e. g.D.Desk.run d es e) (λ d s. g.D.Desk.shows d s)
+    (makes_as g.D.Desk.run g.D.Desk.shows
     (g.D.Desk.settings c.args.desk.now) (g.D.Desk.settings c.loop.desk) c.args.bytes.now
     (holding c.loop.desk c.loop.far) (holding c.make.new.desk c.make.new.far) c.in_ok-reply.reply
     c.in_ok-reply.reply w.desk_settings refl x)
@@ -96,22 +96,22 @@ returns-in_err-refusal-clause-error g c =
 pub returns-in-Some-clause-makes : goal.returns-in-Some-clause-makes
 returns-in-Some-clause-makes g c =
     let x = c.in_ok-reply.ensures.make in let w = c.loop.invariant in
-    room_refused (λ d es e. g.D.Desk.run d es e) (λ d s. g.D.Desk.shows d s)
+    room_refused g.D.Desk.run g.D.Desk.shows
     (λ d. g.D.Desk.settings d) (g.D.Desk.settings c.args.desk.now)
-    (Makes (λ d es e. g.D.Desk.run d es e) (λ d s. g.D.Desk.shows d s)
+    (Makes g.D.Desk.run g.D.Desk.shows
     (g.D.Desk.settings c.args.desk.now) c.args.bytes.now)
-    (MakeLacks (λ d es e. g.D.Desk.run d es e)
+    (MakeLacks g.D.Desk.run
     (g.D.Desk.settings c.args.desk.now) c.args.bytes.now)
     (holding c.args.desk.now c.args.far.now) (holding c.loop.desk c.loop.far)
     c.loop.counter w (holding c.make.new.desk c.make.new.far) c.in_ok-reply.reply
-    (makes_as (λ d es e. g.D.Desk.run d es e) (λ d s. g.D.Desk.shows d s)
+    (makes_as g.D.Desk.run g.D.Desk.shows
     (g.D.Desk.settings c.args.desk.now) (g.D.Desk.settings c.loop.desk) c.args.bytes.now
     (holding c.loop.desk c.loop.far) (holding c.make.new.desk c.make.new.far) c.in_ok-reply.reply
     c.in_ok-reply.reply w.desk_settings refl x)
     (c.is_no_frame.ensures.yes c.if-not-is_no_frame.false)
     (holding c.win_room.new.desk c.win_room.new.far) c.in_ok-refusal.field-0 c.in-Some.refusal
-    (subst (λ (k : Config). TriesRoom (λ d es e. g.D.Desk.run d es e)
-    (λ d s. g.D.Desk.shows d s) k (holding c.make.new.desk c.make.new.far)
+    (subst (λ (k : Config). TriesRoom g.D.Desk.run
+    g.D.Desk.shows k (holding c.make.new.desk c.make.new.far)
     c.in_ok-refusal.field-0 (holding c.win_room.new.desk c.win_room.new.far))
     (g.met.D.Desk.stays _ _ x.events x.ran ∙ w.desk_settings) c.in_ok-refusal.ensures.tries)
     c.in-Some.is
@@ -119,15 +119,15 @@ returns-in-Some-clause-makes g c =
 pub loop-preserved : goal.loop-preserved
 loop-preserved g c =
     let x = c.in_ok-reply.ensures.make in let w = c.loop.invariant in
-    wins_more (λ d es e. g.D.Desk.run d es e) (λ d s. g.D.Desk.shows d s)
+    wins_more g.D.Desk.run g.D.Desk.shows
     (λ d. g.D.Desk.settings d) (g.D.Desk.settings c.args.desk.now)
-    (Makes (λ d es e. g.D.Desk.run d es e) (λ d s. g.D.Desk.shows d s)
+    (Makes g.D.Desk.run g.D.Desk.shows
     (g.D.Desk.settings c.args.desk.now) c.args.bytes.now)
-    (MakeLacks (λ d es e. g.D.Desk.run d es e)
+    (MakeLacks g.D.Desk.run
     (g.D.Desk.settings c.args.desk.now) c.args.bytes.now)
     (holding c.args.desk.now c.args.far.now) (holding c.loop.desk c.loop.far)
     c.loop.counter w (holding c.make.new.desk c.make.new.far) c.in_ok-reply.reply
-    (makes_as (λ d es e. g.D.Desk.run d es e) (λ d s. g.D.Desk.shows d s)
+    (makes_as g.D.Desk.run g.D.Desk.shows
     (g.D.Desk.settings c.args.desk.now) (g.D.Desk.settings c.loop.desk) c.args.bytes.now
     (holding c.loop.desk c.loop.far) (holding c.make.new.desk c.make.new.far) c.in_ok-reply.reply
     c.in_ok-reply.reply w.desk_settings refl x)
@@ -139,8 +139,8 @@ loop-preserved g c =
     (c.is_no_frame.ensures.yes c.if-not-is_no_frame.false)).0
     (shown_after _ _ _ _ _ _ _ x (λ es s ran a. (g.met.D.Desk.follows _ _ es s ran a).1) w.shown)
     (holding c.win_room.new.desk c.win_room.new.far) c.in_ok-refusal.field-0
-    (subst (λ (k : Config). TriesRoom (λ d es e. g.D.Desk.run d es e)
-    (λ d s. g.D.Desk.shows d s) k (holding c.make.new.desk c.make.new.far)
+    (subst (λ (k : Config). TriesRoom g.D.Desk.run
+    g.D.Desk.shows k (holding c.make.new.desk c.make.new.far)
     c.in_ok-refusal.field-0 (holding c.win_room.new.desk c.win_room.new.far))
     (g.met.D.Desk.stays _ _ x.events x.ran ∙ w.desk_settings) c.in_ok-refusal.ensures.tries)
     c.in_default.is

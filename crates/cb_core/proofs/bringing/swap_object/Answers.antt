@@ -17,11 +17,11 @@ bring-requires-clause-sound g c =
 pub returns-clause-comes : goal.returns-clause-comes
 returns-clause-comes g c =
     let x = c.find-place.ensures.finds in
-    comes_in (FindsWhere (λ d es e. g.D.Desk.run d es e) (λ d s. g.D.Desk.shows d s) c.args.h.n) (Brings (λ d es e. g.D.Desk.run d es e) (λ d s. g.D.Desk.shows d s) (g.D.Desk.settings c.args.desk.now) c.args.h.n)
+    comes_in (FindsWhere g.D.Desk.run g.D.Desk.shows c.args.h.n) (Brings g.D.Desk.run g.D.Desk.shows (g.D.Desk.settings c.args.desk.now) c.args.h.n)
     (holding c.args.desk.now c.args.far.now) (holding c.find-place.new.desk c.args.far.now)
     (holding c.bring.new.desk c.bring.new.far) c.find-place.result c.bring.result x
     (c.is_not_here.ensures.yes c.if-not-is_not_here.false)
-    (brings_as_if (λ d es e. g.D.Desk.run d es e) (λ d s. g.D.Desk.shows d s) (g.D.Desk.settings c.args.desk.now) (g.D.Desk.settings c.find-place.new.desk) c.args.h.n
+    (brings_as_if g.D.Desk.run g.D.Desk.shows (g.D.Desk.settings c.args.desk.now) (g.D.Desk.settings c.find-place.new.desk) c.args.h.n
     (holding c.find-place.new.desk c.args.far.now) (holding c.bring.new.desk c.bring.new.far)
     c.bring.result (g.met.D.Desk.stays _ _ x.events x.ran) c.bring.ensures.brings)
 
@@ -30,10 +30,10 @@ returns-clause-error g c =
     let x = c.find-place.ensures.finds in
     err_map _ _ c.bring.result c.bring.ensures.error (λ y. (
       holding c.find-place.new.desk c.args.far.now,
-      finds_as (λ d es e. g.D.Desk.run d es e) (λ d s. g.D.Desk.shows d s) c.args.h.n (holding c.args.desk.now c.args.far.now)
+      finds_as g.D.Desk.run g.D.Desk.shows c.args.h.n (holding c.args.desk.now c.args.far.now)
           (holding c.find-place.new.desk c.args.far.now) c.find-place.result _
           (c.is_not_here.ensures.yes c.if-not-is_not_here.false) x,
-      bring_lacks_as (λ d es e. g.D.Desk.run d es e) (λ d s. g.D.Desk.shows d s) (g.D.Desk.settings c.args.desk.now) (g.D.Desk.settings c.find-place.new.desk) c.args.h.n
+      bring_lacks_as g.D.Desk.run g.D.Desk.shows (g.D.Desk.settings c.args.desk.now) (g.D.Desk.settings c.find-place.new.desk) c.args.h.n
           (holding c.find-place.new.desk c.args.far.now) (holding c.bring.new.desk c.bring.new.far)
           (g.met.D.Desk.stays _ _ x.events x.ran) y,
     ))

@@ -37,8 +37,8 @@ decline-requires-clause-away g c =
 pub returns-in-Some-clause-writes : goal.returns-in-Some-clause-writes
 returns-in-Some-clause-writes g c =
     let x = c.in_ok-reply.ensures.write in
-    is_declined (WritesObject (λ d es e. g.D.Desk.run d es e) (λ d s. g.D.Desk.shows d s) c.args.h.n c.args.at c.args.bytes.now) (Declines (λ d es e. g.D.Desk.run d es e) (λ d s. g.D.Desk.shows d s) c.args.h.n c.args.at
-    (length c.args.bytes.now)) (Brings (λ d es e. g.D.Desk.run d es e) (λ d s. g.D.Desk.shows d s) (g.D.Desk.settings c.args.desk.now) c.args.h.n)
+    is_declined (WritesObject g.D.Desk.run g.D.Desk.shows c.args.h.n c.args.at c.args.bytes.now) (Declines g.D.Desk.run g.D.Desk.shows c.args.h.n c.args.at
+    (length c.args.bytes.now)) (Brings g.D.Desk.run g.D.Desk.shows (g.D.Desk.settings c.args.desk.now) c.args.h.n)
     (holding c.args.desk.now c.args.far.now) (holding c.write.new.desk c.write.new.far)
     (holding c.decline.new.desk c.write.new.far) c.in_ok-reply.reply c.in-Some.refusal
     (far_kept _ _ _ _ _ _ _ x c.in_ok-reply.ensures.far)
@@ -62,28 +62,28 @@ bring-requires-clause-sound g c =
 pub returns-in_err-came-clause-error : goal.returns-in_err-came-clause-error
 returns-in_err-came-clause-error g c =
     let x = c.in_ok-reply.ensures.write in let d = c.in_default.ensures.declines.1 in
-    far_stops (WritesObject (λ d es e. g.D.Desk.run d es e) (λ d s. g.D.Desk.shows d s) c.args.h.n c.args.at c.args.bytes.now) (Declines (λ d es e. g.D.Desk.run d es e) (λ d s. g.D.Desk.shows d s) c.args.h.n c.args.at
-    (length c.args.bytes.now)) (Brings (λ d es e. g.D.Desk.run d es e) (λ d s. g.D.Desk.shows d s) (g.D.Desk.settings c.args.desk.now) c.args.h.n)
+    far_stops (WritesObject g.D.Desk.run g.D.Desk.shows c.args.h.n c.args.at c.args.bytes.now) (Declines g.D.Desk.run g.D.Desk.shows c.args.h.n c.args.at
+    (length c.args.bytes.now)) (Brings g.D.Desk.run g.D.Desk.shows (g.D.Desk.settings c.args.desk.now) c.args.h.n)
     (holding c.args.desk.now c.args.far.now) (holding c.write.new.desk c.write.new.far)
     (holding c.decline.new.desk c.write.new.far) c.in_ok-reply.reply
     (far_kept _ _ _ _ _ _ _ x c.in_ok-reply.ensures.far)
-    (c.is_not_here.ensures.yes c.if-not-is_not_here.false) c.in_default.ensures.declines NeverLacks (BringLacks (λ d es e. g.D.Desk.run d es e) (λ d s. g.D.Desk.shows d s) (g.D.Desk.settings c.args.desk.now) c.args.h.n)
+    (c.is_not_here.ensures.yes c.if-not-is_not_here.false) c.in_default.ensures.declines NeverLacks (BringLacks g.D.Desk.run g.D.Desk.shows (g.D.Desk.settings c.args.desk.now) c.args.h.n)
     (holding c.bring.new.desk c.bring.new.far) c.from_residual-in_err-came.result
-    (bring_lacks_as (λ d es e. g.D.Desk.run d es e) (λ d s. g.D.Desk.shows d s) (g.D.Desk.settings c.args.desk.now) (g.D.Desk.settings c.decline.new.desk) c.args.h.n
+    (bring_lacks_as g.D.Desk.run g.D.Desk.shows (g.D.Desk.settings c.args.desk.now) (g.D.Desk.settings c.decline.new.desk) c.args.h.n
     (holding c.decline.new.desk c.write.new.far) (holding c.bring.new.desk c.bring.new.far)
     (g.met.D.Desk.stays _ _ d.events d.ran ∙ g.met.D.Desk.stays _ _ x.events x.ran) c.in_err-came.ensures.error)
 
 pub returns-then-not-is_swapped-clause-writes : goal.returns-then-not-is_swapped-clause-writes
 returns-then-not-is_swapped-clause-writes g c =
     let x = c.in_ok-reply.ensures.write in let d = c.in_default.ensures.declines.1 in
-    far_stays (WritesObject (λ d es e. g.D.Desk.run d es e) (λ d s. g.D.Desk.shows d s) c.args.h.n c.args.at c.args.bytes.now) (Declines (λ d es e. g.D.Desk.run d es e) (λ d s. g.D.Desk.shows d s) c.args.h.n c.args.at
-    (length c.args.bytes.now)) (Brings (λ d es e. g.D.Desk.run d es e) (λ d s. g.D.Desk.shows d s) (g.D.Desk.settings c.args.desk.now) c.args.h.n)
+    far_stays (WritesObject g.D.Desk.run g.D.Desk.shows c.args.h.n c.args.at c.args.bytes.now) (Declines g.D.Desk.run g.D.Desk.shows c.args.h.n c.args.at
+    (length c.args.bytes.now)) (Brings g.D.Desk.run g.D.Desk.shows (g.D.Desk.settings c.args.desk.now) c.args.h.n)
     (holding c.args.desk.now c.args.far.now) (holding c.write.new.desk c.write.new.far)
     (holding c.decline.new.desk c.write.new.far) c.in_ok-reply.reply
     (far_kept _ _ _ _ _ _ _ x c.in_ok-reply.ensures.far)
     (c.is_not_here.ensures.yes c.if-not-is_not_here.false) c.in_default.ensures.declines
     (holding c.bring.new.desk c.bring.new.far) c.in_ok-came.came
-    (brings_as (λ d es e. g.D.Desk.run d es e) (λ d s. g.D.Desk.shows d s) (g.D.Desk.settings c.args.desk.now) (g.D.Desk.settings c.decline.new.desk) c.args.h.n
+    (brings_as g.D.Desk.run g.D.Desk.shows (g.D.Desk.settings c.args.desk.now) (g.D.Desk.settings c.decline.new.desk) c.args.h.n
     (holding c.decline.new.desk c.write.new.far) (holding c.bring.new.desk c.bring.new.far)
     c.in_ok-came.came (g.met.D.Desk.stays _ _ d.events d.ran ∙ g.met.D.Desk.stays _ _ x.events x.ran) c.in_ok-came.ensures.brings)
     (c.is_swapped.ensures.other c.if-not-is_swapped.true)
@@ -98,24 +98,24 @@ pub returns-clause-writes : goal.returns-clause-writes
 returns-clause-writes g c =
     let x = c.in_ok-reply.ensures.write in let d = c.in_default.ensures.declines.1 in
     let is = c.is_swapped.ensures.yes c.if-not-is_swapped.false in
-    far_comes (WritesObject (λ d es e. g.D.Desk.run d es e) (λ d s. g.D.Desk.shows d s) c.args.h.n c.args.at c.args.bytes.now) (Declines (λ d es e. g.D.Desk.run d es e) (λ d s. g.D.Desk.shows d s) c.args.h.n c.args.at
-    (length c.args.bytes.now)) (Brings (λ d es e. g.D.Desk.run d es e) (λ d s. g.D.Desk.shows d s) (g.D.Desk.settings c.args.desk.now) c.args.h.n)
+    far_comes (WritesObject g.D.Desk.run g.D.Desk.shows c.args.h.n c.args.at c.args.bytes.now) (Declines g.D.Desk.run g.D.Desk.shows c.args.h.n c.args.at
+    (length c.args.bytes.now)) (Brings g.D.Desk.run g.D.Desk.shows (g.D.Desk.settings c.args.desk.now) c.args.h.n)
     (holding c.args.desk.now c.args.far.now) (holding c.write.new.desk c.write.new.far)
     (holding c.decline.new.desk c.write.new.far) c.in_ok-reply.reply
     (far_kept _ _ _ _ _ _ _ x c.in_ok-reply.ensures.far)
     (c.is_not_here.ensures.yes c.if-not-is_not_here.false) c.in_default.ensures.declines
     (holding c.bring.new.desk c.bring.new.far) (holding c.write-2.new.desk c.write-2.new.far)
     c.in_ok-came.came is.0 c.write-2.result
-    (brings_as (λ d es e. g.D.Desk.run d es e) (λ d s. g.D.Desk.shows d s) (g.D.Desk.settings c.args.desk.now) (g.D.Desk.settings c.decline.new.desk) c.args.h.n
+    (brings_as g.D.Desk.run g.D.Desk.shows (g.D.Desk.settings c.args.desk.now) (g.D.Desk.settings c.decline.new.desk) c.args.h.n
     (holding c.decline.new.desk c.write.new.far) (holding c.bring.new.desk c.bring.new.far)
     c.in_ok-came.came (g.met.D.Desk.stays _ _ d.events d.ran ∙ g.met.D.Desk.stays _ _ x.events x.ran) c.in_ok-came.ensures.brings)
     is.1 (far_kept_if _ _ _ _ _ _ _ c.write-2.result c.write-2.ensures.write c.write-2.ensures.far)
 
 pub returns-then-not-is_not_here-clause-writes : goal.returns-then-not-is_not_here-clause-writes
 returns-then-not-is_not_here-clause-writes g c =
-    is_near (WritesObject (λ d es e. g.D.Desk.run d es e) (λ d s. g.D.Desk.shows d s) c.args.h.n c.args.at c.args.bytes.now) (Declines (λ d es e. g.D.Desk.run d es e) (λ d s. g.D.Desk.shows d s) c.args.h.n c.args.at
+    is_near (WritesObject g.D.Desk.run g.D.Desk.shows c.args.h.n c.args.at c.args.bytes.now) (Declines g.D.Desk.run g.D.Desk.shows c.args.h.n c.args.at
     (length c.args.bytes.now))
-    (Brings (λ d es e. g.D.Desk.run d es e) (λ d s. g.D.Desk.shows d s) (g.D.Desk.settings c.args.desk.now) c.args.h.n)
+    (Brings g.D.Desk.run g.D.Desk.shows (g.D.Desk.settings c.args.desk.now) c.args.h.n)
     (holding c.args.desk.now c.args.far.now) (holding c.write.new.desk c.write.new.far)
     c.in_ok-reply.reply (far_kept _ _ _ _ _ _ _ c.in_ok-reply.ensures.write c.in_ok-reply.ensures.far)
     (c.is_not_here.ensures.other c.if-not-is_not_here.true)

@@ -6,7 +6,7 @@ use Rattle.cb_core.proofs.declining.decline.Goals as goal
 
 pub returns-then-is_gone : goal.returns-then-is_gone
 returns-then-is_gone g c = record {
-  declines = declines_gone (λ d es e. g.D.Desk.run d es e) (λ d s. g.D.Desk.shows d s) c.args.h.n
+  declines = declines_gone g.D.Desk.run g.D.Desk.shows c.args.h.n
       c.args.desk.now c.args.desk.now c.args.far.now c.args.at (length c.args.bytes.now)
       (g.met.D.Desk.none _) (sym c.is_gone.ensures ∙ c.if-is_gone.true);
 }
@@ -14,7 +14,7 @@ returns-then-is_gone g c = record {
 pub returns-then-at-bytes : goal.returns-then-at-bytes
 returns-then-at-bytes g c =
     let len = ap (λ (p : PtrWord). p.len) c.unpack-len.ensures.fields in record {
-      declines = declines_by (λ d es e. g.D.Desk.run d es e) (λ d s. g.D.Desk.shows d s) c.args.h.n
+      declines = declines_by g.D.Desk.run g.D.Desk.shows c.args.h.n
           c.args.desk.now c.version-version.new.self c.args.far.now c.args.at
           (length c.args.bytes.now) c.word.result c.version-version.result (Some (answer.Range c.unpack-len.result.len))
           (g.met.D.Desk.more _ _ _ _ _ c.word.ensures c.version-version.ensures)
@@ -28,7 +28,7 @@ returns-then-at-bytes g c =
 pub returns-then-version : goal.returns-then-version
 returns-then-version g c =
     let len = ap (λ (p : PtrWord). p.len) c.unpack-len.ensures.fields in record {
-      declines = declines_by (λ d es e. g.D.Desk.run d es e) (λ d s. g.D.Desk.shows d s) c.args.h.n
+      declines = declines_by g.D.Desk.run g.D.Desk.shows c.args.h.n
           c.args.desk.now c.version-version.new.self c.args.far.now c.args.at
           (length c.args.bytes.now) c.word.result c.version-version.result (Some answer.Worn)
           (g.met.D.Desk.more _ _ _ _ _ c.word.ensures c.version-version.ensures)
@@ -42,7 +42,7 @@ returns-then-version g c =
 pub returns : goal.returns
 returns g c =
     let len = ap (λ (p : PtrWord). p.len) c.unpack-len.ensures.fields in record {
-      declines = declines_by (λ d es e. g.D.Desk.run d es e) (λ d s. g.D.Desk.shows d s) c.args.h.n
+      declines = declines_by g.D.Desk.run g.D.Desk.shows c.args.h.n
           c.args.desk.now c.version-version.new.self c.args.far.now c.args.at
           (length c.args.bytes.now) c.word.result c.version-version.result None
           (g.met.D.Desk.more _ _ _ _ _ c.word.ensures c.version-version.ensures)

@@ -7,14 +7,14 @@ use Rattle.cb_core.proofs.declining.find.Goals as goal
 
 pub returns-in-Here-clause-finds : goal.returns-in-Here-clause-finds
 returns-in-Here-clause-finds g c =
-    finds_by (λ d es e. g.D.Desk.run d es e) (λ d s. g.D.Desk.shows d s) c.args.h.n c.args.desk.now
+    finds_by g.D.Desk.run g.D.Desk.shows c.args.h.n c.args.desk.now
     c.word.new.self c.args.far.now [] c.word.result _ c.word.ensures tt tt
     (is_here c.word.result c.args.h.n _
     (sym (ap (λ (p : PtrWord). p.state) c.unpack.ensures.fields) ∙ c.in-Here.is))
 
 pub returns-in-Far-clause-finds : goal.returns-in-Far-clause-finds
 returns-in-Far-clause-finds g c =
-    finds_by (λ d es e. g.D.Desk.run d es e) (λ d s. g.D.Desk.shows d s) c.args.h.n c.args.desk.now
+    finds_by g.D.Desk.run g.D.Desk.shows c.args.h.n c.args.desk.now
     c.word.new.self c.args.far.now [] c.word.result _ c.word.ensures tt tt
     (is_far c.word.result c.args.h.n _
     (sym (ap (λ (p : PtrWord). p.state) c.unpack.ensures.fields) ∙ c.in-Far.is))
@@ -26,14 +26,14 @@ returns-in-Far-clause-away g c = λ e s shown.
 
 pub returns-in-Moving-clause-finds : goal.returns-in-Moving-clause-finds
 returns-in-Moving-clause-finds g c =
-    finds_by (λ d es e. g.D.Desk.run d es e) (λ d s. g.D.Desk.shows d s) c.args.h.n c.args.desk.now
+    finds_by g.D.Desk.run g.D.Desk.shows c.args.h.n c.args.desk.now
     c.word.new.self c.args.far.now [] c.word.result _ c.word.ensures tt tt
     (is_moving c.word.result c.args.h.n _
     (sym (ap (λ (p : PtrWord). p.state) c.unpack.ensures.fields) ∙ c.in-Moving.is))
 
 pub returns-in-Empty-clause-finds : goal.returns-in-Empty-clause-finds
 returns-in-Empty-clause-finds g c =
-    finds_by (λ d es e. g.D.Desk.run d es e) (λ d s. g.D.Desk.shows d s) c.args.h.n c.args.desk.now
+    finds_by g.D.Desk.run g.D.Desk.shows c.args.h.n c.args.desk.now
     c.version.new.self c.args.far.now (Told c.args.h.n c.version.result ∷ []) c.word.result _
     (g.met.D.Desk.more _ _ _ _ _ c.word.ensures c.version.ensures) (refl, tt) (refl, tt)
     (is_empty c.word.result c.args.h.n c.version.result _
@@ -42,7 +42,7 @@ returns-in-Empty-clause-finds g c =
 
 pub returns-in-Empty-2-clause-finds : goal.returns-in-Empty-2-clause-finds
 returns-in-Empty-2-clause-finds g c =
-    finds_by (λ d es e. g.D.Desk.run d es e) (λ d s. g.D.Desk.shows d s) c.args.h.n c.args.desk.now
+    finds_by g.D.Desk.run g.D.Desk.shows c.args.h.n c.args.desk.now
     c.version.new.self c.args.far.now (Told c.args.h.n c.version.result ∷ []) c.word.result _
     (g.met.D.Desk.more _ _ _ _ _ c.word.ensures c.version.ensures) (refl, tt) (refl, tt)
     (is_empty c.word.result c.args.h.n c.version.result _

@@ -24,15 +24,15 @@ returns-then-not-count_turn-clause-turned g c =
 pub returns-then-not-count_turn-clause-unavailable : goal.returns-then-not-count_turn-clause-unavailable
 returns-then-not-count_turn-clause-unavailable g c =
     let d = c.count_turn.ensures.worn c.if-not-count_turn.true in
-    worn_tells (λ d es e. g.D.Desk.run d es e) (λ d s. g.D.Desk.shows d s) g.met.D.Desk.follows
+    worn_tells g.D.Desk.run g.D.Desk.shows g.met.D.Desk.follows
     (g.D.Desk.settings c.args.desk.now) (job.Fetch c.args.h) c.args.far.now answer.Worn d.0 refl
 
 pub returns-then-not-count_turn-clause-leaves : goal.returns-then-not-count_turn-clause-leaves
 returns-then-not-count_turn-clause-leaves g c =
     let d = c.count_turn.ensures.worn c.if-not-count_turn.true in
-    let laws = laws_of (λ d es e. g.D.Desk.run d es e) (λ d s. g.D.Desk.shows d s) g.met.D.Desk.none
+    let laws = laws_of g.D.Desk.run g.D.Desk.shows g.met.D.Desk.none
     g.met.D.Desk.more g.met.D.Desk.follows in
-    worn_hands (λ d es e. g.D.Desk.run d es e) (λ d s. g.D.Desk.shows d s) laws
+    worn_hands g.D.Desk.run g.D.Desk.shows laws
     (g.D.Desk.settings c.args.desk.now) c.requires.config
     (holding c.args.desk.now c.args.far.now) (holding c.args.desk.now c.count_turn.new.far)
     (record { configured = c.requires.configured; shown = c.requires.sound }) c.requires.counted
@@ -41,7 +41,7 @@ returns-then-not-count_turn-clause-leaves g c =
 pub returns-clause-turned : goal.returns-clause-turned
 returns-clause-turned g c =
     let d = c.count_turn.ensures.done c.if-not-count_turn.false in
-    fetch_turned (λ d es e. g.D.Desk.run d es e) (λ d s. g.D.Desk.shows d s)
+    fetch_turned g.D.Desk.run g.D.Desk.shows
     (g.D.Desk.settings c.args.desk.now) (holding c.args.desk.now c.args.far.now)
     (holding c.hand_rows.new.desk c.hand_rows.new.far) c.args.h c.count_turn.new.far
     c.hand_rows.result d.0 d.1 c.hand_rows.ensures.fetches
@@ -49,7 +49,7 @@ returns-clause-turned g c =
 pub returns-clause-unavailable : goal.returns-clause-unavailable
 returns-clause-unavailable g c =
     let d = c.count_turn.ensures.done c.if-not-count_turn.false in
-    fetch_told (λ d es e. g.D.Desk.run d es e) (λ d s. g.D.Desk.shows d s)
+    fetch_told g.D.Desk.run g.D.Desk.shows
     (g.D.Desk.settings c.args.desk.now) (holding c.args.desk.now c.args.far.now)
     (holding c.hand_rows.new.desk c.hand_rows.new.far) g.met.D.Desk.follows c.args.h
     c.count_turn.new.far c.hand_rows.result d.1 c.requires.sound c.hand_rows.ensures.fetches
@@ -57,7 +57,7 @@ returns-clause-unavailable g c =
 pub returns-clause-error : goal.returns-clause-error
 returns-clause-error g c =
     let d = c.count_turn.ensures.done c.if-not-count_turn.false in
-    fetch_stopped (λ d es e. g.D.Desk.run d es e) (λ d s. g.D.Desk.shows d s)
+    fetch_stopped g.D.Desk.run g.D.Desk.shows
     (g.D.Desk.settings c.args.desk.now) (holding c.args.desk.now c.args.far.now)
     (holding c.hand_rows.new.desk c.hand_rows.new.far) c.args.h c.count_turn.new.far
     c.hand_rows.result d.0 d.1 c.hand_rows.ensures.error
@@ -65,9 +65,9 @@ returns-clause-error g c =
 pub returns-clause-leaves : goal.returns-clause-leaves
 returns-clause-leaves g c =
     let d = c.count_turn.ensures.done c.if-not-count_turn.false in
-    let laws = laws_of (λ d es e. g.D.Desk.run d es e) (λ d s. g.D.Desk.shows d s) g.met.D.Desk.none
+    let laws = laws_of g.D.Desk.run g.D.Desk.shows g.met.D.Desk.none
     g.met.D.Desk.more g.met.D.Desk.follows in
-    fetch_outcome (λ d es e. g.D.Desk.run d es e) (λ d s. g.D.Desk.shows d s)
+    fetch_outcome g.D.Desk.run g.D.Desk.shows
     (g.D.Desk.settings c.args.desk.now) (holding c.args.desk.now c.args.far.now)
     (holding c.hand_rows.new.desk c.hand_rows.new.far) laws c.requires.config
     (record { configured = c.requires.configured; shown = c.requires.sound }) c.requires.counted

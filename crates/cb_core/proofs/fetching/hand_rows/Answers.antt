@@ -24,7 +24,7 @@ pub returns-clause-fetches : goal.returns-clause-fetches
 returns-clause-fetches g c =
     ok_map _ _ c.rows_of_home.result c.rows_of_home.ensures.step (λ q rows. was_far
     (holding c.find-place.new.desk c.args.far.now)
-    (finds_as (λ d es e. g.D.Desk.run d es e) (λ d s. g.D.Desk.shows d s) c.args.h.n
+    (finds_as g.D.Desk.run g.D.Desk.shows c.args.h.n
     (holding c.args.desk.now c.args.far.now) (holding c.find-place.new.desk c.args.far.now)
     c.find-place.result _ (c.is_not_here.ensures.yes c.if-not-is_not_here.false)
     c.find-place.ensures.finds)
@@ -34,7 +34,7 @@ pub returns-clause-error : goal.returns-clause-error
 returns-clause-error g c =
     lack_map _ _ c.rows_of_home.result c.rows_of_home.ensures.error (λ same. (
       holding c.find-place.new.desk c.args.far.now,
-      finds_as (λ d es e. g.D.Desk.run d es e) (λ d s. g.D.Desk.shows d s) c.args.h.n
+      finds_as g.D.Desk.run g.D.Desk.shows c.args.h.n
           (holding c.args.desk.now c.args.far.now) (holding c.find-place.new.desk c.args.far.now)
           c.find-place.result _ (c.is_not_here.ensures.yes c.if-not-is_not_here.false)
           c.find-place.ensures.finds,

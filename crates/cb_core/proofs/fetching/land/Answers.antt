@@ -29,10 +29,10 @@ returns-then-not-count_turn-clause-unavailable g c =
 pub returns-then-not-count_turn-clause-leaves : goal.returns-then-not-count_turn-clause-leaves
 returns-then-not-count_turn-clause-leaves g c =
     let d = c.count_turn.ensures.worn c.if-not-count_turn.true in
-    let laws = laws_of (λ d es e. g.D.Desk.run d es e) (λ d s. g.D.Desk.shows d s) g.met.D.Desk.none
+    let laws = laws_of g.D.Desk.run g.D.Desk.shows g.met.D.Desk.none
     g.met.D.Desk.more g.met.D.Desk.follows in
     let k = c.requires.kept in
-    worn_leaves (λ d es e. g.D.Desk.run d es e) (λ d s. g.D.Desk.shows d s) laws
+    worn_leaves g.D.Desk.run g.D.Desk.shows laws
     (g.D.Desk.settings c.args.desk.now) c.requires.config
     (holding c.args.desk.now c.args.far.now) (holding c.args.desk.now c.count_turn.new.far)
     (record { configured = c.requires.configured; shown = (k.0, k.1, k.2) }) c.requires.counted
@@ -58,7 +58,7 @@ land_with_room-requires-clause-kept g c =
 pub returns-clause-turned : goal.returns-clause-turned
 returns-clause-turned g c =
     let d = c.count_turn.ensures.done c.if-not-count_turn.false in
-    land_turned (λ d es e. g.D.Desk.run d es e) (λ d s. g.D.Desk.shows d s)
+    land_turned g.D.Desk.run g.D.Desk.shows
     (g.D.Desk.settings c.args.desk.now) (holding c.args.desk.now c.args.far.now)
     (holding c.land_with_room.new.desk c.land_with_room.new.far) (done_order c.args.done)
     c.count_turn.new.far c.land_with_room.result d.0 d.1 c.land_with_room.ensures.lands
@@ -71,7 +71,7 @@ returns-clause-no_frame g c =
 pub returns-clause-unavailable : goal.returns-clause-unavailable
 returns-clause-unavailable g c =
     let d = c.count_turn.ensures.done c.if-not-count_turn.false in let k = c.requires.kept in
-    lands_told (λ d es e. g.D.Desk.run d es e) (λ d s. g.D.Desk.shows d s)
+    lands_told g.D.Desk.run g.D.Desk.shows
     (g.D.Desk.settings c.args.desk.now) (holding c.args.desk.now c.args.far.now)
     (holding c.land_with_room.new.desk c.land_with_room.new.far) g.met.D.Desk.follows
     (done_order c.args.done) c.count_turn.new.far c.land_with_room.result d.1 (k.0, k.1, k.2)
@@ -80,7 +80,7 @@ returns-clause-unavailable g c =
 pub returns-clause-error : goal.returns-clause-error
 returns-clause-error g c =
     let d = c.count_turn.ensures.done c.if-not-count_turn.false in
-    land_stopped (λ d es e. g.D.Desk.run d es e) (λ d s. g.D.Desk.shows d s)
+    land_stopped g.D.Desk.run g.D.Desk.shows
     (g.D.Desk.settings c.args.desk.now) (holding c.args.desk.now c.args.far.now)
     (holding c.land_with_room.new.desk c.land_with_room.new.far) (done_order c.args.done)
     c.count_turn.new.far c.land_with_room.result d.0 d.1 c.land_with_room.ensures.error
@@ -88,10 +88,10 @@ returns-clause-error g c =
 pub returns-clause-leaves : goal.returns-clause-leaves
 returns-clause-leaves g c =
     let d = c.count_turn.ensures.done c.if-not-count_turn.false in
-    let laws = laws_of (λ d es e. g.D.Desk.run d es e) (λ d s. g.D.Desk.shows d s) g.met.D.Desk.none
+    let laws = laws_of g.D.Desk.run g.D.Desk.shows g.met.D.Desk.none
     g.met.D.Desk.more g.met.D.Desk.follows in
     let k = c.requires.kept in
-    land_outcome (λ d es e. g.D.Desk.run d es e) (λ d s. g.D.Desk.shows d s)
+    land_outcome g.D.Desk.run g.D.Desk.shows
     (g.D.Desk.settings c.args.desk.now) (holding c.args.desk.now c.args.far.now)
     (holding c.land_with_room.new.desk c.land_with_room.new.far) laws c.requires.config
     (record { configured = c.requires.configured; shown = (k.0, k.1, k.2) }) c.requires.counted

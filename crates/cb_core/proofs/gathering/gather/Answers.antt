@@ -33,9 +33,9 @@ returns-then-not-count_turn-clause-turned g c =
 pub returns-then-not-count_turn-clause-leaves : goal.returns-then-not-count_turn-clause-leaves
 returns-then-not-count_turn-clause-leaves g c =
     let d = c.count_turn.ensures.worn c.if-not-count_turn.true in
-    let laws = laws_of (λ d es e. g.D.Desk.run d es e) (λ d s. g.D.Desk.shows d s) g.met.D.Desk.none
+    let laws = laws_of g.D.Desk.run g.D.Desk.shows g.met.D.Desk.none
     g.met.D.Desk.more g.met.D.Desk.follows in
-    worn_hands (λ d es e. g.D.Desk.run d es e) (λ d s. g.D.Desk.shows d s) laws
+    worn_hands g.D.Desk.run g.D.Desk.shows laws
     (g.D.Desk.settings c.args.desk.now) c.requires.config
     (holding c.args.desk.now c.args.far.now) (holding c.args.desk.now c.count_turn.new.far)
     (record { configured = c.requires.configured; shown = c.requires.sound }) c.requires.counted
@@ -44,7 +44,7 @@ returns-then-not-count_turn-clause-leaves g c =
 pub returns-clause-turned : goal.returns-clause-turned
 returns-clause-turned g c =
     let d = c.count_turn.ensures.done c.if-not-count_turn.false in
-    gather_turned (λ d es e. g.D.Desk.run d es e) (λ d s. g.D.Desk.shows d s)
+    gather_turned g.D.Desk.run g.D.Desk.shows
     (g.D.Desk.settings c.args.desk.now) (holding c.args.desk.now c.args.far.now)
     (holding c.gather.new.desk c.gather.new.far) c.count_turn.new.far c.gather.result d.0 d.1
     c.gather.ensures.gathered
@@ -52,10 +52,10 @@ returns-clause-turned g c =
 pub returns-clause-error : goal.returns-clause-error
 returns-clause-error g c =
     let d = c.count_turn.ensures.done c.if-not-count_turn.false in
-    gather_stopped (λ d es e. g.D.Desk.run d es e) (λ d s. g.D.Desk.shows d s)
+    gather_stopped g.D.Desk.run g.D.Desk.shows
     (g.D.Desk.settings c.args.desk.now) (holding c.args.desk.now c.args.far.now)
     (holding c.gather.new.desk c.gather.new.far) c.count_turn.new.far c.gather.result d.0 d.1
-    (lacks_both (λ d es e. g.D.Desk.run d es e) (λ d s. g.D.Desk.shows d s)
+    (lacks_both g.D.Desk.run g.D.Desk.shows
     (g.D.Desk.settings c.args.desk.now) (holding c.args.desk.now c.args.far.now)
     (holding c.gather.new.desk c.gather.new.far) c.count_turn.new.far _ c.gather.result _
     c.gather.ensures.error c.gather.ensures.unchanged)
@@ -63,14 +63,14 @@ returns-clause-error g c =
 pub returns-clause-leaves : goal.returns-clause-leaves
 returns-clause-leaves g c =
     let d = c.count_turn.ensures.done c.if-not-count_turn.false in
-    let laws = laws_of (λ d es e. g.D.Desk.run d es e) (λ d s. g.D.Desk.shows d s) g.met.D.Desk.none
+    let laws = laws_of g.D.Desk.run g.D.Desk.shows g.met.D.Desk.none
     g.met.D.Desk.more g.met.D.Desk.follows in
-    gather_outcome (λ d es e. g.D.Desk.run d es e) (λ d s. g.D.Desk.shows d s)
+    gather_outcome g.D.Desk.run g.D.Desk.shows
     (g.D.Desk.settings c.args.desk.now) (holding c.args.desk.now c.args.far.now)
     (holding c.gather.new.desk c.gather.new.far) laws c.requires.config
     (record { configured = c.requires.configured; shown = c.requires.sound }) c.requires.counted
     d.0 c.count_turn.new.far c.gather.result d.1 c.gather.ensures.gathered
-    (lacks_both (λ d es e. g.D.Desk.run d es e) (λ d s. g.D.Desk.shows d s)
+    (lacks_both g.D.Desk.run g.D.Desk.shows
     (g.D.Desk.settings c.args.desk.now) (holding c.args.desk.now c.args.far.now)
     (holding c.gather.new.desk c.gather.new.far) c.count_turn.new.far _ c.gather.result _
     c.gather.ensures.error c.gather.ensures.unchanged)

@@ -6,18 +6,18 @@ use Rattle.cb_core.proofs.ordering.fetch_with.Goals as goal
 pub returns : goal.returns
 returns g c = record {
   turned = record {
-    ends = ends_as (λ d es e. g.D.Desk.run d es e) (λ d s. g.D.Desk.shows d s)
+    ends = ends_as g.D.Desk.run g.D.Desk.shows
         (g.D.Desk.settings c.args.desk.now) (holding c.args.desk.now c.args.far.now)
         (holding c.fetch-fetched.new.desk c.fetch-fetched.new.far) (job.Fetch c.args.h) c.args.order _ _ _ _
         c.behind_fetch.ensures.keeps c.behind_fetch.ensures.answer
-        (fetch_ends (λ d es e. g.D.Desk.run d es e) (λ d s. g.D.Desk.shows d s)
+        (fetch_ends g.D.Desk.run g.D.Desk.shows
         (g.D.Desk.settings c.args.desk.now) (holding c.args.desk.now c.args.far.now)
         (holding c.fetch-fetched.new.desk c.fetch-fetched.new.far) c.args.h c.args.order c.fetch-fetched.result c.fetch-fetched.ensures.turned
         c.fetch-fetched.ensures.error);
-    leaves = left_as (λ d es e. g.D.Desk.run d es e) (λ d s. g.D.Desk.shows d s)
+    leaves = left_as g.D.Desk.run g.D.Desk.shows
         (g.D.Desk.settings c.args.desk.now) (holding c.args.desk.now c.args.far.now)
         (holding c.fetch-fetched.new.desk c.fetch-fetched.new.far) c.args.order _ _ c.behind_fetch.ensures.keeps
-        (fetch_left (λ d es e. g.D.Desk.run d es e) (λ d s. g.D.Desk.shows d s)
+        (fetch_left g.D.Desk.run g.D.Desk.shows
         (g.D.Desk.settings c.args.desk.now) (holding c.args.desk.now c.args.far.now)
         (holding c.fetch-fetched.new.desk c.fetch-fetched.new.far) c.args.order c.fetch-fetched.result c.fetch-fetched.ensures.leaves);
   };

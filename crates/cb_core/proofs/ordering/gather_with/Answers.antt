@@ -6,18 +6,18 @@ use Rattle.cb_core.proofs.ordering.gather_with.Goals as goal
 pub returns : goal.returns
 returns g c = record {
   turned = record {
-    ends = ends_as (λ d es e. g.D.Desk.run d es e) (λ d s. g.D.Desk.shows d s)
+    ends = ends_as g.D.Desk.run g.D.Desk.shows
         (g.D.Desk.settings c.args.desk.now) (holding c.args.desk.now c.args.far.now)
         (holding c.gather-gathered.new.desk c.gather-gathered.new.far) job.Gather c.args.order _ _ _ _
         c.behind_gather.ensures.keeps c.behind_gather.ensures.answer
-        (gather_ends (λ d es e. g.D.Desk.run d es e) (λ d s. g.D.Desk.shows d s)
+        (gather_ends g.D.Desk.run g.D.Desk.shows
         (g.D.Desk.settings c.args.desk.now) (holding c.args.desk.now c.args.far.now)
         (holding c.gather-gathered.new.desk c.gather-gathered.new.far) c.args.order c.gather-gathered.result c.gather-gathered.ensures.turned
         c.gather-gathered.ensures.error);
-    leaves = left_as (λ d es e. g.D.Desk.run d es e) (λ d s. g.D.Desk.shows d s)
+    leaves = left_as g.D.Desk.run g.D.Desk.shows
         (g.D.Desk.settings c.args.desk.now) (holding c.args.desk.now c.args.far.now)
         (holding c.gather-gathered.new.desk c.gather-gathered.new.far) c.args.order _ _ c.behind_gather.ensures.keeps
-        (gather_left (λ d es e. g.D.Desk.run d es e) (λ d s. g.D.Desk.shows d s)
+        (gather_left g.D.Desk.run g.D.Desk.shows
         (g.D.Desk.settings c.args.desk.now) (holding c.args.desk.now c.args.far.now)
         (holding c.gather-gathered.new.desk c.gather-gathered.new.far) c.args.order c.gather-gathered.result c.gather-gathered.ensures.leaves);
   };

@@ -24,11 +24,11 @@ land_made-requires-clause-kept g c = let k = c.requires.kept in (
 pub returns-in-Ok : goal.returns-in-Ok
 returns-in-Ok g c = record {
   turned = record {
-    ends = subst (λ (o : DecodeOrder). EndsWith (λ d es e. g.D.Desk.run d es e) (λ d s. g.D.Desk.shows d s)
+    ends = subst (λ (o : DecodeOrder). EndsWith g.D.Desk.run g.D.Desk.shows
         (g.D.Desk.settings c.args.desk.now)
         job.Land (Some (Decode o)) (holding c.args.desk.now c.args.far.now) c.land_made.result.0 c.land_made.result.1
         (holding c.land_made.new.desk c.land_made.new.far)) (rw c.in-Ok.is at (c.run_decode.ensures.order)) c.land_made.ensures.turned.ends;
-    leaves = subst (λ (o : DecodeOrder). LeavesWith (λ d es e. g.D.Desk.run d es e) (λ d s. g.D.Desk.shows d s)
+    leaves = subst (λ (o : DecodeOrder). LeavesWith g.D.Desk.run g.D.Desk.shows
         (g.D.Desk.settings c.args.desk.now)
         (holding c.args.desk.now c.args.far.now) (holding c.land_made.new.desk c.land_made.new.far) (Some (Decode o)) c.land_made.result.0)
         (rw c.in-Ok.is at (c.run_decode.ensures.order)) c.land_made.ensures.turned.leaves;
@@ -38,18 +38,18 @@ returns-in-Ok g c = record {
 pub returns-in-Err : goal.returns-in-Err
 returns-in-Err g c = record {
   turned = record {
-    ends = let laws = laws_of (λ d es e. g.D.Desk.run d es e) (λ d s. g.D.Desk.shows d s) g.met.D.Desk.none
+    ends = let laws = laws_of g.D.Desk.run g.D.Desk.shows g.met.D.Desk.none
         g.met.D.Desk.more g.met.D.Desk.follows in
-        land_not_run (λ d es e. g.D.Desk.run d es e) (λ d s. g.D.Desk.shows d s) laws (g.D.Desk.settings c.args.desk.now) c.requires.config
+        land_not_run g.D.Desk.run g.D.Desk.shows laws (g.D.Desk.settings c.args.desk.now) c.requires.config
         (holding c.args.desk.now c.args.far.now) (holding c.args.desk.now c.not_run.new.far) c.args.order _ c.not_run.result.1
         (c.not_run.ensures.keeps ∙ ap (λ (o : DecodeOrder). Some (Decode o))
         (rw c.in-Err.is at (c.run_decode.ensures.back))) (g.met.D.Desk.none c.args.desk.now)
         (as_not_run c.args.far.now job.Land c.not_run.result.1 c.not_run.new.far c.not_run.ensures.late
         c.not_run.ensures.lacks);
-    leaves = let laws = laws_of (λ d es e. g.D.Desk.run d es e) (λ d s. g.D.Desk.shows d s) g.met.D.Desk.none
+    leaves = let laws = laws_of g.D.Desk.run g.D.Desk.shows g.met.D.Desk.none
         g.met.D.Desk.more g.met.D.Desk.follows in
         let k = c.requires.kept in
-        land_left_unrun (λ d es e. g.D.Desk.run d es e) (λ d s. g.D.Desk.shows d s) laws (g.D.Desk.settings c.args.desk.now) c.requires.config
+        land_left_unrun g.D.Desk.run g.D.Desk.shows laws (g.D.Desk.settings c.args.desk.now) c.requires.config
         (holding c.args.desk.now c.args.far.now) (holding c.args.desk.now c.not_run.new.far) c.args.order _ c.not_run.result.1
         (record { configured = c.requires.configured; shown = (k.0, k.1, k.2) }) c.requires.counted
         (c.not_run.ensures.keeps ∙ ap (λ (o : DecodeOrder). Some (Decode o))

@@ -15,11 +15,11 @@ land_run-requires-clause-kept g c = let k = c.requires.kept in
 pub returns-in-Some-Decode : goal.returns-in-Some-Decode
 returns-in-Some-Decode g c = record {
   turned = record {
-    ends = subst (λ (o : Option Kept). EndsWith (λ d es e. g.D.Desk.run d es e) (λ d s. g.D.Desk.shows d s)
+    ends = subst (λ (o : Option Kept). EndsWith g.D.Desk.run g.D.Desk.shows
         (g.D.Desk.settings c.args.desk.now)
         job.Land o (holding c.args.desk.now c.args.far.now) c.land_run.result.0 c.land_run.result.1
         (holding c.land_run.new.desk c.land_run.new.far)) (sym (c.in-Some-Decode.is ∙ ap Some c.in-Some-Decode.field-0-is)) c.land_run.ensures.turned.ends;
-    leaves = subst (λ (o : Option Kept). LeavesWith (λ d es e. g.D.Desk.run d es e) (λ d s. g.D.Desk.shows d s)
+    leaves = subst (λ (o : Option Kept). LeavesWith g.D.Desk.run g.D.Desk.shows
         (g.D.Desk.settings c.args.desk.now)
         (holding c.args.desk.now c.args.far.now) (holding c.land_run.new.desk c.land_run.new.far) o c.land_run.result.0) (sym (c.in-Some-Decode.is ∙ ap Some c.in-Some-Decode.field-0-is))
         c.land_run.ensures.turned.leaves;
@@ -29,25 +29,25 @@ returns-in-Some-Decode g c = record {
 pub returns-in-Some-Encode : goal.returns-in-Some-Encode
 returns-in-Some-Encode g c = record {
   turned = record {
-    ends = subst (λ (o : Option Kept). EndsWith (λ d es e. g.D.Desk.run d es e) (λ d s. g.D.Desk.shows d s)
+    ends = subst (λ (o : Option Kept). EndsWith g.D.Desk.run g.D.Desk.shows
         (g.D.Desk.settings c.args.desk.now)
         job.Land o (holding c.args.desk.now c.args.far.now) c.behind_land.result.0 c.behind_land.result.1
         (holding c.land-ended.new.desk c.land-ended.new.far)) (sym (c.in-Some-Encode.is ∙ ap Some c.in-Some-Encode.field-0-is))
-        (ends_as (λ d es e. g.D.Desk.run d es e) (λ d s. g.D.Desk.shows d s)
+        (ends_as g.D.Desk.run g.D.Desk.shows
         (g.D.Desk.settings c.args.desk.now) (holding c.args.desk.now c.args.far.now)
         (holding c.land-ended.new.desk c.land-ended.new.far) job.Land _ _ _ _ _
         c.behind_land.ensures.keeps c.behind_land.ensures.answer
-        (land_ends (λ d es e. g.D.Desk.run d es e) (λ d s. g.D.Desk.shows d s)
+        (land_ends g.D.Desk.run g.D.Desk.shows
         (g.D.Desk.settings c.args.desk.now) (holding c.args.desk.now c.args.far.now)
         (holding c.land-ended.new.desk c.land-ended.new.far) _ None c.land-ended.result refl c.land-ended.ensures.turned
         c.land-ended.ensures.error));
-    leaves = subst (λ (o : Option Kept). LeavesWith (λ d es e. g.D.Desk.run d es e) (λ d s. g.D.Desk.shows d s)
+    leaves = subst (λ (o : Option Kept). LeavesWith g.D.Desk.run g.D.Desk.shows
         (g.D.Desk.settings c.args.desk.now)
         (holding c.args.desk.now c.args.far.now) (holding c.land-ended.new.desk c.land-ended.new.far) o c.behind_land.result.0) (sym (c.in-Some-Encode.is ∙ ap Some c.in-Some-Encode.field-0-is))
-        (left_as (λ d es e. g.D.Desk.run d es e) (λ d s. g.D.Desk.shows d s)
+        (left_as g.D.Desk.run g.D.Desk.shows
         (g.D.Desk.settings c.args.desk.now) (holding c.args.desk.now c.args.far.now)
         (holding c.land-ended.new.desk c.land-ended.new.far) _ _ _ c.behind_land.ensures.keeps
-        (land_left (λ d es e. g.D.Desk.run d es e) (λ d s. g.D.Desk.shows d s)
+        (land_left g.D.Desk.run g.D.Desk.shows
         (g.D.Desk.settings c.args.desk.now) (holding c.args.desk.now c.args.far.now)
         (holding c.land-ended.new.desk c.land-ended.new.far) _ c.land-ended.result c.land-ended.ensures.leaves));
   };
@@ -56,25 +56,25 @@ returns-in-Some-Encode g c = record {
 pub returns-in-None : goal.returns-in-None
 returns-in-None g c = record {
   turned = record {
-    ends = subst (λ (o : Option Kept). EndsWith (λ d es e. g.D.Desk.run d es e) (λ d s. g.D.Desk.shows d s)
+    ends = subst (λ (o : Option Kept). EndsWith g.D.Desk.run g.D.Desk.shows
         (g.D.Desk.settings c.args.desk.now)
         job.Land o (holding c.args.desk.now c.args.far.now) c.behind_land-in-None.result.0 c.behind_land-in-None.result.1
         (holding c.land-ended-in-None.new.desk c.land-ended-in-None.new.far)) (sym c.in-None.is)
-        (ends_as (λ d es e. g.D.Desk.run d es e) (λ d s. g.D.Desk.shows d s)
+        (ends_as g.D.Desk.run g.D.Desk.shows
         (g.D.Desk.settings c.args.desk.now) (holding c.args.desk.now c.args.far.now)
         (holding c.land-ended-in-None.new.desk c.land-ended-in-None.new.far) job.Land _ _ _ _ _
         c.behind_land-in-None.ensures.keeps c.behind_land-in-None.ensures.answer
-        (land_ends (λ d es e. g.D.Desk.run d es e) (λ d s. g.D.Desk.shows d s)
+        (land_ends g.D.Desk.run g.D.Desk.shows
         (g.D.Desk.settings c.args.desk.now) (holding c.args.desk.now c.args.far.now)
         (holding c.land-ended-in-None.new.desk c.land-ended-in-None.new.far) _ None c.land-ended-in-None.result refl c.land-ended-in-None.ensures.turned
         c.land-ended-in-None.ensures.error));
-    leaves = subst (λ (o : Option Kept). LeavesWith (λ d es e. g.D.Desk.run d es e) (λ d s. g.D.Desk.shows d s)
+    leaves = subst (λ (o : Option Kept). LeavesWith g.D.Desk.run g.D.Desk.shows
         (g.D.Desk.settings c.args.desk.now)
         (holding c.args.desk.now c.args.far.now) (holding c.land-ended-in-None.new.desk c.land-ended-in-None.new.far) o c.behind_land-in-None.result.0) (sym c.in-None.is)
-        (left_as (λ d es e. g.D.Desk.run d es e) (λ d s. g.D.Desk.shows d s)
+        (left_as g.D.Desk.run g.D.Desk.shows
         (g.D.Desk.settings c.args.desk.now) (holding c.args.desk.now c.args.far.now)
         (holding c.land-ended-in-None.new.desk c.land-ended-in-None.new.far) _ _ _ c.behind_land-in-None.ensures.keeps
-        (land_left (λ d es e. g.D.Desk.run d es e) (λ d s. g.D.Desk.shows d s)
+        (land_left g.D.Desk.run g.D.Desk.shows
         (g.D.Desk.settings c.args.desk.now) (holding c.args.desk.now c.args.far.now)
         (holding c.land-ended-in-None.new.desk c.land-ended-in-None.new.far) _ c.land-ended-in-None.result c.land-ended-in-None.ensures.leaves));
   };

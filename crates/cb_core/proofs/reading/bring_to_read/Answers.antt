@@ -31,7 +31,7 @@ pub returns-clause-brought : goal.returns-clause-brought
 returns-clause-brought g c =
     let d = c.count_turn.ensures.done c.if-not-count_turn.false in
     if_map _ _ c.swap_object.result c.swap_object.ensures.comes (λ r come. done d.0
-    (subst (λ (f : FarState). ComesIn (λ d es e. g.D.Desk.run d es e) (λ d s. g.D.Desk.shows d s)
+    (subst (λ (f : FarState). ComesIn g.D.Desk.run g.D.Desk.shows
     (g.D.Desk.settings c.args.desk.now) c.args.h.n (holding c.args.desk.now f) r
     (holding c.swap_object.new.desk c.swap_object.new.far)) d.1 come))
 
@@ -40,23 +40,23 @@ returns-clause-error g c =
     let d = c.count_turn.ensures.done c.if-not-count_turn.false in
     err_map _ _ c.swap_object.result c.swap_object.ensures.error (λ lacks. record {
       few = d.0;
-      stops = subst (λ (f : FarState). ComeLacks (λ d es e. g.D.Desk.run d es e)
-          (λ d s. g.D.Desk.shows d s) (g.D.Desk.settings c.args.desk.now) c.args.h.n
+      stops = subst (λ (f : FarState). ComeLacks g.D.Desk.run
+          g.D.Desk.shows (g.D.Desk.settings c.args.desk.now) c.args.h.n
           (holding c.args.desk.now f) (holding c.swap_object.new.desk c.swap_object.new.far)) d.1 lacks;
     })
 
 pub returns-clause-no_frame : goal.returns-clause-no_frame
 returns-clause-no_frame g c =
     if_map (λ r. Never r) _ c.swap_object.result c.swap_object.ensures.comes (λ r come.
-    comes_never (λ d es e. g.D.Desk.run d es e) (λ d s. g.D.Desk.shows d s)
+    comes_never g.D.Desk.run g.D.Desk.shows
     (g.D.Desk.settings c.args.desk.now) c.args.h.n (holding c.args.desk.now c.count_turn.new.far)
     (holding c.swap_object.new.desk c.swap_object.new.far) r come)
 
 pub returns-then-not-count_turn-clause-leaves : goal.returns-then-not-count_turn-clause-leaves
 returns-then-not-count_turn-clause-leaves g c =
     let d = c.count_turn.ensures.worn c.if-not-count_turn.true in
-    first_leaves (λ d es e. g.D.Desk.run d es e) (λ d s. g.D.Desk.shows d s)
-    (laws_of (λ d es e. g.D.Desk.run d es e) (λ d s. g.D.Desk.shows d s) g.met.D.Desk.none
+    first_leaves g.D.Desk.run g.D.Desk.shows
+    (laws_of g.D.Desk.run g.D.Desk.shows g.met.D.Desk.none
     g.met.D.Desk.more g.met.D.Desk.follows) (g.D.Desk.settings c.args.desk.now) c.requires.config
     c.args.h (holding c.args.desk.now c.args.far.now) (holding c.args.desk.now c.count_turn.new.far)
     answer.Worn (record { configured = c.requires.configured; shown = c.requires.sound })
@@ -64,8 +64,8 @@ returns-then-not-count_turn-clause-leaves g c =
 
 pub returns-clause-leaves : goal.returns-clause-leaves
 returns-clause-leaves g c =
-    brought_leaves (λ d es e. g.D.Desk.run d es e) (λ d s. g.D.Desk.shows d s)
-    (laws_of (λ d es e. g.D.Desk.run d es e) (λ d s. g.D.Desk.shows d s) g.met.D.Desk.none
+    brought_leaves g.D.Desk.run g.D.Desk.shows
+    (laws_of g.D.Desk.run g.D.Desk.shows g.met.D.Desk.none
     g.met.D.Desk.more g.met.D.Desk.follows) (g.D.Desk.settings c.args.desk.now) c.requires.config
     c.args.h (holding c.args.desk.now c.args.far.now)
     (holding c.swap_object.new.desk c.swap_object.new.far) c.swap_object.result

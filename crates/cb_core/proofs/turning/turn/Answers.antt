@@ -36,30 +36,30 @@ work-requires-clause-note g c =
 pub returns-clause-turned : goal.returns-clause-turned
 returns-clause-turned g c =
     let d = c.count_turn.ensures.done c.if-not-count_turn.false in
-    turned (λ d es e. g.D.Desk.run d es e) (λ d s. g.D.Desk.shows d s)
-    (Reads (λ d es e. g.D.Desk.run d es e) (λ d s. g.D.Desk.shows d s))
-    (ReadLacks (λ d es e. g.D.Desk.run d es e) (λ d s. g.D.Desk.shows d s))
+    turned g.D.Desk.run g.D.Desk.shows
+    (Reads g.D.Desk.run g.D.Desk.shows)
+    (ReadLacks g.D.Desk.run g.D.Desk.shows)
     (g.D.Desk.settings c.args.desk.now) c.args.job.now (holding c.args.desk.now c.args.far.now) (holding c.work.new.desk c.work.new.far)
     c.work.result c.count_turn.new.far d.0 d.1 c.work.ensures.does
 
 pub returns-clause-error : goal.returns-clause-error
 returns-clause-error g c =
     let d = c.count_turn.ensures.done c.if-not-count_turn.false in
-    stopped (λ d es e. g.D.Desk.run d es e) (λ d s. g.D.Desk.shows d s)
-    (Reads (λ d es e. g.D.Desk.run d es e) (λ d s. g.D.Desk.shows d s))
-    (ReadLacks (λ d es e. g.D.Desk.run d es e) (λ d s. g.D.Desk.shows d s))
+    stopped g.D.Desk.run g.D.Desk.shows
+    (Reads g.D.Desk.run g.D.Desk.shows)
+    (ReadLacks g.D.Desk.run g.D.Desk.shows)
     (g.D.Desk.settings c.args.desk.now) c.args.job.now (holding c.args.desk.now c.args.far.now) (holding c.work.new.desk c.work.new.far)
     c.work.result c.count_turn.new.far d.0 d.1 c.work.ensures.error
 
 pub returns-then-not-count_turn-clause-leaves : goal.returns-then-not-count_turn-clause-leaves
 returns-then-not-count_turn-clause-leaves g c =
     let d = c.count_turn.ensures.worn c.if-not-count_turn.true in
-    let laws = laws_of (λ d es e. g.D.Desk.run d es e) (λ d s. g.D.Desk.shows d s) g.met.D.Desk.none
+    let laws = laws_of g.D.Desk.run g.D.Desk.shows g.met.D.Desk.none
     g.met.D.Desk.more g.met.D.Desk.follows in
-    turn_leaves (λ d es e. g.D.Desk.run d es e) (λ d s. g.D.Desk.shows d s) laws
+    turn_leaves g.D.Desk.run g.D.Desk.shows laws
     (g.D.Desk.settings c.args.desk.now) c.requires.config
-    (Reads (λ d es e. g.D.Desk.run d es e) (λ d s. g.D.Desk.shows d s))
-    (reads (λ d es e. g.D.Desk.run d es e) (λ d s. g.D.Desk.shows d s) laws
+    (Reads g.D.Desk.run g.D.Desk.shows)
+    (reads g.D.Desk.run g.D.Desk.shows laws
     (g.D.Desk.settings c.args.desk.now) c.requires.config) c.args.job.now (holding c.args.desk.now c.args.far.now)
     (holding c.args.desk.now c.count_turn.new.far) answer.Worn c.requires.job
     (record { configured = c.requires.configured; shown = c.requires.sound }) c.requires.counted
@@ -67,8 +67,8 @@ returns-then-not-count_turn-clause-leaves g c =
 
 pub returns-clause-leaves : goal.returns-clause-leaves
 returns-clause-leaves g c =
-    outcome_leaves (λ d es e. g.D.Desk.run d es e) (λ d s. g.D.Desk.shows d s)
-    (laws_of (λ d es e. g.D.Desk.run d es e) (λ d s. g.D.Desk.shows d s) g.met.D.Desk.none
+    outcome_leaves g.D.Desk.run g.D.Desk.shows
+    (laws_of g.D.Desk.run g.D.Desk.shows g.met.D.Desk.none
     g.met.D.Desk.more g.met.D.Desk.follows) (g.D.Desk.settings c.args.desk.now) c.requires.config
     c.args.job.now (holding c.args.desk.now c.args.far.now)
     (holding c.work.new.desk c.work.new.far) c.work.result c.requires.job
@@ -78,7 +78,7 @@ returns-clause-leaves g c =
 pub returns-then-not-count_turn-clause-unavailable : goal.returns-then-not-count_turn-clause-unavailable
 returns-then-not-count_turn-clause-unavailable g c =
     let d = c.count_turn.ensures.worn c.if-not-count_turn.true in
-    turned_tells (λ d es e. g.D.Desk.run d es e) (λ d s. g.D.Desk.shows d s) g.met.D.Desk.follows
+    turned_tells g.D.Desk.run g.D.Desk.shows g.met.D.Desk.follows
     (g.D.Desk.settings c.args.desk.now) c.args.job.now (holding c.args.desk.now c.args.far.now)
     (holding c.args.desk.now c.count_turn.new.far) answer.Worn c.requires.sound
     (worn d.0 refl d.1 (g.met.D.Desk.none c.args.desk.now))
@@ -86,7 +86,7 @@ returns-then-not-count_turn-clause-unavailable g c =
 pub returns-clause-unavailable : goal.returns-clause-unavailable
 returns-clause-unavailable g c =
     if_map (λ r. TurnTells c.args.job.now c.args.far.now r) _ c.work.result (returns-clause-turned g c)
-    (λ r turned. turned_tells (λ d es e. g.D.Desk.run d es e) (λ d s. g.D.Desk.shows d s)
+    (λ r turned. turned_tells g.D.Desk.run g.D.Desk.shows
     g.met.D.Desk.follows (g.D.Desk.settings c.args.desk.now) c.args.job.now
     (holding c.args.desk.now c.args.far.now) (holding c.work.new.desk c.work.new.far) r
     c.requires.sound turned)
@@ -94,8 +94,8 @@ returns-clause-unavailable g c =
 pub returns-clause-no_frame : goal.returns-clause-no_frame
 returns-clause-no_frame g c =
     if_map (λ r. Never r) _ c.work.result c.work.ensures.does (λ r does.
-    does_never (λ d es e. g.D.Desk.run d es e) (λ d s. g.D.Desk.shows d s)
-    (Reads (λ d es e. g.D.Desk.run d es e) (λ d s. g.D.Desk.shows d s))
-    (reads_never (λ d es e. g.D.Desk.run d es e) (λ d s. g.D.Desk.shows d s)
+    does_never g.D.Desk.run g.D.Desk.shows
+    (Reads g.D.Desk.run g.D.Desk.shows)
+    (reads_never g.D.Desk.run g.D.Desk.shows
     (g.D.Desk.settings c.args.desk.now)) (g.D.Desk.settings c.args.desk.now) c.args.job.now
     (holding c.args.desk.now c.count_turn.new.far) (holding c.work.new.desk c.work.new.far) r does)

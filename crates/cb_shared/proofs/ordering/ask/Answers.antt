@@ -27,14 +27,14 @@ land-requires-clause-kept g c = let s = c.requires.sound in (
 )
 
 pub returns-in-Gather : goal.returns-in-Gather
-returns-in-Gather g c = gather_asks (λ d es e. g.D.Desk.run d es e) (λ d s. g.D.Desk.shows d s)
+returns-in-Gather g c = gather_asks g.D.Desk.run g.D.Desk.shows
     (g.D.Desk.settings c.args.desk.now) (record { desk = c.args.desk.now; far = c.args.far.now })
     (record { desk = c.gather.new.desk; far = c.gather.new.far })
     c.args.asked.now c.in-Gather.is c.gather.result
     c.gather.ensures.turned c.gather.ensures.error c.gather.ensures.leaves
 
 pub returns-in-Install : goal.returns-in-Install
-returns-in-Install g c = install_asks (λ d es e. g.D.Desk.run d es e) (λ d s. g.D.Desk.shows d s)
+returns-in-Install g c = install_asks g.D.Desk.run g.D.Desk.shows
     (g.D.Desk.settings c.args.desk.now) (record { desk = c.args.desk.now; far = c.args.far.now })
     (record { desk = c.args.desk.now; far = c.install.new.far })
     c.args.asked.now _ c.in-Install.is c.install.result
@@ -44,14 +44,14 @@ returns-in-Install g c = install_asks (λ d es e. g.D.Desk.run d es e) (λ d s. 
     c.in-Install.is (c.requires.kept s shown sound))
 
 pub returns-in-Fetch : goal.returns-in-Fetch
-returns-in-Fetch g c = fetch_asks (λ d es e. g.D.Desk.run d es e) (λ d s. g.D.Desk.shows d s)
+returns-in-Fetch g c = fetch_asks g.D.Desk.run g.D.Desk.shows
     (g.D.Desk.settings c.args.desk.now) (record { desk = c.args.desk.now; far = c.args.far.now })
     (record { desk = c.fetch.new.desk; far = c.fetch.new.far })
     c.args.asked.now _ c.in-Fetch.is c.fetch.result c.fetch.ensures.turned
     c.fetch.ensures.unavailable c.fetch.ensures.error c.fetch.ensures.leaves
 
 pub returns-in-Land : goal.returns-in-Land
-returns-in-Land g c = land_asks (λ d es e. g.D.Desk.run d es e) (λ d s. g.D.Desk.shows d s)
+returns-in-Land g c = land_asks g.D.Desk.run g.D.Desk.shows
     (g.D.Desk.settings c.args.desk.now) (record { desk = c.args.desk.now; far = c.args.far.now })
     (record { desk = c.land.new.desk; far = c.land.new.far })
     c.args.asked.now _ c.in-Land.is c.land.result c.land.ensures.turned
