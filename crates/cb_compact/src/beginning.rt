@@ -1,6 +1,7 @@
 ghost use Rattle.std.specs.Prelude.{◌≡◌, ℕ, true, IfNone, IfOk, IfSome, OnErr, None, Some, replicate};
 ghost use Rattle.cb_set.specs.SetState.{SetState};
 ghost use Rattle.cb_world.specs.declared.shown.Shown.{Shown};
+ghost use Rattle.cb_world.specs.Desks.{IsReadyDesk};
 ghost use Rattle.cb_world.specs.Now.{now};
 ghost use Rattle.cb_world.specs.FarSound.{AwaySound};
 ghost use Rattle.cb_world.specs.Pairs.{HoldsNoPair, with_no_pair};
@@ -153,7 +154,7 @@ impl Compaction {
 /// positions; and where that does not show that there are still none, each set is looked at once,
 /// and then one of each group. No row is given out. Where there is no memory, nothing has changed.
 pub fn compact_begin<D: Desk>(desk: &mut D, far: &mut Far) -> Result<Reply, NoMemory>
-    requires sound { (s : Shown) × D.shows desk.old s × Sound s far.old }
+    requires sound { IsReadyDesk D.shows desk.old far.old }
     requires note { HoldsNoPair far.old }
     ensures desk { desk.new ≡ desk.old }
     ensures step { IfOk result (λ reply. PairStep far.old far.new reply) }

@@ -1,6 +1,7 @@
 ghost use Rattle.std.specs.Prelude.{◌≡◌, ℕ, ◌+◌, ◌^◌, ◌<◌, false, IfOk, OnErr, length};
 ghost use Rattle.cb_set.specs.SetState.{SetState};
 ghost use Rattle.cb_world.specs.declared.shown.Shown.{Shown};
+ghost use Rattle.cb_world.specs.Desks.{IsReadyDesk};
 ghost use Rattle.cb_world.specs.Joining.{JoiningState};
 ghost use Rattle.cb_world.specs.Now.{now};
 ghost use Rattle.cb_world.specs.Pairs.{HoldsNoPair};
@@ -105,7 +106,7 @@ fn go_through(far: &mut Far) -> Result<Reply, NoMemory>
 /// of which are live. No row is given out. Where there is no memory, nothing has changed, the count
 /// of drawn keys included.
 pub fn compact_now<D: Desk>(desk: &mut D, far: &mut Far) -> Result<Reply, NoMemory>
-    requires sound { (s : Shown) × D.shows desk.old s × Sound s far.old }
+    requires sound { IsReadyDesk D.shows desk.old far.old }
     requires note { HoldsNoPair far.old }
     requires keys { far.old.counts.keys + 20 < 2 ^ 62 }
     requires sets { far.old.counts.sets < 2 ^ 62 }

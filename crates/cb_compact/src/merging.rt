@@ -3,6 +3,7 @@ ghost use Rattle.std.specs.FinMap as map;
 ghost use Rattle.cb_member.specs.declared.names.Shard.{Shard};
 ghost use Rattle.cb_set.specs.SetState.{SetState, live_at, with_position};
 ghost use Rattle.cb_world.specs.declared.shown.Shown.{Shown};
+ghost use Rattle.cb_world.specs.Desks.{IsReadyDesk};
 ghost use Rattle.cb_world.specs.Joining.{JoiningState};
 ghost use Rattle.cb_world.specs.Now.{now};
 ghost use Rattle.cb_world.specs.FarSound.{FarSound};
@@ -319,7 +320,7 @@ fn merge_on(far: &mut Far) -> Result<Reply, NoMemory>
 /// order, and else Merged with the count of the positions taken from b that are live there now.
 /// No row is given out. Where there is no memory, nothing has changed.
 pub fn compact_commit<D: Desk>(desk: &mut D, far: &mut Far) -> Result<Reply, NoMemory>
-    requires sound { (s : Shown) × D.shows desk.old s × Sound s far.old }
+    requires sound { IsReadyDesk D.shows desk.old far.old }
     requires sets { far.old.counts.sets < 2 ^ 62 }
     ensures desk { desk.new ≡ desk.old }
     ensures step { IfOk result (λ reply. MergeStep far.old far.new reply) }

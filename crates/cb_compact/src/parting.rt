@@ -2,6 +2,7 @@ ghost use Rattle.std.specs.Prelude.{◌≡◌, ℕ, ◌<◌, IfOk, IsOk, None, S
 ghost use Rattle.cb_member.specs.declared.names.Shard.{Shard};
 ghost use Rattle.cb_node.specs.NodesState.{with_dropped};
 ghost use Rattle.cb_world.specs.declared.shown.Shown.{Shown};
+ghost use Rattle.cb_world.specs.Desks.{IsReadyDesk};
 ghost use Rattle.cb_world.specs.Joining.{JoiningState};
 ghost use Rattle.cb_world.specs.Now.{now};
 ghost use Rattle.cb_world.specs.Reserved.{put_shards};
@@ -21,7 +22,7 @@ use cb_world::{Desk, Far};
 /// Answers NoJoin exactly where no pair is joining, and else Done. Takes no memory, and no row is
 /// given out.
 pub fn compact_part<D: Desk>(desk: &mut D, far: &mut Far) -> Result<Reply, NoMemory>
-    requires sound { (s : Shown) × D.shows desk.old s × Sound s far.old }
+    requires sound { IsReadyDesk D.shows desk.old far.old }
     ensures memory { IsOk result }
     ensures desk { desk.new ≡ desk.old }
     ensures step { IfOk result (λ reply. PartStep far.old far.new reply) }

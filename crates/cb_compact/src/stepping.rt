@@ -2,6 +2,7 @@ ghost use Rattle.std.specs.Prelude.{◌≡◌, ℕ, ◌+◌, ◌^◌, ◌<◌, �
 ghost use Rattle.cb_member.specs.declared.names.Shard.{Shard};
 ghost use Rattle.cb_set.specs.SetState.{SetState};
 ghost use Rattle.cb_world.specs.declared.shown.Shown.{Shown};
+ghost use Rattle.cb_world.specs.Desks.{IsReadyDesk};
 ghost use Rattle.cb_world.specs.Joining.{JoiningState};
 ghost use Rattle.cb_world.specs.Now.{now};
 ghost use Rattle.cb_world.specs.FarSound.{FarSound};
@@ -110,7 +111,7 @@ fn step_on(far: &mut Far) -> Result<Reply, NoMemory>
 /// a's node of the position has no room, and else Stepped. No row is given out. Where there is no
 /// memory, nothing has changed.
 pub fn compact_step<D: Desk>(desk: &mut D, far: &mut Far) -> Result<Reply, NoMemory>
-    requires sound { (s : Shown) × D.shows desk.old s × Sound s far.old }
+    requires sound { IsReadyDesk D.shows desk.old far.old }
     requires keys { far.old.counts.keys < 2 ^ 62 }
     ensures desk { desk.new ≡ desk.old }
     ensures step { IfOk result (λ reply. PatchStep far.old far.new reply) }

@@ -12,8 +12,6 @@ use Rattle.cb_world.specs.declared.homes.Home.{Home}
 use Rattle.cb_world.specs.declared.shown.Shown.{Shown}
 use Rattle.cb_world.specs.FarState.{FarState}
 use Rattle.cb_world.specs.Homes.{home_at}
-use Rattle.cb_world.specs.Performs.{Performs}
-use Rattle.cb_world.specs.Sound.{Sound}
 use Rattle.cb_evict.specs.declared.gathering.Gathered.{Gathered}
 use Rattle.cb_evict.specs.Gathering.{GatherEffect, GatherRule, gathered_order, gathered_reply}
 use Rattle.cb_evict.specs.InstallRule.{InstallStep}
@@ -30,8 +28,8 @@ use Rattle.cb_core.specs.Turned.{EvictLacks, FindsWhere, WinsRoom, counted, once
 abbrev pub Gathers : {D : Type 0} → (D → List Access → D → Type 0) → (D → Shown → Type 0)
     → Holding D → Gathered → Holding D → Type 0
 Gathers run shows a g b =
-    Performs (λ es. run a.desk es b.desk) (λ s. shows a.desk s × Sound s a.far)
-    (GatherRule a.far b.far g) (λ t. Sound t b.far) (GatherEffect a.far b.far g)
+    Operates run shows a.desk a.far b.desk b.far
+    (GatherRule a.far b.far g) (GatherEffect a.far b.far g)
 
 -- the batch that is leaving gets the parities of the order that a seat keeps
 abbrev pub Installs : {D : Type 0} → (D → List Access → D → Type 0) → Option Kept → Holding D → Reply
@@ -47,9 +45,8 @@ FetchesRows run h a g b = (home : Home) × (home_at a.far.homes h ≡ Some home)
 -- the position of the order that a seat keeps is brought in, with the order's row
 abbrev pub Lands : {D : Type 0} → (D → List Access → D → Type 0) → (D → Shown → Type 0) → Option Kept
     → Holding D → Reply → Holding D → Type 0
-Lands run shows order a r b = Performs (λ es. run a.desk es b.desk)
-    (λ s. shows a.desk s × Sound s a.far) (LandRule order a.far b.far r)
-    (λ t. Sound t b.far) (LandEffect order a.far b.far r)
+Lands run shows order a r b = Operates run shows a.desk a.far b.desk b.far
+    (LandRule order a.far b.far r) (LandEffect order a.far b.far r)
 
 abbrev pub desk_orders : {D : Type 0} → (D → List Access → D → Type 0) → (D → Shown → Type 0)
     → Config → OrderParts D

@@ -12,14 +12,13 @@ use Rattle.cb_types.specs.Jobs.{job_index}
 use Rattle.cb_world.specs.declared.access.Access.{Access}
 use Rattle.cb_world.specs.declared.homes.Home.{Home}
 use Rattle.cb_world.specs.declared.shown.Shown.{Shown}
+use Rattle.cb_world.specs.Desks.{Operates}
 use Rattle.cb_world.specs.Counts.{with_turn}
 use Rattle.cb_world.specs.FarState.{FarState}
 use Rattle.cb_world.specs.Homes.{home_at}
 use Rattle.cb_world.specs.Looks.{IsFound, IsTold}
 use Rattle.cb_world.specs.Now.{is_gone}
-use Rattle.cb_world.specs.Performs.{Performs}
 use Rattle.cb_world.specs.Sets.{set_in}
-use Rattle.cb_world.specs.Sound.{Sound}
 use Rattle.cb_world.specs.Still.{IsStill}
 use Rattle.cb_world.specs.Touches.{SettlesLast}
 use Rattle.cb_mutate.specs.Answered.{Answered}
@@ -53,42 +52,41 @@ abbrev pub counted : FarState → Job → FarState
 counted far job = record far { counts = with_turn far.counts (job_index job) }
 
 -- an operation over a desk of any kind, by its rule and by its effect
-abbrev pub Operates : {D : Type 0} → (D → List Access → D → Type 0) → (D → Shown → Type 0)
+abbrev pub OperatesBy : {D : Type 0} → (D → List Access → D → Type 0) → (D → Shown → Type 0)
     → (FarState → FarState → Reply → List Access → Type 0)
     → (FarState → FarState → Reply → List Access → Shown → Shown → Type 0)
     → Holding D → Reply → Holding D → Type 0
-Operates run shows rule effect a r b = Performs (λ es. run a.desk es b.desk)
-    (λ s. shows a.desk s × Sound s a.far) (rule a.far b.far r) (λ t. Sound t b.far)
-    (effect a.far b.far r)
+OperatesBy run shows rule effect a r b = Operates run shows a.desk a.far b.desk b.far
+    (rule a.far b.far r) (effect a.far b.far r)
 
 -- the calls on objects in local memory
 abbrev pub Makes : {D : Type 0} → (D → List Access → D → Type 0) → (D → Shown → Type 0) → Config
     → List ℕ → Holding D → Reply → Holding D → Type 0
-Makes run shows c bytes = Operates run shows (λ far new r. MakeRule c.handles bytes far new r)
+Makes run shows c bytes = OperatesBy run shows (λ far new r. MakeRule c.handles bytes far new r)
     (λ far new r. MakeEffect bytes far new r)
 
 abbrev pub Reads : {D : Type 0} → (D → List Access → D → Type 0) → (D → Shown → Type 0) → ℕ
     → Holding D → Reply → Holding D → Type 0
-Reads run shows h = Operates run shows (λ far new r es. (new ≡ far) × ReadRule h r es)
+Reads run shows h = OperatesBy run shows (λ far new r es. (new ≡ far) × ReadRule h r es)
     (λ far new r. ReadEffect h r)
 
 abbrev pub WritesObject : {D : Type 0} → (D → List Access → D → Type 0) → (D → Shown → Type 0) → ℕ
     → ℕ
     → List ℕ → Holding D → Reply → Holding D → Type 0
 WritesObject run shows h at bytes =
-    Operates run shows (λ far new r es. (new ≡ far) × WriteRule h at bytes r es)
+    OperatesBy run shows (λ far new r es. (new ≡ far) × WriteRule h at bytes r es)
     (λ far new r. WriteEffect h at bytes r)
 
 abbrev pub Frees : {D : Type 0} → (D → List Access → D → Type 0) → (D → Shown → Type 0) → ℕ
     → Holding D → Reply → Holding D → Type 0
-Frees run shows h = Operates run shows (λ far new r. FreeRule h far new r)
+Frees run shows h = OperatesBy run shows (λ far new r. FreeRule h far new r)
     (λ far new r. FreeEffect h r)
 
 -- a look at where an object is: Stays where it is here
 abbrev pub FindsWhere : {D : Type 0} → (D → List Access → D → Type 0) → (D → Shown → Type 0) → ℕ
     → Holding D → Reply → Holding D → Type 0
 FindsWhere run shows h =
-    Operates run shows (λ far new r es. (new ≡ far) × Answered (λ w. r ≡ answer.Stays) h es r)
+    OperatesBy run shows (λ far new r es. (new ≡ far) × Answered (λ w. r ≡ answer.Stays) h es r)
     (λ far new r. IsStill)
 
 -- a far object is looked at before a write of so many bytes: the write is declined by the length of
@@ -101,22 +99,21 @@ IsDeclined h at count far declined es = ((is_gone far h ≡ true) × (declined �
 
 abbrev pub Declines : {D : Type 0} → (D → List Access → D → Type 0) → (D → Shown → Type 0) → ℕ → ℕ
     → ℕ → Holding D → Option Reply → Holding D → Type 0
-Declines run shows h at count a declined b = (b.far ≡ a.far) × Performs (λ es. run a.desk es b.desk)
-    (λ s. shows a.desk s × Sound s a.far) (IsDeclined h at count a.far declined)
-    (λ t. Sound t b.far) IsStill
+Declines run shows h at count a declined b = (b.far ≡ a.far) × Operates run shows a.desk a.far b.desk b.far
+    (IsDeclined h at count a.far declined) IsStill
 
 -- an eviction
 abbrev pub Evicts : {D : Type 0} → (D → List Access → D → Type 0) → (D → Shown → Type 0) → Config
     → Holding D → Reply → Holding D → Type 0
 Evicts run shows c =
-    Operates run shows (λ far new r. EvictRule far new r) (λ far new r. EvictEffect far new r)
+    OperatesBy run shows (λ far new r. EvictRule far new r) (λ far new r. EvictEffect far new r)
 
 -- one that makes room, and tells both counts where it is refused
 abbrev pub WinsRoom : {D : Type 0} → (D → List Access → D → Type 0) → (D → Shown → Type 0) → Config
     → Holding D → Eviction → Holding D → Type 0
 WinsRoom run shows c a e b =
-    Performs (λ es. run a.desk es b.desk) (λ s. shows a.desk s × Sound s a.far)
-    (CountsRule a.far b.far e) (λ t. Sound t b.far) (EvictEffect a.far b.far (reply_of e))
+    Operates run shows a.desk a.far b.desk b.far
+    (CountsRule a.far b.far e) (EvictEffect a.far b.far (reply_of e))
 
 -- and the answer to whom room is won for: that there is no room, or none yet
 abbrev pub TriesRoom : {D : Type 0} → (D → List Access → D → Type 0) → (D → Shown → Type 0) → Config
@@ -129,28 +126,28 @@ TriesRoom run shows c a refusal b =
 abbrev pub Begins : {D : Type 0} → (D → List Access → D → Type 0) → (D → Shown → Type 0) → Config
     → Holding D → Reply → Holding D → Type 0
 Begins run shows c =
-    Operates run shows (λ far new r. BeginRule far new r) (λ far new r. BeginEffect far new r)
+    OperatesBy run shows (λ far new r. BeginRule far new r) (λ far new r. BeginEffect far new r)
 
 abbrev pub Ships : {D : Type 0} → (D → List Access → D → Type 0) → (D → Shown → Type 0)
     → Holding D → Reply → Holding D → Type 0
-Ships run shows = Operates run shows (λ far new r. ShipRule far new r)
+Ships run shows = OperatesBy run shows (λ far new r. ShipRule far new r)
     (λ far new r. ShipEffect far new r)
 
 abbrev pub Commits : {D : Type 0} → (D → List Access → D → Type 0) → (D → Shown → Type 0)
     → Holding D → Reply → Holding D → Type 0
-Commits run shows = Operates run shows (λ far new r. CommitRule far new r)
+Commits run shows = OperatesBy run shows (λ far new r. CommitRule far new r)
     (λ far new r. CommitEffect far new r)
 
 abbrev pub Aborts : {D : Type 0} → (D → List Access → D → Type 0) → (D → Shown → Type 0)
     → Holding D → Reply → Holding D → Type 0
-Aborts run shows = Operates run shows (λ far new r. AbortRule far new r)
+Aborts run shows = OperatesBy run shows (λ far new r. AbortRule far new r)
     (λ far new r. AbortEffect far new)
 
 -- a swap-in of the position at which a far object has its home
 abbrev pub Swaps : {D : Type 0} → (D → List Access → D → Type 0) → (D → Shown → Type 0) → ℕ
     → Holding D → Reply → Holding D → Type 0
 Swaps run shows h a r b = (home : Home) × (home_at a.far.homes h ≡ Some home)
-    × Operates run shows (λ far new q. SwapRule home.set home.position far new q)
+    × OperatesBy run shows (λ far new q. SwapRule home.set home.position far new q)
     (λ far new q. SwapEffect home.set home.position far new q) a r b
 
 -- a far object is brought in, and room is won for it
@@ -161,7 +158,7 @@ Brings run shows c h = WithRoom c.frames (Swaps run shows h) (WinsRoom run shows
 -- a filter of an object in local memory
 abbrev pub Filters : {D : Type 0} → (D → List Access → D → Type 0) → (D → Shown → Type 0) → Config
     → ℕ → Holding D → Reply → Holding D → Type 0
-Filters run shows c h = Operates run shows (λ far new r. FilterRule c.frames h far new r)
+Filters run shows c h = OperatesBy run shows (λ far new r. FilterRule c.frames h far new r)
     (λ far new r. FilterEffect h far new r)
 
 -- an operation on the far state alone, at which the desk runs nothing
@@ -233,14 +230,14 @@ MakeLacks run c bytes a b =
 -- a read that lacks memory for the bytes has looked at an object that is here, and changes nothing
 abbrev pub ReadLacks : {D : Type 0} → (D → List Access → D → Type 0) → (D → Shown → Type 0) → ℕ
     → Holding D → Holding D → Type 0
-ReadLacks run shows h a b = (b.far ≡ a.far) × Performs (λ es. run a.desk es b.desk)
-    (λ s. shows a.desk s × Sound s a.far) (IsSeenHere h) (λ t. Sound t b.far) IsStill
+ReadLacks run shows h a b = (b.far ≡ a.far) × Operates run shows a.desk a.far b.desk b.far
+    (IsSeenHere h) IsStill
 
 -- an eviction that lacks memory changes nothing; nor does a begin
 abbrev pub EvictLacks : {D : Type 0} → (D → List Access → D → Type 0) → (D → Shown → Type 0)
     → Holding D → Holding D → Type 0
-EvictLacks run shows a b = (b.far ≡ a.far) × Performs (λ es. run a.desk es b.desk)
-    (λ s. shows a.desk s × Sound s a.far) (TouchesSpans a.far) (λ t. Sound t b.far) IsStill
+EvictLacks run shows a b = (b.far ≡ a.far) × Operates run shows a.desk a.far b.desk b.far
+    (TouchesSpans a.far) IsStill
 
 -- the object has its home in a set, and rows of that set were given out, at most as many as it has
 -- data positions
@@ -261,8 +258,8 @@ BringLacks run shows c h = RoomStops (Swaps run shows h) (SwapLacks run h) (Wins
 -- a filter that lacks memory for a new span changes nothing
 abbrev pub FilterLacks : {D : Type 0} → (D → List Access → D → Type 0) → (D → Shown → Type 0) → ℕ
     → Holding D → Holding D → Type 0
-FilterLacks run shows h a b = Performs (λ es. run a.desk es b.desk)
-    (λ s. shows a.desk s × Sound s a.far) (NeedsMemory h a.far b.far) (λ t. Sound t b.far) IsStill
+FilterLacks run shows h a b = Operates run shows a.desk a.far b.desk b.far
+    (NeedsMemory h a.far b.far) IsStill
 
 -- an operation on the far state alone that lacks memory
 abbrev pub AtFarLacks : {D : Type 0} → (D → List Access → D → Type 0)
@@ -272,8 +269,8 @@ AtFarLacks run lacks a b = run a.desk [] b.desk × lacks a.far b.far
 -- a ship that lacks memory changes nothing
 abbrev pub ShipLacks : {D : Type 0} → (D → List Access → D → Type 0) → (D → Shown → Type 0)
     → Holding D → Holding D → Type 0
-ShipLacks run shows a b = (b.far ≡ a.far) × Performs (λ es. run a.desk es b.desk)
-    (λ s. shows a.desk s × Sound s a.far) (ReadsLeaving a.far) (λ t. Sound t b.far) IsStill
+ShipLacks run shows a b = (b.far ≡ a.far) × Operates run shows a.desk a.far b.desk b.far
+    (ReadsLeaving a.far) IsStill
 
 -- an object that was far was found so, and its bringing in lacked memory
 abbrev pub ComeLacks : {D : Type 0} → (D → List Access → D → Type 0) → (D → Shown → Type 0) → Config

@@ -3,6 +3,7 @@ ghost use Rattle.cb_types.specs.Config.{IsAccepted, most_bytes};
 ghost use Rattle.cb_types.specs.declared.reply.Reply.TheVariants as answer;
 ghost use Rattle.cb_world.specs.declared.homes.Home.{Home};
 ghost use Rattle.cb_world.specs.declared.shown.Shown.{Shown};
+ghost use Rattle.cb_world.specs.Desks.{IsReadyDesk};
 ghost use Rattle.cb_world.specs.Homes.{home_at};
 ghost use Rattle.cb_world.specs.Orders.{KeepsOrder};
 ghost use Rattle.cb_world.specs.Sound.{Sound};
@@ -39,7 +40,7 @@ pub(crate) fn make_with_room<D: Desk>(
     requires configured { IsConfigured (D.settings desk.old) far.old }
     requires counts { (far.old.counts.sets + 2 ^ 18 < 2 ^ 62)
         × (far.old.counts.keys + 2 ^ 18 < 2 ^ 62) }
-    requires sound { (s : Shown) × D.shows desk.old s × Sound s far.old }
+    requires sound { IsReadyDesk D.shows desk.old far.old }
     ensures makes { IfOk result (λ reply. WithRoom (D.settings desk.old).frames
         (Makes D.run D.shows (D.settings desk.old) bytes.now)
         (WinsRoom D.run D.shows (D.settings desk.old))
@@ -71,7 +72,7 @@ fn win_room<D: Desk>(desk: &mut D, far: &mut Far) -> Result<Option<Reply>, NoMem
     requires config { IsAccepted (D.settings desk.old) }
     requires configured { IsConfigured (D.settings desk.old) far.old }
     requires counts { (far.old.counts.sets < 2 ^ 62) × (far.old.counts.keys < 2 ^ 62) }
-    requires sound { (s : Shown) × D.shows desk.old s × Sound s far.old }
+    requires sound { IsReadyDesk D.shows desk.old far.old }
     ensures tries { IfOk result (λ refusal. TriesRoom D.run D.shows
         (D.settings desk.old) (record { desk = desk.old; far = far.old }) refusal
         (record { desk = desk.new; far = far.new })) }
@@ -97,7 +98,7 @@ fn bring<D: Desk>(desk: &mut D, far: &mut Far, h: Handle) -> Result<Reply, NoMem
         × (far.old.counts.keys + 2 ^ 18 < 2 ^ 62) }
     requires given { far.old.nodes.given + 16 < 2 ^ 64 }
     requires home { (home : Home) × (home_at far.old.homes h.n ≡ Some home) }
-    requires sound { (s : Shown) × D.shows desk.old s × Sound s far.old }
+    requires sound { IsReadyDesk D.shows desk.old far.old }
     ensures brings { IfOk result (λ reply. Brings
         D.run D.shows (D.settings desk.old) h.n
         (record { desk = desk.old; far = far.old }) reply
@@ -177,7 +178,7 @@ pub(crate) fn write_anywhere<D: Desk>(
     requires counts { (far.old.counts.sets + 2 ^ 18 < 2 ^ 62)
         × (far.old.counts.keys + 2 ^ 18 < 2 ^ 62) }
     requires given { far.old.nodes.given + 16 < 2 ^ 64 }
-    requires sound { (s : Shown) × D.shows desk.old s × Sound s far.old }
+    requires sound { IsReadyDesk D.shows desk.old far.old }
     ensures writes { IfOk result (λ reply. WhereItIs
         (WritesObject D.run D.shows h.n at bytes.now)
         (Declines D.run D.shows h.n at (length bytes.now))
@@ -219,7 +220,7 @@ pub(crate) fn swap_object<D: Desk>(
     requires counts { (far.old.counts.sets + 2 ^ 18 < 2 ^ 62)
         × (far.old.counts.keys + 2 ^ 18 < 2 ^ 62) }
     requires given { far.old.nodes.given + 16 < 2 ^ 64 }
-    requires sound { (s : Shown) × D.shows desk.old s × Sound s far.old }
+    requires sound { IsReadyDesk D.shows desk.old far.old }
     ensures comes { IfOk result (λ reply. ComesIn D.run D.shows
         (D.settings desk.old) h.n (record { desk = desk.old; far = far.old }) reply
         (record { desk = desk.new; far = far.new })) }

@@ -2,9 +2,9 @@ ghost use Rattle.std.specs.Prelude.{◌≡◌, ℕ, ◌<◌, length, List};
 ghost use Rattle.cb_types.specs.declared.reply.Reply.TheVariants as answer;
 ghost use Rattle.cb_world.specs.declared.object.Object.TheVariants as is;
 ghost use Rattle.cb_world.specs.declared.shown.Shown.{Shown};
+ghost use Rattle.cb_world.specs.Desks.{IsReadyDesk};
 ghost use Rattle.cb_world.specs.Shown.{object_at};
 ghost use Rattle.cb_world.specs.Now.{is_gone};
-ghost use Rattle.cb_world.specs.Sound.{Sound};
 ghost use Rattle.cb_world.specs.FarSound.{AwaySound};
 ghost use Rattle.cb_core.specs.Turned.{Declines, FindsWhere};
 
@@ -16,7 +16,7 @@ use cb_world::{Desk, Far};
 /// is looked at, and nothing else.
 pub(crate) fn find<D: Desk>(desk: &mut D, far: &Far, h: Handle) -> Reply
     requires handle { h.n < (D.settings desk.old).handles }
-    requires sound { (s : Shown) × D.shows desk.old s × Sound s far.now }
+    requires sound { IsReadyDesk D.shows desk.old far.now }
     ensures away { result ≡ answer.NotHere → (s : Shown) → D.shows desk.old s
         → (len v : ℕ) × (words : List ℕ) × (object_at s h.n ≡ is.Far len v words) }
     ensures finds { FindsWhere D.run D.shows h.n
@@ -45,7 +45,7 @@ pub(crate) fn decline<D: Desk>(
 ) -> Option<Reply>
     requires handle { h.n < (D.settings desk.old).handles }
     requires homes { h.n < length far.now.homes }
-    requires sound { (s : Shown) × D.shows desk.old s × Sound s far.now }
+    requires sound { IsReadyDesk D.shows desk.old far.now }
     requires away { (s : Shown) × D.shows desk.old s
         × ((len v : ℕ) × (words : List ℕ) × (object_at s h.n ≡ is.Far len v words)) }
     ensures declines { Declines D.run D.shows h.n at

@@ -5,6 +5,7 @@ ghost use Rattle.cb_types.specs.declared.order.Kept.{Kept};
 ghost use Rattle.cb_types.specs.declared.reply.Reply.TheVariants as answer;
 ghost use Rattle.cb_world.specs.declared.homes.Home.{Home};
 ghost use Rattle.cb_world.specs.declared.shown.Shown.{Shown};
+ghost use Rattle.cb_world.specs.Desks.{IsReadyDesk};
 ghost use Rattle.cb_world.specs.Homes.{home_at};
 ghost use Rattle.cb_world.specs.Orders.{KeepsOrder};
 ghost use Rattle.cb_world.specs.Sound.{Sound};
@@ -45,7 +46,7 @@ pub fn fetch<D: Desk>(
     requires configured { IsConfigured (D.settings desk.old) far.old }
     requires handle { h.n < (D.settings desk.old).handles }
     requires counted { AreCounted far.old }
-    requires sound { (s : Shown) × D.shows desk.old s × Sound s far.old }
+    requires sound { IsReadyDesk D.shows desk.old far.old }
     ensures turned { IfOk result (λ g. (order : Option Kept) → TurnedWith
         D.run D.shows (D.settings desk.old) (job.Fetch h) order
         (record { desk = desk.old; far = far.old }) (fetching_reply g) (fetching_order order g)
@@ -70,7 +71,7 @@ pub fn fetch<D: Desk>(
 fn hand_rows<D: Desk>(desk: &mut D, far: &mut Far, h: Handle) -> Result<Fetching, NoMemory>
     requires handle { h.n < (D.settings desk.old).handles }
     requires given { far.old.nodes.given + 16 < 2 ^ 64 }
-    requires sound { (s : Shown) × D.shows desk.old s × Sound s far.old }
+    requires sound { IsReadyDesk D.shows desk.old far.old }
     ensures fetches { IfOk result (λ g. FetchRun D.run D.shows h.n
         (record { desk = desk.old; far = far.old }) g (record { desk = desk.new; far = far.new })) }
     ensures error { OnErr result (FetchStops D.run D.shows h.n

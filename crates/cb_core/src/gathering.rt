@@ -4,6 +4,7 @@ ghost use Rattle.cb_types.specs.declared.config.Config.{Config};
 ghost use Rattle.cb_types.specs.declared.job.Job.TheVariants as job;
 ghost use Rattle.cb_types.specs.declared.order.Kept.{Kept};
 ghost use Rattle.cb_world.specs.declared.shown.Shown.{Shown};
+ghost use Rattle.cb_world.specs.Desks.{IsReadyDesk};
 ghost use Rattle.cb_world.specs.Orders.{KeepsOrder};
 ghost use Rattle.cb_world.specs.Sound.{Sound};
 ghost use Rattle.cb_world.specs.World.{AreCounted, IsConfigured};
@@ -31,7 +32,7 @@ pub fn gather<D: Desk>(alloc: Global, desk: &mut D, far: &mut Far) -> Result<Gat
     requires config { IsAccepted (D.settings desk.old) }
     requires configured { IsConfigured (D.settings desk.old) far.old }
     requires counted { AreCounted far.old }
-    requires sound { (s : Shown) × D.shows desk.old s × Sound s far.old }
+    requires sound { IsReadyDesk D.shows desk.old far.old }
     ensures turned { IfOk result (λ g. (order : Option Kept) → TurnedWith
         D.run D.shows (D.settings desk.old) job.Gather order
         (record { desk = desk.old; far = far.old }) (gathered_reply g) (gathered_order order g)

@@ -6,6 +6,7 @@ ghost use Rattle.cb_types.specs.declared.order.Kept.{Kept};
 ghost use Rattle.cb_types.specs.declared.order.Kept.TheVariants.{Decode, Encode};
 ghost use Rattle.cb_types.specs.declared.reply.Reply.TheVariants as answer;
 ghost use Rattle.cb_world.specs.declared.shown.Shown.{Shown};
+ghost use Rattle.cb_world.specs.Desks.{IsReadyDesk};
 ghost use Rattle.cb_world.specs.Orders.{IsDecodeKept, IsEncodeKept, KeepsOrder};
 ghost use Rattle.cb_world.specs.Sound.{Sound};
 ghost use Rattle.cb_world.specs.World.{AreCounted, IsConfigured};
@@ -44,7 +45,7 @@ pub(crate) fn turn_with<D: Desk>(
     requires job { IsJob (D.settings desk.old) job.now }
     requires needs { NeedsNoOrder job.now → ⊥ }
     requires counted { AreCounted far.old }
-    requires sound { (s : Shown) × D.shows desk.old s × Sound s far.old }
+    requires sound { IsReadyDesk D.shows desk.old far.old }
     requires kept { (s : Shown) → D.shows desk.old s → Sound s far.old
         → KeepsOrder s far.old order }
     ensures ends { EndsWith D.run D.shows (D.settings desk.old)
@@ -73,7 +74,7 @@ fn gather_with<D: Desk>(
     requires config { IsAccepted (D.settings desk.old) }
     requires configured { IsConfigured (D.settings desk.old) far.old }
     requires counted { AreCounted far.old }
-    requires sound { (s : Shown) × D.shows desk.old s × Sound s far.old }
+    requires sound { IsReadyDesk D.shows desk.old far.old }
     ensures turned { TurnsWith D.run D.shows
         (D.settings desk.old) job.Gather order
         (record { desk = desk.old; far = far.old }) result.0 result.1
@@ -113,7 +114,7 @@ fn fetch_with<D: Desk>(
     requires configured { IsConfigured (D.settings desk.old) far.old }
     requires handle { h.n < (D.settings desk.old).handles }
     requires counted { AreCounted far.old }
-    requires sound { (s : Shown) × D.shows desk.old s × Sound s far.old }
+    requires sound { IsReadyDesk D.shows desk.old far.old }
     ensures turned { TurnsWith D.run D.shows
         (D.settings desk.old) (job.Fetch h) order
         (record { desk = desk.old; far = far.old }) result.0 result.1

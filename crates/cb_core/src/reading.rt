@@ -1,8 +1,7 @@
 ghost use Rattle.std.specs.Prelude.{◌≡◌, ◌+◌, ◌^◌, ◌<◌, true, false, [], IfOk, OnErr};
 ghost use Rattle.cb_types.specs.Config.{IsAccepted};
 ghost use Rattle.cb_types.specs.declared.reply.Reply.TheVariants as answer;
-ghost use Rattle.cb_world.specs.declared.shown.Shown.{Shown};
-ghost use Rattle.cb_world.specs.Sound.{Sound};
+ghost use Rattle.cb_world.specs.Desks.{IsReadyDesk};
 ghost use Rattle.cb_world.specs.World.{AreCounted, IsConfigured};
 ghost use Rattle.cb_core.specs.OnceHere.{IsThere, OnceHere, OnceHereStops};
 ghost use Rattle.cb_core.specs.ReadTurn.{BroughtToRead, StoppedToRead};
@@ -30,7 +29,7 @@ pub fn bring_to_read<D: Desk>(desk: &mut D, far: &mut Far, h: Handle) -> Result<
     requires configured { IsConfigured (D.settings desk.old) far.old }
     requires handle { h.n < (D.settings desk.old).handles }
     requires counted { AreCounted far.old }
-    requires sound { (s : Shown) × D.shows desk.old s × Sound s far.old }
+    requires sound { IsReadyDesk D.shows desk.old far.old }
     ensures brought { IfOk result
         (λ reply. BroughtToRead D.run D.shows
         (D.settings desk.old) h (record { desk = desk.old; far = far.old }) reply
@@ -63,7 +62,7 @@ pub(crate) fn read_anywhere<D: Desk>(
     requires counts { (far.old.counts.sets + 2 ^ 18 < 2 ^ 62)
         × (far.old.counts.keys + 2 ^ 18 < 2 ^ 62) }
     requires given { far.old.nodes.given + 16 < 2 ^ 64 }
-    requires sound { (s : Shown) × D.shows desk.old s × Sound s far.old }
+    requires sound { IsReadyDesk D.shows desk.old far.old }
     ensures reads { IfOk result (λ reply. OnceHere
         (ComesIn D.run D.shows (D.settings desk.old) h.n)
         (Reads D.run D.shows h.n)

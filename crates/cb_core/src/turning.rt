@@ -1,9 +1,8 @@
 ghost use Rattle.std.specs.Prelude.{◌≡◌, ◌+◌, ◌^◌, ◌<◌, true, false, IfOk, OnErr};
 ghost use Rattle.cb_types.specs.Config.{IsAccepted};
 ghost use Rattle.cb_types.specs.declared.reply.Reply.TheVariants as answer;
-ghost use Rattle.cb_world.specs.declared.shown.Shown.{Shown};
+ghost use Rattle.cb_world.specs.Desks.{IsReadyDesk};
 ghost use Rattle.cb_world.specs.Pairs.{HoldsNoPair};
-ghost use Rattle.cb_world.specs.Sound.{Sound};
 ghost use Rattle.cb_world.specs.World.{AreCounted, IsConfigured};
 ghost use Rattle.cb_core.specs.Jobs.{IsJob, NeedsNoOrder};
 ghost use Rattle.cb_core.specs.TurnLeaves.{OutcomeWrites, TurnLeaves};
@@ -50,7 +49,7 @@ pub fn turn<D: Desk>(
     requires job { IsJob (D.settings desk.old) job.now }
     requires order { NeedsNoOrder job.now }
     requires counted { AreCounted far.old }
-    requires sound { (s : Shown) × D.shows desk.old s × Sound s far.old }
+    requires sound { IsReadyDesk D.shows desk.old far.old }
     ensures turned { IfOk result (λ reply. Turned D.run D.shows
         (Reads D.run D.shows) (D.settings desk.old) job.now
         (record { desk = desk.old; far = far.old }) reply
@@ -96,7 +95,7 @@ fn work<D: Desk>(alloc: Global, desk: &mut D, far: &mut Far, job: &Job) -> Resul
     requires given { far.old.nodes.given + 16 < 2 ^ 64 }
     requires epoch { far.old.members.epoch < 2 ^ 62 }
     requires note { HoldsNoPair far.old }
-    requires sound { (s : Shown) × D.shows desk.old s × Sound s far.old }
+    requires sound { IsReadyDesk D.shows desk.old far.old }
     ensures does { IfOk result (λ reply. Does D.run D.shows
         (Reads D.run D.shows) (D.settings desk.old) job.now
         (record { desk = desk.old; far = far.old }) reply

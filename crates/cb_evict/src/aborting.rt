@@ -2,10 +2,8 @@ ghost use Rattle.std.specs.Prelude.{◌≡◌, ◌<◌, IfOk, IsOk, None, Some, 
 ghost use Rattle.std.specs.FinMap as map;
 ghost use Rattle.cb_member.specs.declared.names.Shard.{Shard};
 ghost use Rattle.cb_node.specs.NodesState.{with_dropped};
-ghost use Rattle.cb_world.specs.declared.shown.Shown.{Shown};
-ghost use Rattle.cb_world.specs.Performs.{Performs};
+ghost use Rattle.cb_world.specs.Desks.{IsReadyDesk, Operates};
 ghost use Rattle.cb_world.specs.Reserved.{put_shards};
-ghost use Rattle.cb_world.specs.Sound.{Sound};
 ghost use Rattle.cb_world.specs.Stored.{AreThere, all_dropped};
 ghost use Rattle.cb_evict.specs.AbortRule.{AbortEffect, AbortRule};
 
@@ -22,12 +20,10 @@ use cb_world::{Desk, Far, Leaving};
 /// Refuses with NoBatch where none is leaving. Looks at the batch's objects and positions alone;
 /// takes no memory.
 pub fn abort<D: Desk>(desk: &mut D, far: &mut Far) -> Result<Reply, NoMemory>
-    requires sound { (s : Shown) × D.shows desk.old s × Sound s far.old }
+    requires sound { IsReadyDesk D.shows desk.old far.old }
     ensures memory { IsOk result }
-    ensures abort { IfOk result (λ reply. Performs (λ es. D.run desk.old es desk.new)
-        (λ s. D.shows desk.old s × Sound s far.old)
+    ensures abort { IfOk result (λ reply. Operates D.run D.shows desk.old far.old desk.new far.new
         (AbortRule far.old far.new reply)
-        (λ t. Sound t far.new)
         (AbortEffect far.old far.new)) }
 {
     let Some(batch) = far.leaving.take() else {

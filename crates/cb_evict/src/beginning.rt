@@ -7,12 +7,11 @@ ghost use Rattle.cb_gf256.specs.Rows.{row_at, HaveLength};
 ghost use Rattle.cb_span.specs.Contents.{Contents};
 ghost use Rattle.cb_world.specs.declared.access.Access.{Access};
 ghost use Rattle.cb_world.specs.declared.shown.Shown.{Shown};
+ghost use Rattle.cb_world.specs.Desks.{IsReadyDesk, Operates};
 ghost use Rattle.cb_world.specs.World.{IsConfigured};
 ghost use Rattle.cb_world.specs.Still.{IsStill};
 ghost use Rattle.cb_world.specs.FarState.{span_in};
 ghost use Rattle.cb_world.specs.Leaving.{AreRoomy, shown_rows};
-ghost use Rattle.cb_world.specs.Sound.{Sound};
-ghost use Rattle.cb_world.specs.Performs.{Performs};
 ghost use Rattle.cb_evict.specs.BeginRule.{BeginRule, BeginsBy, blank_shard, blank_shards};
 ghost use Rattle.cb_evict.specs.BeginEffect.{BeginEffect};
 ghost use Rattle.cb_evict.specs.Beginning.{AreReady, BeginsClaimed, ReservesFrames, with_reserved};
@@ -77,16 +76,12 @@ pub fn begin<D: Desk>(desk: &mut D, far: &mut Far) -> Result<Reply, NoMemory>
     requires config { IsAccepted (D.settings desk.old) }
     requires configured { IsConfigured (D.settings desk.old) far.old }
     requires counts { far.old.counts.sets < 2 ^ 62 }
-    requires sound { (s : Shown) × D.shows desk.old s × Sound s far.old }
-    ensures begun { IfOk result (λ reply. Performs (λ es. D.run desk.old es desk.new)
-        (λ s. D.shows desk.old s × Sound s far.old)
+    requires sound { IsReadyDesk D.shows desk.old far.old }
+    ensures begun { IfOk result (λ reply. Operates D.run D.shows desk.old far.old desk.new far.new
         (BeginRule far.old far.new reply)
-        (λ t. Sound t far.new)
         (BeginEffect far.old far.new reply)) }
-    ensures error { OnErr result (Performs (λ es. D.run desk.old es desk.new)
-        (λ s. D.shows desk.old s × Sound s far.old)
+    ensures error { OnErr result (Operates D.run D.shows desk.old far.old desk.new far.new
         (TouchesSpans far.old)
-        (λ t. Sound t far.new)
         IsStill) }
     ensures unchanged { OnErr result (far.new ≡ far.old) }
     ensures none { OnErr result (far.old.leaving ≡ None) }
@@ -105,16 +100,12 @@ pub(crate) fn begin_with<D: Desk>(
     requires config { IsAccepted (D.settings desk.old) }
     requires configured { IsConfigured (D.settings desk.old) far.old }
     requires counts { far.old.counts.sets < 2 ^ 62 }
-    requires sound { (s : Shown) × D.shows desk.old s × Sound s far.old }
-    ensures begun { IfOk result (λ g. Performs (λ es. D.run desk.old es desk.new)
-        (λ s. D.shows desk.old s × Sound s far.old)
+    requires sound { IsReadyDesk D.shows desk.old far.old }
+    ensures begun { IfOk result (λ g. Operates D.run D.shows desk.old far.old desk.new far.new
         (BeginsBy far.old far.new made (HandsOut far.old g) (gathered_reply g))
-        (λ t. Sound t far.new)
         (GatherEffect far.old far.new g)) }
-    ensures error { OnErr result (Performs (λ es. D.run desk.old es desk.new)
-        (λ s. D.shows desk.old s × Sound s far.old)
+    ensures error { OnErr result (Operates D.run D.shows desk.old far.old desk.new far.new
         (TouchesSpans far.old)
-        (λ t. Sound t far.new)
         IsStill) }
     ensures unchanged { OnErr result (far.new ≡ far.old) }
     ensures none { OnErr result (far.old.leaving ≡ None) }
@@ -141,16 +132,12 @@ fn begin_new<D: Desk>(desk: &mut D, far: &mut Far, made: bool) -> Result<Gathere
     requires configured { IsConfigured (D.settings desk.old) far.old }
     requires counts { far.old.counts.sets < 2 ^ 62 }
     requires none { far.old.leaving ≡ None }
-    requires sound { (s : Shown) × D.shows desk.old s × Sound s far.old }
-    ensures begun { IfOk result (λ g. Performs (λ es. D.run desk.old es desk.new)
-        (λ s. D.shows desk.old s × Sound s far.old)
+    requires sound { IsReadyDesk D.shows desk.old far.old }
+    ensures begun { IfOk result (λ g. Operates D.run D.shows desk.old far.old desk.new far.new
         (BeginsBy far.old far.new made (HandsOut far.old g) (gathered_reply g))
-        (λ t. Sound t far.new)
         (GatherEffect far.old far.new g)) }
-    ensures error { OnErr result (Performs (λ es. D.run desk.old es desk.new)
-        (λ s. D.shows desk.old s × Sound s far.old)
+    ensures error { OnErr result (Operates D.run D.shows desk.old far.old desk.new far.new
         (TouchesSpans far.old)
-        (λ t. Sound t far.new)
         IsStill) }
     ensures unchanged { OnErr result (far.new ≡ far.old) }
 {

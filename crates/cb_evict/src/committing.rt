@@ -1,17 +1,15 @@
 ghost use Rattle.std.specs.Prelude.{◌≡◌, ◌≢◌, ◌^◌, ◌<◌, ◌≤◌, true, All, IfNone, IfOk, IfSome, IsOk, None, Some, length};
 ghost use Rattle.std.specs.List.{AllPairs};
 ghost use Rattle.std.specs.FinMap as map;
+ghost use Rattle.cb_world.specs.Desks.{IsReadyDesk, Operates};
 ghost use Rattle.cb_world.specs.LocalSound.{AreFrames};
 ghost use Rattle.cb_member.specs.declared.names.Shard.{Shard};
 ghost use Rattle.cb_set.specs.SetState.{with_shard};
 ghost use Rattle.cb_span.specs.Contents.{Contents};
-ghost use Rattle.cb_world.specs.declared.shown.Shown.{Shown};
 ghost use Rattle.cb_world.specs.FarState.{span_in};
 ghost use Rattle.cb_world.specs.Leaving.{LeavingState};
-ghost use Rattle.cb_world.specs.Performs.{Performs};
 ghost use Rattle.cb_world.specs.Reserved.{put_shards};
 ghost use Rattle.cb_world.specs.Sets.{Kept};
-ghost use Rattle.cb_world.specs.Sound.{Sound};
 ghost use Rattle.cb_world.specs.World.{IsConfigured};
 ghost use Rattle.cb_evict.specs.Candidates.{AreUnique};
 ghost use Rattle.cb_evict.specs.Closing.{HaveHomes, with_homes};
@@ -35,12 +33,10 @@ use cb_world::{Desk, Far, Leaving, Sets};
 /// and positions alone; takes no memory.
 pub fn commit<D: Desk>(desk: &mut D, far: &mut Far) -> Result<Reply, NoMemory>
     requires configured { IsConfigured (D.settings desk.old) far.old }
-    requires sound { (s : Shown) × D.shows desk.old s × Sound s far.old }
+    requires sound { IsReadyDesk D.shows desk.old far.old }
     ensures memory { IsOk result }
-    ensures commit { IfOk result (λ reply. Performs (λ es. D.run desk.old es desk.new)
-        (λ s. D.shows desk.old s × Sound s far.old)
+    ensures commit { IfOk result (λ reply. Operates D.run D.shows desk.old far.old desk.new far.new
         (CommitRule far.old far.new reply)
-        (λ t. Sound t far.new)
         (CommitEffect far.old far.new reply)) }
 {
     let Some(positions) = waiting_in(far) else {

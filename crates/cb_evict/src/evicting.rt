@@ -4,13 +4,12 @@ ghost use Rattle.cb_gf256.specs.Rows.{HaveLength};
 ghost use Rattle.cb_span.specs.Contents.{Contents};
 ghost use Rattle.cb_world.specs.declared.access.Access.{Access};
 ghost use Rattle.cb_world.specs.declared.shown.Shown.{Shown};
+ghost use Rattle.cb_world.specs.Desks.{IsReadyDesk, Operates};
 ghost use Rattle.cb_world.specs.World.{IsConfigured};
 ghost use Rattle.cb_world.specs.Still.{IsStill};
 ghost use Rattle.cb_world.specs.Choices.{room_count};
 ghost use Rattle.cb_world.specs.FarSound.{AreShardRows};
 ghost use Rattle.cb_world.specs.FarState.{span_in};
-ghost use Rattle.cb_world.specs.Sound.{Sound};
-ghost use Rattle.cb_world.specs.Performs.{Performs};
 ghost use Rattle.cb_evict.specs.EvictRule.{EvictRule};
 ghost use Rattle.cb_evict.specs.EvictEffect.{EvictEffect};
 ghost use Rattle.cb_evict.specs.Evicting.{AreSpansTaken, EvictsClaimed, IsReadyToEvict, LeavesClaimed, ReadsSpans, StoresFrames, TouchesSpans};
@@ -41,16 +40,12 @@ pub fn evict_now<D: Desk>(desk: &mut D, far: &mut Far) -> Result<Reply, NoMemory
     requires config { IsAccepted (D.settings desk.old) }
     requires configured { IsConfigured (D.settings desk.old) far.old }
     requires counts { (far.old.counts.sets < 2 ^ 62) × (far.old.counts.keys < 2 ^ 62) }
-    requires sound { (s : Shown) × D.shows desk.old s × Sound s far.old }
-    ensures evict { IfOk result (λ reply. Performs (λ es. D.run desk.old es desk.new)
-        (λ s. D.shows desk.old s × Sound s far.old)
+    requires sound { IsReadyDesk D.shows desk.old far.old }
+    ensures evict { IfOk result (λ reply. Operates D.run D.shows desk.old far.old desk.new far.new
         (EvictRule far.old far.new reply)
-        (λ t. Sound t far.new)
         (EvictEffect far.old far.new reply)) }
-    ensures error { OnErr result (Performs (λ es. D.run desk.old es desk.new)
-        (λ s. D.shows desk.old s × Sound s far.old)
+    ensures error { OnErr result (Operates D.run D.shows desk.old far.old desk.new far.new
         (TouchesSpans far.old)
-        (λ t. Sound t far.new)
         IsStill) }
     ensures unchanged { OnErr result (far.new ≡ far.old) }
 {
@@ -67,16 +62,12 @@ pub fn evict_counted<D: Desk>(desk: &mut D, far: &mut Far) -> Result<Eviction, N
     requires config { IsAccepted (D.settings desk.old) }
     requires configured { IsConfigured (D.settings desk.old) far.old }
     requires counts { (far.old.counts.sets < 2 ^ 62) × (far.old.counts.keys < 2 ^ 62) }
-    requires sound { (s : Shown) × D.shows desk.old s × Sound s far.old }
-    ensures evict { IfOk result (λ eviction. Performs (λ es. D.run desk.old es desk.new)
-        (λ s. D.shows desk.old s × Sound s far.old)
+    requires sound { IsReadyDesk D.shows desk.old far.old }
+    ensures evict { IfOk result (λ eviction. Operates D.run D.shows desk.old far.old desk.new far.new
         (CountsRule far.old far.new eviction)
-        (λ t. Sound t far.new)
         (EvictEffect far.old far.new (reply_of eviction))) }
-    ensures error { OnErr result (Performs (λ es. D.run desk.old es desk.new)
-        (λ s. D.shows desk.old s × Sound s far.old)
+    ensures error { OnErr result (Operates D.run D.shows desk.old far.old desk.new far.new
         (TouchesSpans far.old)
-        (λ t. Sound t far.new)
         IsStill) }
     ensures unchanged { OnErr result (far.new ≡ far.old) }
 {

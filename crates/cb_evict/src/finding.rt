@@ -1,8 +1,7 @@
 ghost use Rattle.std.specs.Prelude.{[], IfOk, OnErr};
 ghost use Rattle.cb_types.specs.Config.{IsAccepted};
-ghost use Rattle.cb_world.specs.declared.shown.Shown.{Shown};
+ghost use Rattle.cb_world.specs.Desks.{IsReadyDesk};
 ghost use Rattle.cb_world.specs.World.{IsConfigured};
-ghost use Rattle.cb_world.specs.Sound.{Sound};
 ghost use Rattle.cb_evict.specs.Finding.{FindsSpans};
 
 use crate::candidates::candidates;
@@ -40,7 +39,7 @@ pub(crate) enum Found {
 pub(crate) fn find_spans<D: Desk>(desk: &mut D, far: &Far) -> Result<Found, NoMemory>
     requires config { IsAccepted (D.settings desk.old) }
     requires configured { IsConfigured (D.settings desk.old) far.now }
-    requires sound { (s : Shown) × D.shows desk.old s × Sound s far.now }
+    requires sound { IsReadyDesk D.shows desk.old far.now }
     ensures found { IfOk result
         (FindsSpans (λ es. D.run desk.old es desk.new) (λ s. D.shows desk.old s)
         far.now) }

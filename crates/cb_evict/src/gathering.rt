@@ -1,10 +1,8 @@
 ghost use Rattle.std.specs.Prelude.{◌≡◌, ◌^◌, ◌<◌, false, IfOk, None, OnErr};
 ghost use Rattle.cb_types.specs.Config.{IsAccepted};
-ghost use Rattle.cb_world.specs.declared.shown.Shown.{Shown};
+ghost use Rattle.cb_world.specs.Desks.{IsReadyDesk, Operates};
 ghost use Rattle.cb_world.specs.World.{IsConfigured};
 ghost use Rattle.cb_world.specs.Still.{IsStill};
-ghost use Rattle.cb_world.specs.Sound.{Sound};
-ghost use Rattle.cb_world.specs.Performs.{Performs};
 ghost use Rattle.cb_evict.specs.Evicting.{TouchesSpans};
 ghost use Rattle.cb_evict.specs.Gathering.{GatherEffect, GatherRule, gathered_reply};
 
@@ -47,16 +45,12 @@ pub fn gather<D: Desk>(desk: &mut D, far: &mut Far) -> Result<Gathered, NoMemory
     requires config { IsAccepted (D.settings desk.old) }
     requires configured { IsConfigured (D.settings desk.old) far.old }
     requires counts { far.old.counts.sets < 2 ^ 62 }
-    requires sound { (s : Shown) × D.shows desk.old s × Sound s far.old }
-    ensures gathered { IfOk result (λ g. Performs (λ es. D.run desk.old es desk.new)
-        (λ s. D.shows desk.old s × Sound s far.old)
+    requires sound { IsReadyDesk D.shows desk.old far.old }
+    ensures gathered { IfOk result (λ g. Operates D.run D.shows desk.old far.old desk.new far.new
         (GatherRule far.old far.new g)
-        (λ t. Sound t far.new)
         (GatherEffect far.old far.new g)) }
-    ensures error { OnErr result (Performs (λ es. D.run desk.old es desk.new)
-        (λ s. D.shows desk.old s × Sound s far.old)
+    ensures error { OnErr result (Operates D.run D.shows desk.old far.old desk.new far.new
         (TouchesSpans far.old)
-        (λ t. Sound t far.new)
         IsStill) }
     ensures unchanged { OnErr result (far.new ≡ far.old) }
     ensures none { OnErr result (far.old.leaving ≡ None) }

@@ -5,12 +5,12 @@ ghost use Rattle.cb_types.specs.Config.{IsAccepted};
 ghost use Rattle.cb_node.specs.NodesState.{has, held, with_row};
 ghost use Rattle.cb_world.specs.declared.access.Access.{Access};
 ghost use Rattle.cb_world.specs.declared.shown.Shown.{Shown};
+ghost use Rattle.cb_world.specs.Desks.{IsReadyDesk, Operates};
 ghost use Rattle.cb_world.specs.FarState.{FarState, pages_at};
 ghost use Rattle.cb_world.specs.Leaving.{AreRoomy, LeavingState};
 ghost use Rattle.cb_world.specs.World.{IsConfigured};
 ghost use Rattle.cb_world.specs.Still.{IsStill};
 ghost use Rattle.cb_world.specs.Sound.{Sound};
-ghost use Rattle.cb_world.specs.Performs.{Performs};
 ghost use Rattle.cb_evict.specs.ShipRule.{ReadsLeaving, ShipEffect, ShipRule, with_noted, with_shard_at};
 ghost use Rattle.cb_evict.specs.declared.next_put.NextPut.TheVariants as next;
 ghost use Rattle.cb_evict.specs.Shipping.{IsNextPut, IsParityDue, LoadsAny, LoadsParities, PutsMade, PutsNothing, PutsRow, Waits};
@@ -314,16 +314,12 @@ pub fn ship<D: Desk>(desk: &mut D, far: &mut Far) -> Result<Reply, NoMemory>
     requires config { IsAccepted (D.settings desk.old) }
     requires configured { IsConfigured (D.settings desk.old) far.old }
     requires keys { far.old.counts.keys < 2 ^ 62 }
-    requires sound { (s : Shown) × D.shows desk.old s × Sound s far.old }
-    ensures ship { IfOk result (λ reply. Performs (λ es. D.run desk.old es desk.new)
-        (λ s. D.shows desk.old s × Sound s far.old)
+    requires sound { IsReadyDesk D.shows desk.old far.old }
+    ensures ship { IfOk result (λ reply. Operates D.run D.shows desk.old far.old desk.new far.new
         (ShipRule far.old far.new reply)
-        (λ t. Sound t far.new)
         (ShipEffect far.old far.new reply)) }
-    ensures error { OnErr result (Performs (λ es. D.run desk.old es desk.new)
-        (λ s. D.shows desk.old s × Sound s far.old)
+    ensures error { OnErr result (Operates D.run D.shows desk.old far.old desk.new far.new
         (ReadsLeaving far.old)
-        (λ t. Sound t far.new)
         IsStill) }
     ensures unchanged { OnErr result (far.new ≡ far.old) }
     ensures waits { OnErr result (Waits far.old) }

@@ -2,12 +2,10 @@ ghost use Rattle.std.specs.Prelude.{◌≡◌, ◌+◌, ◌*◌, ◌≤◌, ◌�
 ghost use Rattle.std.specs.List.{Contains, AllPairs};
 ghost use Rattle.cb_gf256.specs.InRange.{IsInRange};
 ghost use Rattle.cb_types.specs.Config.{IsAccepted};
-ghost use Rattle.cb_world.specs.declared.shown.Shown.{Shown};
+ghost use Rattle.cb_world.specs.Desks.{IsReadyDesk, Operates};
 ghost use Rattle.cb_world.specs.Choices.{room_count};
 ghost use Rattle.cb_world.specs.World.{IsConfigured};
 ghost use Rattle.cb_world.specs.Still.{IsStill};
-ghost use Rattle.cb_world.specs.Sound.{Sound};
-ghost use Rattle.cb_world.specs.Performs.{Performs};
 ghost use Rattle.cb_evict.specs.Candidates.{candidates};
 ghost use Rattle.cb_evict.specs.Evicting.{TouchesSpans};
 ghost use Rattle.cb_evict.specs.Lengths.{AreLengthCounts, count_of};
@@ -51,13 +49,11 @@ pub(crate) enum Taken {
 pub(crate) fn take_spans<D: Desk>(desk: &mut D, far: &Far) -> Result<Taken, NoMemory>
     requires config { IsAccepted (D.settings desk.old) }
     requires configured { IsConfigured (D.settings desk.old) far.now }
-    requires sound { (s : Shown) × D.shows desk.old s × Sound s far.now }
+    requires sound { IsReadyDesk D.shows desk.old far.now }
     ensures taken { IfOk result (Takes (λ es. D.run desk.old es desk.new) (λ s. D.shows desk.old s)
         far.now (AreLooseNow far.now)) }
-    ensures error { OnErr result (Performs (λ es. D.run desk.old es desk.new)
-        (λ s. D.shows desk.old s × Sound s far.now)
+    ensures error { OnErr result (Operates D.run D.shows desk.old far.now desk.new far.now
         (TouchesSpans far.now)
-        (λ t. Sound t far.now)
         IsStill) }
 {
     let found = find_spans(desk, far)?;
@@ -85,7 +81,7 @@ fn claim_length<D: Desk>(
     formers: &mut Vec<Former>,
 ) -> usize
     requires there { there ≡ count_of far.now.spans pages loose.now }
-    requires sound { (s : Shown) × D.shows desk.old s × Sound s far.now }
+    requires sound { IsReadyDesk D.shows desk.old far.now }
     requires among { All (Contains (candidates far.now)) loose.now }
     requires apart { AllPairs (λ f g. f ≢ g) loose.now }
     requires empty { (frames.old.items ≡ []) × (formers.old.items ≡ []) }
@@ -123,7 +119,7 @@ fn claim_first<D: Desk>(
 ) -> Result<Taken, NoMemory>
     requires counts { AreLengthCounts far.now.spans loose.now counts }
     requires range { IsInRange far.now.code.k far.now.code.r }
-    requires sound { (s : Shown) × D.shows desk.old s × Sound s far.now }
+    requires sound { IsReadyDesk D.shows desk.old far.now }
     requires among { All (Contains (candidates far.now)) loose.now }
     requires apart { AllPairs (λ f g. f ≢ g) loose.now }
     requires room { far.now.code.k + far.now.code.r ≤ room_count far.now.nodes far.now.members }

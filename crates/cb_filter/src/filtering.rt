@@ -3,10 +3,9 @@ ghost use Rattle.cb_ptr.specs.Word.{hot_of, place_of};
 ghost use Rattle.cb_types.specs.Config.{IsAccepted};
 ghost use Rattle.cb_world.specs.declared.access.Access.TheVariants.{Settled};
 ghost use Rattle.cb_world.specs.declared.shown.Shown.{Shown};
+ghost use Rattle.cb_world.specs.Desks.{IsReadyDesk, Operates};
 ghost use Rattle.cb_world.specs.LocalSound.{AreFrames};
-ghost use Rattle.cb_world.specs.Sound.{Sound};
 ghost use Rattle.cb_world.specs.Still.{IsStill};
-ghost use Rattle.cb_world.specs.Performs.{Performs};
 ghost use Rattle.cb_filter.specs.Seats.{Seat, temp_for};
 ghost use Rattle.cb_filter.specs.FilterRule.{FilterRule, NeedsMemory};
 ghost use Rattle.cb_filter.specs.FilterEffect.{FilterEffect};
@@ -36,16 +35,12 @@ use cb_world::{Desk, Far, Grasp, release, try_claim};
 pub fn filter_one<D: Desk>(desk: &mut D, far: &mut Far, h: Handle) -> Result<Reply, NoMemory>
     requires handle { h.n < (D.settings desk.old).handles }
     requires config { IsAccepted (D.settings desk.old) }
-    requires sound { (s : Shown) × D.shows desk.old s × Sound s far.old }
-    ensures filter { IfOk result (λ reply. Performs (λ es. D.run desk.old es desk.new)
-        (λ s. D.shows desk.old s × Sound s far.old)
+    requires sound { IsReadyDesk D.shows desk.old far.old }
+    ensures filter { IfOk result (λ reply. Operates D.run D.shows desk.old far.old desk.new far.new
         (FilterRule (D.settings desk.old).frames h.n far.old far.new reply)
-        (λ t. Sound t far.new)
         (FilterEffect h.n far.old far.new reply)) }
-    ensures error { OnErr result (Performs (λ es. D.run desk.old es desk.new)
-        (λ s. D.shows desk.old s × Sound s far.old)
+    ensures error { OnErr result (Operates D.run D.shows desk.old far.old desk.new far.new
         (NeedsMemory h.n far.old far.new)
-        (λ t. Sound t far.new)
         IsStill) }
 {
     match try_claim(desk, h) {

@@ -2,6 +2,7 @@ ghost use Rattle.std.specs.Prelude.{◌≡◌, ℕ, ◌+◌, ◌^◌, ◌<◌, �
 ghost use Rattle.cb_set.specs.SetState.{SetState};
 ghost use Rattle.cb_types.specs.declared.reply.Reply.{Reply};
 ghost use Rattle.cb_world.specs.declared.shown.Shown.{Shown};
+ghost use Rattle.cb_world.specs.Desks.{IsReadyDesk};
 ghost use Rattle.cb_world.specs.FarState.{FarState};
 ghost use Rattle.cb_world.specs.Joining.{JoiningState};
 ghost use Rattle.cb_world.specs.Now.{now};
@@ -98,7 +99,7 @@ fn go_through(alloc: Global, far: &mut Far) -> Result<Reply, NoMemory>
 ///
 /// Where there is no memory, the far state is as before, but that at most 36 rows were given.
 pub fn compact_local<D: Desk>(alloc: Global, desk: &mut D, far: &mut Far) -> Result<Reply, NoMemory>
-    requires sound { (s : Shown) × D.shows desk.old s × Sound s far.old }
+    requires sound { IsReadyDesk D.shows desk.old far.old }
     requires note { HoldsNoPair far.old }
     requires keys { far.old.counts.keys + 20 < 2 ^ 62 }
     requires sets { far.old.counts.sets < 2 ^ 62 }

@@ -5,6 +5,7 @@ ghost use Rattle.cb_span.specs.Contents.{Contents};
 ghost use Rattle.cb_types.specs.declared.reply.Reply.TheVariants as answer;
 ghost use Rattle.cb_world.specs.declared.access.Access.{Access};
 ghost use Rattle.cb_world.specs.declared.shown.Shown.{Shown};
+ghost use Rattle.cb_world.specs.Desks.{IsReadyDesk, Operates};
 ghost use Rattle.cb_world.specs.Sound.{Sound};
 ghost use Rattle.cb_world.specs.Grasped.{IsFree};
 ghost use Rattle.cb_world.specs.Reads.{AreReads};
@@ -16,7 +17,6 @@ ghost use Rattle.cb_world.specs.declared.object.Object.TheVariants as is;
 ghost use Rattle.cb_world.specs.Shown.{object_at};
 ghost use Rattle.cb_world.specs.LeftOver.{LiesIn, without_far};
 ghost use Rattle.cb_set.specs.SetState.{SetState};
-ghost use Rattle.cb_world.specs.Performs.{Performs};
 ghost use Rattle.cb_world.specs.Finishes.{Finishes};
 ghost use Rattle.cb_mutate.specs.Answered.{AnsweredAs};
 ghost use Rattle.cb_mutate.specs.FreeRule.{FreeHere, FreeRule, FreeEffect};
@@ -36,12 +36,10 @@ use cb_world::{Desk, Far, Grasp, release, remove_far, try_claim};
 /// its version has no next one.
 pub fn free<D: Desk>(desk: &mut D, far: &mut Far, h: Handle) -> Result<Reply, NoMemory>
     requires handle { h.n < (D.settings desk.old).handles }
-    requires sound { (s : Shown) × D.shows desk.old s × Sound s far.old }
+    requires sound { IsReadyDesk D.shows desk.old far.old }
     ensures memory { IsOk result }
-    ensures free { IfOk result (λ reply. Performs (λ es. D.run desk.old es desk.new)
-        (λ s. D.shows desk.old s × Sound s far.old)
+    ensures free { IfOk result (λ reply. Operates D.run D.shows desk.old far.old desk.new far.new
         (FreeRule h.n far.old far.new reply)
-        (λ t. Sound t far.new)
         (FreeEffect h.n reply)) }
 {
     Ok(freed(desk, far, h))
@@ -50,11 +48,9 @@ pub fn free<D: Desk>(desk: &mut D, far: &mut Far, h: Handle) -> Result<Reply, No
 /// The free, which always answers.
 fn freed<D: Desk>(desk: &mut D, far: &mut Far, h: Handle) -> Reply
     requires handle { h.n < (D.settings desk.old).handles }
-    requires sound { (s : Shown) × D.shows desk.old s × Sound s far.old }
-    ensures free { Performs (λ es. D.run desk.old es desk.new)
-        (λ s. D.shows desk.old s × Sound s far.old)
+    requires sound { IsReadyDesk D.shows desk.old far.old }
+    ensures free { Operates D.run D.shows desk.old far.old desk.new far.new
         (FreeRule h.n far.old far.new result)
-        (λ t. Sound t far.new)
         (FreeEffect h.n result) }
 {
     match try_claim(desk, h) {

@@ -1,10 +1,9 @@
 ghost use Rattle.std.specs.Prelude.{◌≡◌, ℕ, ◌+◌, ◌*◌, ◌^◌, ◌<◌, ◌≤◌, List, length, IfOk, OnErr};
 ghost use Rattle.cb_types.specs.Config.{IsAccepted, most_bytes};
 ghost use Rattle.cb_world.specs.declared.shown.Shown.{Shown};
+ghost use Rattle.cb_world.specs.Desks.{IsReadyDesk, Operates};
 ghost use Rattle.cb_world.specs.Memory.{words_for};
-ghost use Rattle.cb_world.specs.Sound.{Sound};
 ghost use Rattle.cb_world.specs.Claimed.{OwnsAll};
-ghost use Rattle.cb_world.specs.Performs.{Performs};
 ghost use Rattle.cb_mutate.specs.Stores.{stores_from};
 ghost use Rattle.cb_mutate.specs.WordsOf.{AreWordsOf, IsWordAt};
 ghost use Rattle.cb_mutate.specs.MakeEnds.{IsNewAt, StoresNew};
@@ -32,11 +31,9 @@ pub fn make<D: Desk>(desk: &mut D, far: &mut Far, bytes: &[u8]) -> Result<Reply,
     requires some_byte { 1 ≤ length bytes.now }
     requires fits { length bytes.now ≤ most_bytes }
     requires config { IsAccepted (D.settings desk.old) }
-    requires sound { (s : Shown) × D.shows desk.old s × Sound s far.old }
-    ensures make { IfOk result (λ reply. Performs (λ es. D.run desk.old es desk.new)
-        (λ s. D.shows desk.old s × Sound s far.old)
+    requires sound { IsReadyDesk D.shows desk.old far.old }
+    ensures make { IfOk result (λ reply. Operates D.run D.shows desk.old far.old desk.new far.new
         (MakeRule (D.settings desk.old).handles bytes.now far.old far.new reply)
-        (λ t. Sound t far.new)
         (MakeEffect bytes.now far.old far.new reply)) }
     ensures error { OnErr result ((desk.new ≡ desk.old) × (far.new ≡ far.old)
         × NeedsNewSpan (D.settings desk.old).handles (length bytes.now) far.old) }

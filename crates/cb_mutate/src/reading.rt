@@ -6,14 +6,13 @@ ghost use Rattle.cb_world.specs.declared.access.Access.{Access};
 ghost use Rattle.cb_types.specs.declared.reply.Reply.TheVariants as answer;
 ghost use Rattle.cb_world.specs.declared.object.Object.TheVariants as is;
 ghost use Rattle.cb_world.specs.declared.shown.Shown.{Shown};
+ghost use Rattle.cb_world.specs.Desks.{IsReadyDesk, Operates};
 ghost use Rattle.cb_world.specs.Shown.{object_at};
-ghost use Rattle.cb_world.specs.Sound.{Sound};
 ghost use Rattle.cb_world.specs.Still.{IsStill};
 ghost use Rattle.cb_world.specs.Claimed.{IsClaimedAt};
 ghost use Rattle.cb_world.specs.Grasped.{IsFree};
 ghost use Rattle.cb_world.specs.Reads.{AreReads};
 ghost use Rattle.cb_world.specs.Touches.{Touches};
-ghost use Rattle.cb_world.specs.Performs.{Performs};
 ghost use Rattle.cb_world.specs.Finishes.{Finishes};
 ghost use Rattle.cb_mutate.specs.Answered.{AnsweredAs};
 ghost use Rattle.cb_mutate.specs.ReadRule.{ReadHere, ReadRule, ReadEffect, IsSeenHere};
@@ -42,17 +41,13 @@ pub fn read<D: Desk>(
 ) -> Result<Reply, NoMemory>
     requires handle { h.n < (D.settings desk.old).handles }
     requires config { IsAccepted (D.settings desk.old) }
-    requires sound { (s : Shown) × D.shows desk.old s × Sound s far.old }
+    requires sound { IsReadyDesk D.shows desk.old far.old }
     ensures far { far.new ≡ far.old }
-    ensures read { IfOk result (λ reply. Performs (λ es. D.run desk.old es desk.new)
-        (λ s. D.shows desk.old s × Sound s far.old)
+    ensures read { IfOk result (λ reply. Operates D.run D.shows desk.old far.old desk.new far.new
         (ReadRule h.n reply)
-        (λ t. Sound t far.new)
         (ReadEffect h.n reply)) }
-    ensures error { OnErr result (Performs (λ es. D.run desk.old es desk.new)
-        (λ s. D.shows desk.old s × Sound s far.old)
+    ensures error { OnErr result (Operates D.run D.shows desk.old far.old desk.new far.new
         (IsSeenHere h.n)
-        (λ t. Sound t far.new)
         IsStill) }
     ensures away { IfOk result (λ reply. reply ≡ answer.NotHere → (s : Shown) → D.shows desk.old s
         → (len v : ℕ) × (words : List ℕ) × (object_at s h.n ≡ is.Far len v words)) }

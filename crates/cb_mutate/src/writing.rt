@@ -5,13 +5,12 @@ ghost use Rattle.cb_world.specs.declared.access.Access.{Access};
 ghost use Rattle.cb_types.specs.declared.reply.Reply.TheVariants as answer;
 ghost use Rattle.cb_world.specs.declared.object.Object.TheVariants as is;
 ghost use Rattle.cb_world.specs.declared.shown.Shown.{Shown};
+ghost use Rattle.cb_world.specs.Desks.{IsReadyDesk, Operates};
 ghost use Rattle.cb_world.specs.Shown.{object_at};
-ghost use Rattle.cb_world.specs.Sound.{Sound};
 ghost use Rattle.cb_world.specs.Grasped.{IsFree};
 ghost use Rattle.cb_world.specs.Reads.{AreReads};
 ghost use Rattle.cb_world.specs.Touches.{Touches};
 ghost use Rattle.cb_world.specs.Claimed.{IsClaimedAt};
-ghost use Rattle.cb_world.specs.Performs.{Performs};
 ghost use Rattle.cb_world.specs.Finishes.{Finishes};
 ghost use Rattle.cb_mutate.specs.Answered.{AnsweredAs};
 ghost use Rattle.cb_mutate.specs.WriteRule.{WriteHere, WriteRule, WriteEffect};
@@ -38,13 +37,11 @@ pub fn write<D: Desk>(
 ) -> Result<Reply, NoMemory>
     requires handle { h.n < (D.settings desk.old).handles }
     requires config { IsAccepted (D.settings desk.old) }
-    requires sound { (s : Shown) × D.shows desk.old s × Sound s far.old }
+    requires sound { IsReadyDesk D.shows desk.old far.old }
     ensures memory { IsOk result }
     ensures far { far.new ≡ far.old }
-    ensures write { IfOk result (λ reply. Performs (λ es. D.run desk.old es desk.new)
-        (λ s. D.shows desk.old s × Sound s far.old)
+    ensures write { IfOk result (λ reply. Operates D.run D.shows desk.old far.old desk.new far.new
         (WriteRule h.n at bytes.now reply)
-        (λ t. Sound t far.new)
         (WriteEffect h.n at bytes.now reply)) }
     ensures away { IfOk result (λ reply. reply ≡ answer.NotHere → (s : Shown) → D.shows desk.old s
         → (len v : ℕ) × (words : List ℕ) × (object_at s h.n ≡ is.Far len v words)) }
@@ -56,11 +53,9 @@ pub fn write<D: Desk>(
 fn written<D: Desk>(desk: &mut D, far: &Far, h: Handle, at: u32, bytes: &[u8]) -> Reply
     requires handle { h.n < (D.settings desk.old).handles }
     requires config { IsAccepted (D.settings desk.old) }
-    requires sound { (s : Shown) × D.shows desk.old s × Sound s far.now }
-    ensures write { Performs (λ es. D.run desk.old es desk.new)
-        (λ s. D.shows desk.old s × Sound s far.now)
+    requires sound { IsReadyDesk D.shows desk.old far.now }
+    ensures write { Operates D.run D.shows desk.old far.now desk.new far.now
         (WriteRule h.n at bytes.now result)
-        (λ t. Sound t far.now)
         (WriteEffect h.n at bytes.now result) }
     ensures away { result ≡ answer.NotHere → (s : Shown) → D.shows desk.old s
         → (len v : ℕ) × (words : List ℕ) × (object_at s h.n ≡ is.Far len v words) }

@@ -2,6 +2,7 @@
 ghost use Rattle.std.specs.Prelude.{◌≡◌, IfOk};
 ghost use Rattle.cb_types.specs.Config.{IsAccepted};
 ghost use Rattle.cb_world.specs.declared.shown.Shown.{Shown};
+ghost use Rattle.cb_world.specs.Desks.{IsReadyDesk};
 ghost use Rattle.cb_world.specs.Orders.{KeepsOrder};
 ghost use Rattle.cb_world.specs.Sound.{Sound};
 ghost use Rattle.cb_world.specs.World.{AreCounted, IsConfigured};
@@ -26,7 +27,7 @@ fn ask<D: Desk>(desk: &mut D, far: &mut Far, asked: &Asked<'_>) -> Outcome
     requires configured { IsConfigured (D.settings desk.old) far.old }
     requires counted { AreCounted far.old }
     requires below { AsksBelow (D.settings desk.old) asked.now }
-    requires sound { (s : Shown) × D.shows desk.old s × Sound s far.old }
+    requires sound { IsReadyDesk D.shows desk.old far.old }
     requires kept { (s : Shown) → D.shows desk.old s → Sound s far.old
         → KeepsOrder s far.old (order_run asked.now) }
     ensures { AsksDesk D.run D.shows (D.settings desk.old) asked.now

@@ -1,9 +1,9 @@
 ghost use Rattle.std.specs.Prelude.{◌≡◌, IfOk, OnErr};
 ghost use Rattle.cb_types.specs.Config.{IsAccepted};
 ghost use Rattle.cb_world.specs.declared.shown.Shown.{Shown};
+ghost use Rattle.cb_world.specs.Desks.{Operates};
 ghost use Rattle.cb_world.specs.FarSound.{AwaySound};
 ghost use Rattle.cb_world.specs.Orders.{KeepsOrder};
-ghost use Rattle.cb_world.specs.Performs.{Performs};
 ghost use Rattle.cb_world.specs.Sound.{Sound};
 ghost use Rattle.cb_swapin.specs.LandEffect.{LandEffect};
 ghost use Rattle.cb_swapin.specs.LandRule.{LandRule, done_order, live_in};
@@ -27,10 +27,8 @@ pub fn land<D: Desk>(
     requires config { IsAccepted (D.settings desk.old) }
     requires kept { (s : Shown) × D.shows desk.old s × Sound s far.old
         × KeepsOrder s far.old (done_order done) }
-    ensures land { IfOk result (λ reply. Performs (λ es. D.run desk.old es desk.new)
-        (λ s. D.shows desk.old s × Sound s far.old)
+    ensures land { IfOk result (λ reply. Operates D.run D.shows desk.old far.old desk.new far.new
         (LandRule (done_order done.entry) far.old far.new reply)
-        (λ t. Sound t far.new)
         (LandEffect (done_order done.entry) far.old far.new reply)) }
     ensures desk { OnErr result (desk.new ≡ desk.old) }
     ensures far { OnErr result (far.new ≡ far.old) }

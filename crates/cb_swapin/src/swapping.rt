@@ -5,14 +5,13 @@ ghost use Rattle.cb_frame.specs.FreeFrames.{with_run_taken};
 ghost use Rattle.cb_frame.specs.Runs.{IsRunLength, least_run};
 ghost use Rattle.cb_set.specs.SetState.{SetState, dead_position, live_at, position_of, with_position};
 ghost use Rattle.cb_world.specs.declared.shown.Shown.{Shown};
+ghost use Rattle.cb_world.specs.Desks.{IsReadyDesk, Operates};
 ghost use Rattle.cb_world.specs.Sets.{set_in};
 ghost use Rattle.cb_world.specs.SetWord.{is_broken};
 ghost use Rattle.cb_world.specs.FarSound.{AwaySound};
-ghost use Rattle.cb_world.specs.Sound.{Sound};
 ghost use Rattle.cb_world.specs.Stored.{AreThere};
 ghost use Rattle.cb_set.specs.Lost.{NodesAreMembers};
 ghost use Rattle.cb_world.specs.LeftOver.{with_left};
-ghost use Rattle.cb_world.specs.Performs.{Performs};
 ghost use Rattle.cb_swapin.specs.Fetching.{BringsRow, IsRowOf, IsSpanOf, far_given, losses_told, rows_lacked, rows_taken};
 ghost use Rattle.cb_swapin.specs.SwapRule.{BringsRule, SwapRule};
 ghost use Rattle.cb_swapin.specs.SwapEffect.{BringsEffect, SwapEffect};
@@ -43,12 +42,10 @@ pub fn swap_in<D: Desk>(
     requires config { IsAccepted (D.settings desk.old) }
     requires live { (set : SetState) × (set_in far.old.sets id.n ≡ Some set)
         × (live_at set position ≡ true) }
-    requires sound { (s : Shown) × D.shows desk.old s × Sound s far.old }
+    requires sound { IsReadyDesk D.shows desk.old far.old }
     requires given { far.old.nodes.given + 16 < 2 ^ 64 }
-    ensures swap { IfOk result (λ reply. Performs (λ es. D.run desk.old es desk.new)
-        (λ s. D.shows desk.old s × Sound s far.old)
+    ensures swap { IfOk result (λ reply. Operates D.run D.shows desk.old far.old desk.new far.new
         (SwapRule id.n position far.old far.new reply)
-        (λ t. Sound t far.new)
         (SwapEffect id.n position far.old far.new reply)) }
     ensures desk { OnErr result (desk.new ≡ desk.old) }
     ensures far { OnErr result ((set : SetState) → set_in far.old.sets id.n ≡ Some set → (n : ℕ)
@@ -70,13 +67,11 @@ pub(crate) fn bring_in<D: Desk>(
     requires config { IsAccepted (D.settings desk.old) }
     requires live { (set : SetState) × (set_in far.old.sets id.n ≡ Some set)
         × (live_at set position ≡ true) }
-    requires sound { (s : Shown) × D.shows desk.old s × Sound s far.old }
+    requires sound { IsReadyDesk D.shows desk.old far.old }
     requires row { IsRowOf given far.old id.n position }
     requires given { IfNone given (far.old.nodes.given + 16 < 2 ^ 64) }
-    ensures swap { IfOk result (λ reply. Performs (λ es. D.run desk.old es desk.new)
-        (λ s. D.shows desk.old s × Sound s far.old)
+    ensures swap { IfOk result (λ reply. Operates D.run D.shows desk.old far.old desk.new far.new
         (BringsRule (λ set. rows_taken given.entry far.old set position) id.n position far.old far.new reply)
-        (λ t. Sound t far.new)
         (BringsEffect given.entry id.n position far.old far.new reply)) }
     ensures desk { OnErr result (desk.new ≡ desk.old) }
     ensures far { OnErr result ((set : SetState) → set_in far.old.sets id.n ≡ Some set → (n : ℕ)
@@ -153,7 +148,7 @@ fn bring_row<D: Desk>(
         × (live_at set position ≡ true) × (is_broken far.old.members set ≡ false) }
     requires span { (set : SetState) → set_in far.old.sets id.n ≡ Some set
         → IsSpanOf set position span.now }
-    requires sound { (s : Shown) × D.shows desk.old s × Sound s far.old }
+    requires sound { IsReadyDesk D.shows desk.old far.old }
     requires row { IsRowOf given far.old id.n position }
     requires given { IfNone given (far.old.nodes.given + 16 < 2 ^ 64) }
     ensures row { OnOk result ((set : SetState) → set_in far.old.sets id.n ≡ Some set
@@ -189,7 +184,7 @@ fn bring_own_row<D: Desk>(
         × (live_at set position ≡ true) × (is_broken far.old.members set ≡ false) }
     requires span { (set : SetState) → set_in far.old.sets id.n ≡ Some set
         → IsSpanOf set position span.now }
-    requires sound { (s : Shown) × D.shows desk.old s × Sound s far.old }
+    requires sound { IsReadyDesk D.shows desk.old far.old }
     requires given { far.old.nodes.given + 16 < 2 ^ 64 }
     ensures row { OnOk result ((set : SetState) → set_in far.old.sets id.n ≡ Some set
         → BringsRow (λ es. D.run desk.old es desk.new) (λ s. D.shows desk.old s)

@@ -90,6 +90,7 @@ pub mod Alike
 pub mod Pins
 pub mod Fixed
 mod WorkedDesk
+mod WorkedDesks
 mod WorkedFrames
 mod WorkedWalk
 mod WorkedGroups

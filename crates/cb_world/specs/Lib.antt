@@ -48,6 +48,7 @@ pub mod Empty
 pub mod Pinned
 pub mod Seats
 pub mod Performs
+pub mod Desks
 pub mod Claimed
 pub mod Still
 pub mod Finishes
