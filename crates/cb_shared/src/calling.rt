@@ -80,7 +80,9 @@ impl Shared {
     /// where its row is not lost, it is written by a turn of the job Write. Where it can't be
     /// brought in, the answer is why: Unavailable, NoRoom, or Worn by the count of turns. Tries
     /// again where the object is being moved or written, or another pass came first, and where too
-    /// few spans were loose but there are so many frames that more may come. Waits.
+    /// few spans were loose but there are so many frames that more may come. Waits. It is compiled
+    /// into its callers: the reply of a short write then never goes through memory.
+    #[inline(always)]
     pub fn write<R: Wait>(
         &self,
         rt: &R,
