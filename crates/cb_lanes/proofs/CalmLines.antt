@@ -1,15 +1,13 @@
 -- A line is answered with no want of room and no loss where its world makes it easy.
-use Rattle.std.proofs.Common.{◌≡◌, ℕ, ◌^◌, ◌<◌, List, Option, None, Some, refl, sym, subst}
+use Rattle.std.proofs.Common.{◌≡◌, ℕ, ◌^◌, ◌<◌, List, Option, Some, inl, inr, sym, subst}
 use Rattle.cb_ptr.specs.declared.word.State.{State}
 use Rattle.cb_ptr.specs.declared.word.State.TheVariants as state
 use Rattle.cb_ptr.specs.Word.{state_of, pins_of}
 use Rattle.cb_types.specs.declared.job.Job.{Job}
 use Rattle.cb_types.specs.declared.job.Job.TheVariants as job
 use Rattle.cb_types.specs.declared.request.Request.{Request}
-use Rattle.cb_types.specs.declared.request.Request.TheVariants.{Make, Read, Write, Free, Pin, Peek}
-use Rattle.cb_types.specs.declared.request.Request.TheVariants.{Unpin, Filter, Leave}
+use Rattle.cb_types.specs.declared.request.Request.TheVariants.{Make}
 use Rattle.cb_types.specs.declared.reply.Reply.{Reply}
-use Rattle.cb_types.specs.declared.reply.Reply.TheVariants as answer
 use Rattle.cb_world.specs.OpenSteps.{NoneHolds}
 use Rattle.cb_world.specs.Plain.{Words}
 use Rattle.cb_world.specs.StillWords.{stamp_at}
@@ -21,16 +19,19 @@ use Rattle.cb_core.specs.Pinning.{refused, scope_full, taken}
 use Rattle.cb_core.specs.Step.{Step}
 use Rattle.cb_core.specs.Parts.{Holding}
 use Rattle.cb_core.specs.Turned.{once_counted}
-use Rattle.cb_core.proofs.Laws.{IsEased, IsSwapRefusal, IsWholeJob, KeepsEasy, MakesEasy}
+use Rattle.cb_core.proofs.Laws.{IsEased, IsWholeJob, KeepsEasy, MakesEasy}
 use Rattle.cb_core.proofs.Laws.{MakesWithin, SwapEnds, held, pin_calm}
 use Rattle.cb_core.proofs.Laws.{refused as swap_refused, stays, swap_sound, swap_turn, swapped}
 use Rattle.cb_core.proofs.Laws.{turn_calm}
-use Rattle.cb_lanes.specs.LineGoes.{job_of}
-use Rattle.cb_lanes.specs.LineStep.{LineStep, ObjectStep, OtherStep, IsInReply, PeekStep}
-use Rattle.cb_lanes.specs.LineStep.{not_pinned, shown, PinLine, at_once, stays_far, swapped_in}
+use Rattle.cb_lanes.specs.LineGoes.{Ask, Calls, Leaves, Peeks, Pins, Unpins}
+use Rattle.cb_lanes.specs.LineStep.{LineStep, PeekStep, PinLine, at_once, goes_at, not_pinned}
+use Rattle.cb_lanes.specs.LineStep.{shown, stays_far, swapped_in}
 use Rattle.cb_lanes.specs.declared.side.Side.{Side}
+use Rattle.cb_lanes.proofs.ByAsk.{IsAskOf, of_line}
 use Rattle.cb_lanes.proofs.EasyLines.{IsEasyLine, job_whole}
-use Rattle.cb_lanes.proofs.LineKeeps.{line_alone, line_within}
+use Rattle.cb_lanes.proofs.FarPins.{refused_not_there}
+use Rattle.cb_lanes.proofs.LineJobs.{IsCallOf, by_object_job, call_alone}
+use Rattle.cb_lanes.proofs.LineKeeps.{line_within}
 use Rattle.cb_lanes.proofs.Lone.{turn_alone}
 use Rattle.cb_lanes.proofs.Recounting.{turn_beside}
 
@@ -51,12 +52,6 @@ pin_here w new seat h r here (refused room not reply same) = eased_as r _
     here) reply
 pin_here w new seat h r here (taken room may reply t) = eased_as r _ tt reply
 
--- a swap that is refused brings nothing in
-refused_in : (q : Reply) → IsSwapRefusal q → IsInReply q → ⊥
-refused_in answer.Stays refusal is = refusal
-refused_in (answer.Swapped f) refusal is = refusal
-refused_in q refusal is = is
-
 unpin_calm : (seat h : ℕ) (w new : WorldState) (r : Reply) → UnpinStep seat h w r new → IsEased r
 unpin_calm seat h w new r (none_given none reply same) = eased_as r _ tt reply
 unpin_calm seat h w new r (given reply t) = eased_as r _ tt reply
@@ -69,6 +64,24 @@ peek_calm seat h w new r (shown at newest reply same) = eased_as r _ tt reply
 abbrev pub LineMakesWithin : ℕ → Request → Type 0
 LineMakesWithin most (Make name bytes) = MakesWithin most (job.Make bytes)
 LineMakesWithin most request = Unit {0}
+
+-- the job of a line makes an object where the line does, and is whole where the line is easy
+call_within : (most : ℕ) (handle : Option ℕ) (request : Request) (j : Job)
+    → LineMakesWithin most request → IsCallOf handle request j → MakesWithin most j
+call_within most handle request j within (inl (name, bytes, e, is)) =
+    subst (MakesWithin most) (sym is) (subst (LineMakesWithin most) e within)
+call_within most handle request j within (inr (inl (h, named, e))) = by_object_job h
+    (λ (q : Request) (i : Job). MakesWithin most i) (λ name. tt) (λ name at bytes. tt) (λ name. tt)
+    (λ name. tt) request j e
+call_within most handle request j within (inr (inr e)) = line_within most request j e
+
+call_whole : (nodes : List ℕ) (handle : Option ℕ) (request : Request) (j : Job)
+    → IsEasyLine nodes request → IsCallOf handle request j → IsWholeJob j
+call_whole nodes handle request j easy (inl (name, bytes, e, is)) = subst IsWholeJob (sym is) tt
+call_whole nodes handle request j easy (inr (inl (h, named, e))) = by_object_job h
+    (λ (q : Request) (i : Job). IsWholeJob i) (λ name. tt) (λ name at bytes. tt) (λ name. tt)
+    (λ name. tt) request j e
+call_whole nodes handle request j easy (inr (inr e)) = job_whole nodes request easy j e
 
 -- facts that make it easy, also behind each eviction of a turn
 module _ {most : ℕ} (E : Holding Words → Type 0) (keeps : KeepsEasy most E) (w : WorldState)
@@ -90,51 +103,35 @@ module _ {most : ℕ} (E : Holding Words → Type 0) (keeps : KeepsEasy most E) 
       by (swap_turn w m h q sound (swap_sound w m h q sound step) few below step).ends
     where
       by : SwapEnds m.desk h q → IsEased r
-      by (swap_refused refusal) = absurd (refused_in q refusal is)
+      by (swap_refused refusal) = absurd (refused_not_there q refusal is)
       by (stays e here) = pin_here m new seat h r here again
       by (swapped f e here) = pin_here m new seat h r here again
 
-  object_calm : (side : Side) (seat : ℕ) (handle : Option ℕ) (request : Request) (new : WorldState)
-      (r : Reply)
-      → ((h : ℕ) → handle ≡ Some h → h < w.desk.settings.handles)
-      → ObjectStep side seat handle request w r new → IsEased r
-  object_calm side seat None request new r ready x = eased_as r _ tt x.0
-  object_calm side seat (Some h) (Pin name) new r ready x =
-      pin_line_calm seat h new r (ready h refl) x
-  object_calm side seat (Some h) (Peek name) new r ready x = peek_calm seat h w new r x
-  object_calm side seat (Some h) (Unpin name) new r ready x = unpin_calm seat h w new r x
-  object_calm side seat (Some h) (Read name) new r ready x =
-      event_calm seat (job.Read (record { n = h })) new r tt tt tt x
-  object_calm side seat (Some h) (Write name at bytes) new r ready x =
-      event_calm seat (job.Write (record { n = h }) at bytes) new r tt tt tt x
-  object_calm side seat (Some h) (Free name) new r ready x =
-      event_calm seat (job.Free (record { n = h })) new r tt tt tt x
-  object_calm side seat (Some h) (Filter name) new r ready x =
-      event_calm seat (job.Filter (record { n = h })) new r tt tt tt x
-  object_calm side seat (Some h) request new r ready x = absurd x
-
-  other_calm : (side : Side) (seat : ℕ) (handle : Option ℕ) (request : Request) (o : Option Job)
-      (new : WorldState) (r : Reply) → ((j : Job) → o ≡ Some j → IsWholeJob j)
-      → ((j : Job) → o ≡ Some j → MakesWithin most j)
-      → ((j : Job) → o ≡ Some j → NeedsNoOrder j)
-      → ((h : ℕ) → handle ≡ Some h → h < w.desk.settings.handles)
-      → OtherStep side seat handle request o w r new → IsEased r
-  other_calm side seat handle request (Some j) new r whole within alone ready x =
+  ask_calm : (nodes : List ℕ) (side : Side) (seat : ℕ) (handle : Option ℕ) (request : Request)
+      (ask : Ask) (new : WorldState) (r : Reply) → IsEasyLine nodes request
+      → LineMakesWithin most request → ((h : ℕ) → handle ≡ Some h → h < w.desk.settings.handles)
+      → IsAskOf handle request ask → goes_at side seat ask w r new → IsEased r
+  ask_calm nodes side seat handle request (Calls j) new r line within ready is x =
       let z = turn_beside j side seat w new r x in
-      event_calm seat j z.mid r (whole j refl) (within j refl) (alone j refl) z.step
-  other_calm side seat handle request None new r whole within alone ready x =
-      object_calm side seat handle request new r ready x
+      event_calm seat j z.mid r (call_whole nodes handle request j line is)
+      (call_within most handle request j within is) (call_alone handle request j is) z.step
+  ask_calm nodes side seat handle request (Pins h) new r line within ready is x =
+      pin_line_calm seat h new r (ready h is.0) x
+  ask_calm nodes side seat handle request (Peeks h) new r line within ready is x =
+      peek_calm seat h w new r x
+  ask_calm nodes side seat handle request (Unpins h) new r line within ready is x =
+      unpin_calm seat h w new r x
+  ask_calm nodes side seat handle request Leaves new r line within ready is x =
+      eased_as r _ tt x.0
 
   go : (nodes : List ℕ) (side : Side) (seat : ℕ) (handle : Option ℕ) (request : Request)
       (new : WorldState) (r : Reply) → IsEasyLine nodes request → LineMakesWithin most request
       → ((h : ℕ) → handle ≡ Some h → h < w.desk.settings.handles)
       → LineStep side seat handle request w r new → IsEased r
-  go nodes side seat handle (Make name bytes) new r line within ready x =
-      event_calm seat (job.Make bytes) new r tt within tt x
-  go nodes side seat handle Leave new r line within ready x = eased_as r _ tt x.0
-  go nodes side seat handle request new r line within ready x = other_calm side seat handle request
-      (job_of request) new r (job_whole nodes request line) (line_within most request)
-      (line_alone request) ready x
+  go nodes side seat handle request new r line within ready x =
+      of_line (goes_at side seat) w new r (IsEased r) handle request
+      (λ ask is y. ask_calm nodes side seat handle request ask new r line within ready is y)
+      (λ unmade same. eased_as r _ tt unmade) x
 
 pub line_calm : {most : ℕ} (E : Holding Words → Type 0) → KeepsEasy most E → (nodes : List ℕ)
     (side : Side) (seat : ℕ) (handle : Option ℕ) (request : Request)

@@ -1,5 +1,5 @@
 -- A pin of a far object is refused and changes nothing, and none of another object is refused so.
-use Rattle.std.proofs.Common.{◌≡◌, ℕ, zero, suc, refl, sym, ap, ◌∙◌, arith}
+use Rattle.std.proofs.Common.{◌≡◌, ℕ, zero, suc, refl, sym, ap, ◌∙◌, subst, arith, inl, inr}
 use Rattle.cb_ptr.specs.declared.word.State.{State}
 use Rattle.cb_ptr.specs.declared.word.State.TheVariants as state
 use Rattle.cb_ptr.specs.Word.{state_of, pins_of}
@@ -8,7 +8,9 @@ use Rattle.cb_types.specs.declared.reply.Reply.TheVariants as answer
 use Rattle.cb_mutate.specs.StillReplies.{empty_reply}
 use Rattle.cb_world.specs.StillWords.{stamp_at}
 use Rattle.cb_world.specs.World.{WorldState, word_at}
+use Rattle.cb_core.specs.OnceHere.{IsThere}
 use Rattle.cb_core.specs.Pinning.{scope_full, refused, taken, pin_refusal}
+use Rattle.cb_core.proofs.Laws.{IsSwapRefusal}
 use Rattle.cb_lanes.specs.LineStep.{IsFarToPin, PinEvent}
 
 empty_not_here : (v : ℕ) → answer.NotHere ≡ empty_reply v → ⊥
@@ -54,3 +56,8 @@ far_not_here seat h w new r far (refused room never reply same) =
     far.away
 far_not_here seat h w new r far (taken room may reply t) =
     absurd (here_not_far (sym may.here ∙ far.away))
+
+-- a swap that is refused brings nothing in
+pub refused_not_there : (r : Reply) → IsSwapRefusal r → IsThere r → ⊥
+refused_not_there r refusal (inl is) = subst IsSwapRefusal is refusal
+refused_not_there r refusal (inr (frame, is)) = subst IsSwapRefusal is refusal

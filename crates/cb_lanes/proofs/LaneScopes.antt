@@ -10,11 +10,11 @@ use Rattle.std.proofs.lemmas.List.Sums.{fold_push, sum_by-cons}
 use Rattle.std.proofs.lemmas.Slice.Eq.{bytes_eq-Decides}
 use Rattle.cb_types.specs.declared.answer.Answer.{Answer}
 use Rattle.cb_types.specs.declared.config.Config.{Config}
+use Rattle.cb_types.specs.declared.job.Job.{Job}
 use Rattle.cb_types.specs.declared.job.Job.TheVariants as job
 use Rattle.cb_types.specs.declared.request.Request.{Request}
 use Rattle.cb_types.specs.declared.request.Request.TheVariants.{Make, Read, Write, Free, Pin, Peek}
 use Rattle.cb_types.specs.declared.request.Request.TheVariants.{Unpin, Filter, Leave}
-use Rattle.cb_types.specs.declared.request.Request.TheVariants as line
 use Rattle.cb_types.specs.declared.reply.Reply.{Reply}
 use Rattle.cb_types.specs.declared.reply.Reply.TheVariants as answer
 use Rattle.cb_types.specs.Requests.{name_of}
@@ -34,7 +34,7 @@ use Rattle.cb_lanes.specs.declared.body.Named.{Named}
 use Rattle.cb_lanes.specs.Asked.{asked}
 use Rattle.cb_lanes.specs.Bodies.{AreLinesOf, AreNamesOf, LaneGoes, LinesGo, handle_among}
 use Rattle.cb_lanes.specs.Bodies.{handle_behind}
-use Rattle.cb_lanes.specs.LineGoes.{LineGoes}
+use Rattle.cb_lanes.specs.LineGoes.{LineGoes, job_of}
 use Rattle.cb_lanes.specs.Passing.{CallGives, HasNoPin, IsNewestPin, PeekGoes, PinEnds, PinGoes}
 use Rattle.cb_lanes.specs.Passing.{PinsAtLast, UnpinGoes, goes_in}
 use Rattle.cb_lanes.specs.Scopes.{CallSays, KeepScopes, NamedPin, PeekSays, PinnedSays, Scope}
@@ -44,8 +44,8 @@ use Rattle.cb_lanes.specs.Scoped.{AreOneToOne, AreScoped, IsMadeAs, LaneScoped}
 use Rattle.cb_lanes.proofs.LaneRises.{answers_of}
 use Rattle.cb_lanes.proofs.LinesBack.{first_assoc, handle_append, named_behind}
 use Rattle.cb_lanes.proofs.Lists.{one_if}
-use Rattle.cb_lanes.proofs.OwnSteps.{call_pins}
 use Rattle.cb_lanes.proofs.PinLists.{AreHandlesApart, name_cases}
+use Rattle.cb_lanes.proofs.Trying.{call_pins}
 
 -- ---- the pins of a record beside the scope of its lane
 -- a pin is on this name, at this version
@@ -360,6 +360,11 @@ module _ (c : Config) where
         (subst (AreNamedPins number []) (sym none) tt);
   }
 
+  -- the call of a line about no object leaves the pins
+  own_pins : (q : Request) (j : Job) (r : Reply) (v w : View) → job_of q ≡ Some j
+      → CallGives c j v r w → w.pins ≡ v.pins
+  own_pins q j r v w is goes = call_pins c j r v w goes
+
   pub line_scoped : (number : List ℕ → Option ℕ) → AreHandlesApart number → (handle : Option ℕ)
       (scope : Scope) (q : Request) (r : Reply) (v w : View)
       → ((name : List ℕ) → name_of q ≡ Some name → number name ≡ handle)
@@ -408,47 +413,8 @@ module _ (c : Config) where
       (ap (scope_after scope (Unpin name)) goes.0) goes.0
   line_scoped number apart (Some h) scope (Unpin name) r v w named are goes =
       unpin_scoped number apart scope name h (named name refl) v w are r goes
-  line_scoped number apart handle scope line.Evict r v w named are goes =
-      quiet number handle scope line.Evict r v w are (call_pins c job.Evict r v w goes) refl tt
-      (λ h. tt)
-  line_scoped number apart handle scope line.Begin r v w named are goes =
-      quiet number handle scope line.Begin r v w are (call_pins c job.Begin r v w goes) refl tt
-      (λ h. tt)
-  line_scoped number apart handle scope line.Ship r v w named are goes =
-      quiet number handle scope line.Ship r v w are (call_pins c job.Ship r v w goes) refl tt
-      (λ h. tt)
-  line_scoped number apart handle scope line.Commit r v w named are goes =
-      quiet number handle scope line.Commit r v w are (call_pins c job.Commit r v w goes) refl tt
-      (λ h. tt)
-  line_scoped number apart handle scope line.Abort r v w named are goes =
-      quiet number handle scope line.Abort r v w are (call_pins c job.Abort r v w goes) refl tt
-      (λ h. tt)
-  line_scoped number apart handle scope line.Pair r v w named are goes =
-      quiet number handle scope line.Pair r v w are (call_pins c job.Pair r v w goes) refl tt
-      (λ h. tt)
-  line_scoped number apart handle scope line.Patch r v w named are goes =
-      quiet number handle scope line.Patch r v w are (call_pins c job.Patch r v w goes) refl tt
-      (λ h. tt)
-  line_scoped number apart handle scope line.Merge r v w named are goes =
-      quiet number handle scope line.Merge r v w are (call_pins c job.Merge r v w goes) refl tt
-      (λ h. tt)
-  line_scoped number apart handle scope line.Part r v w named are goes =
-      quiet number handle scope line.Part r v w are (call_pins c job.Part r v w goes) refl tt
-      (λ h. tt)
-  line_scoped number apart handle scope line.Compact r v w named are goes =
-      quiet number handle scope line.Compact r v w are (call_pins c job.Compact r v w goes) refl tt
-      (λ h. tt)
-  line_scoped number apart handle scope line.Rebuild r v w named are goes =
-      quiet number handle scope line.Rebuild r v w are (call_pins c job.Rebuild r v w goes) refl tt
-      (λ h. tt)
-  line_scoped number apart handle scope (line.Crash node) r v w named are goes =
-      quiet number handle scope (line.Crash node) r v w are
-      (call_pins c (job.Crash node) r v w goes) refl tt
-      (λ h. tt)
-  line_scoped number apart handle scope (line.Join node) r v w named are goes =
-      quiet number handle scope (line.Join node) r v w are
-      (call_pins c (job.Join node) r v w goes) refl tt
-      (λ h. tt)
+  line_scoped number apart handle scope q r v w named are goes =
+      quiet number handle scope q r v w are (own_pins q _ r v w refl goes) refl tt (λ h. tt)
 
 -- ---- the handles of names behind the lines
 abbrev pub number_behind : List Named → List Answer → List ℕ → Option ℕ

@@ -22,7 +22,7 @@ use Rattle.cb_lanes.specs.declared.body.Named.{Named}
 use Rattle.cb_lanes.specs.Asked.{HasLineReply}
 use Rattle.cb_lanes.specs.Bodies.{LinesGo, handle_behind}
 use Rattle.cb_lanes.specs.LastTries.{EndsTries, HasLastTry, IsLastTry}
-use Rattle.cb_lanes.specs.LineGoes.{CallGoes, LineGoes}
+use Rattle.cb_lanes.specs.LineGoes.{LineGoes}
 use Rattle.cb_lanes.specs.Passing.{PinEnds, PinGoes, goes_in}
 use Rattle.cb_lanes.proofs.Lacks.{by_lack}
 
@@ -100,49 +100,19 @@ module _ (c : Config) where
   never q answer.Moving may moving = absurd (moving may)
   never q r may moving = tt
 
-  call_last : (h : ℕ) (q : Request) (r : Reply) (v w : View) → IsReplyOf q r
-      → CallGoes (goes_in c) h q v r w → IsLastTry q r
-  call_last h (line.Read name) r v w may x = read_goes h r v w x
-  call_last h (line.Write name at bytes) r v w may x = write_goes h at bytes r v w x
-  call_last h (line.Free name) r v w may x = free_goes h r v w x
-  call_last h (line.Pin name) r v w may x = pin_goes h r v w x.0
-  call_last h (line.Peek name) r v w may x =
-      never (line.Peek name) r may (λ z. z)
-  call_last h (line.Unpin name) r v w may x =
-      never (line.Unpin name) r may (λ z. z)
-  call_last h (line.Filter name) r v w may x = tt
-  call_last h q r v w may x = absurd x
-
   line_last : (h : Option ℕ) (q : Request) (r : Reply) (v w : View) → IsReplyOf q r
       → LineGoes (goes_in c) h q v r w → IsLastTry q r
   line_last h (line.Make name bytes) r v w may x = make_goes bytes r v w x
-  line_last h line.Leave r v w may x = never line.Leave r may (λ z. z)
-  line_last h line.Evict r v w may x = never line.Evict r may (λ z. z)
-  line_last h line.Begin r v w may x = never line.Begin r may (λ z. z)
-  line_last h line.Ship r v w may x = never line.Ship r may (λ z. z)
-  line_last h line.Commit r v w may x =
-      never line.Commit r may (λ z. z)
-  line_last h line.Abort r v w may x = never line.Abort r may (λ z. z)
-  line_last h line.Pair r v w may x = never line.Pair r may (λ z. z)
-  line_last h line.Patch r v w may x = never line.Patch r may (λ z. z)
-  line_last h line.Merge r v w may x = never line.Merge r may (λ z. z)
-  line_last h line.Part r v w may x = never line.Part r may (λ z. z)
-  line_last h line.Compact r v w may x =
-      never line.Compact r may (λ z. z)
-  line_last h line.Rebuild r v w may x =
-      never line.Rebuild r may (λ z. z)
-  line_last h (line.Crash node) r v w may x =
-      never (line.Crash node) r may (λ z. z)
-  line_last h (line.Join node) r v w may x =
-      never (line.Join node) r may (λ z. z)
   line_last None (line.Read name) r v w may x = as_is r answer.Unmade tt x.0
   line_last None (line.Write name at bytes) r v w may x = as_is r answer.Unmade tt x.0
   line_last None (line.Free name) r v w may x = as_is r answer.Unmade tt x.0
   line_last None (line.Pin name) r v w may x = as_is r answer.Unmade tt x.0
-  line_last None (line.Peek name) r v w may x = as_is r answer.Unmade tt x.0
-  line_last None (line.Unpin name) r v w may x = as_is r answer.Unmade tt x.0
-  line_last None (line.Filter name) r v w may x = tt
-  line_last (Some h) q r v w may x = call_last h q r v w may x
+  line_last (Some h) (line.Read name) r v w may x = read_goes h r v w x
+  line_last (Some h) (line.Write name at bytes) r v w may x = write_goes h at bytes r v w x
+  line_last (Some h) (line.Free name) r v w may x = free_goes h r v w x
+  line_last (Some h) (line.Pin name) r v w may x = pin_goes h r v w x.0
+  line_last h (line.Filter name) r v w may x = tt
+  line_last h q r v w may x = never q r may (λ z. z)
 
   -- ---- all lines
   pub lines_last : (names : List Named) (before after : List Answer) (v w : View)

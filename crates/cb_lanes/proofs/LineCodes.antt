@@ -1,11 +1,9 @@
 -- No line makes another code: each makes one turn at the most, from the world in which it began.
-use Rattle.std.proofs.Common.{◌≡◌, ℕ, zero, suc, List, [], ◌∷◌, map, Option, None, Some, refl, sym}
+use Rattle.std.proofs.Common.{◌≡◌, ℕ, zero, suc, List, [], ◌∷◌, map, Option, refl, sym}
 use Rattle.std.proofs.Common.{ap, ◌∙◌, subst}
 use Rattle.cb_types.specs.declared.job.Job.{Job}
 use Rattle.cb_types.specs.declared.job.Job.TheVariants as job
 use Rattle.cb_types.specs.declared.request.Request.{Request}
-use Rattle.cb_types.specs.declared.request.Request.TheVariants.{Make, Read, Write, Free, Pin, Peek}
-use Rattle.cb_types.specs.declared.request.Request.TheVariants.{Unpin, Filter, Leave}
 use Rattle.cb_types.specs.declared.reply.Reply.{Reply}
 use Rattle.cb_world.specs.declared.seats.SeatPin.{SeatPin}
 use Rattle.cb_world.specs.KeepCodes.{KeepCodes}
@@ -16,11 +14,12 @@ use Rattle.cb_core.specs.Jobs.{NeedsNoOrder}
 use Rattle.cb_core.specs.Step.{Leads, Step, held as other_holds, free, ordered}
 use Rattle.cb_core.proofs.Laws.{pin_far, turn_codes, unpin_far}
 use Rattle.cb_lanes.specs.GivingBack.{unpin_event, GivesAll, Rests}
-use Rattle.cb_lanes.specs.LineGoes.{job_of}
-use Rattle.cb_lanes.specs.LineStep.{LineStep, ObjectStep, OtherStep, TurnAt, PeekStep, not_pinned}
-use Rattle.cb_lanes.specs.LineStep.{shown, PinLine, at_once, stays_far, swapped_in}
+use Rattle.cb_lanes.specs.LineGoes.{Ask, Calls, Leaves, Peeks, Pins, Unpins}
+use Rattle.cb_lanes.specs.LineStep.{LineStep, PeekStep, PinLine, TurnAt, at_once, goes_at}
+use Rattle.cb_lanes.specs.LineStep.{not_pinned, shown, stays_far, swapped_in}
 use Rattle.cb_lanes.specs.declared.side.Side.{Side}
-use Rattle.cb_lanes.proofs.LineKeeps.{line_alone}
+use Rattle.cb_lanes.proofs.ByAsk.{IsAskOf, of_line}
+use Rattle.cb_lanes.proofs.LineJobs.{call_alone}
 use Rattle.cb_lanes.proofs.Recounting.{IsRecounted, turn_beside}
 
 -- the same world
@@ -74,39 +73,25 @@ module _ (w : WorldState) (sound : IsSoundWorld w) where
   peek_codes seat h new r (shown at newest is same) =
       codes_same w.far new.far (far_is w new same)
 
-  object_codes : (side : Side) (seat : ℕ) (handle : Option ℕ) (request : Request) (new : WorldState)
-      (r : Reply) → ObjectStep side seat handle request w r new → KeepCodes w.far new.far
-  object_codes side seat None request new r x = codes_same w.far new.far (far_is w new x.1)
-  object_codes side seat (Some h) (Pin name) new r x = pin_codes seat h new r x
-  object_codes side seat (Some h) (Peek name) new r x = peek_codes seat h new r x
-  object_codes side seat (Some h) (Unpin name) new r x =
+  ask_codes : (side : Side) (seat : ℕ) (handle : Option ℕ) (request : Request) (ask : Ask)
+      (new : WorldState) (r : Reply) → IsAskOf handle request ask
+      → goes_at side seat ask w r new → KeepCodes w.far new.far
+  ask_codes side seat handle request (Calls j) new r is x =
+      side_codes side seat j new r (call_alone handle request j is) x
+  ask_codes side seat handle request (Pins h) new r is x = pin_codes seat h new r x
+  ask_codes side seat handle request (Peeks h) new r is x = peek_codes seat h new r x
+  ask_codes side seat handle request (Unpins h) new r is x =
       codes_same w.far new.far (unpin_far w new seat h r x)
-  object_codes side seat (Some h) (Read name) new r x =
-      event_codes seat (job.Read (record { n = h })) new r tt x
-  object_codes side seat (Some h) (Write name at bytes) new r x =
-      event_codes seat (job.Write (record { n = h }) at bytes) new r tt x
-  object_codes side seat (Some h) (Free name) new r x =
-      event_codes seat (job.Free (record { n = h })) new r tt x
-  object_codes side seat (Some h) (Filter name) new r x =
-      event_codes seat (job.Filter (record { n = h })) new r tt x
-  object_codes side seat (Some h) request new r x = absurd x
-
-  other_codes : (side : Side) (seat : ℕ) (handle : Option ℕ) (request : Request) (o : Option Job)
-      (new : WorldState) (r : Reply) → ((j : Job) → o ≡ Some j → NeedsNoOrder j)
-      → OtherStep side seat handle request o w r new → KeepCodes w.far new.far
-  other_codes side seat handle request (Some j) new r alone x =
-      side_codes side seat j new r (alone j refl) x
-  other_codes side seat handle request None new r alone x =
-      object_codes side seat handle request new r x
+  ask_codes side seat handle request Leaves new r is x =
+      codes_same w.far new.far (all_far seat w new x.1)
 
   pub line_codes : (side : Side) (seat : ℕ) (handle : Option ℕ) (request : Request)
       (new : WorldState) (r : Reply) → LineStep side seat handle request w r new
       → KeepCodes w.far new.far
-  line_codes side seat handle (Make name bytes) new r x =
-      event_codes seat (job.Make bytes) new r tt x
-  line_codes side seat handle Leave new r x = codes_same w.far new.far (all_far seat w new x.1)
   line_codes side seat handle request new r x =
-      other_codes side seat handle request (job_of request) new r (line_alone request) x
+      of_line (goes_at side seat) w new r (KeepCodes w.far new.far) handle request
+      (λ ask is y. ask_codes side seat handle request ask new r is y)
+      (λ unmade same. codes_same w.far new.far (far_is w new same)) x
 
 -- a lane that rests leaves the far state
 pub rests_far : (left seat : ℕ) (w new : WorldState) → Rests left seat w new → new.far ≡ w.far

@@ -1,11 +1,9 @@
 -- What turns, pins and the ends of pins keep, lines keep too.
-use Rattle.std.proofs.Common.{◌≡◌, ℕ, zero, suc, List, [], ◌∷◌, map, Option, None, Some, refl, sym}
+use Rattle.std.proofs.Common.{◌≡◌, ℕ, zero, suc, List, [], ◌∷◌, map, Option, Some, inl, inr, sym}
 use Rattle.std.proofs.Common.{subst}
 use Rattle.cb_types.specs.declared.job.Job.{Job}
 use Rattle.cb_types.specs.declared.job.Job.TheVariants as job
 use Rattle.cb_types.specs.declared.request.Request.{Request}
-use Rattle.cb_types.specs.declared.request.Request.TheVariants.{Make, Read, Write, Free, Pin, Peek}
-use Rattle.cb_types.specs.declared.request.Request.TheVariants.{Unpin, Filter, Leave}
 use Rattle.cb_types.specs.declared.reply.Reply.{Reply}
 use Rattle.cb_world.specs.declared.seats.SeatPin.{SeatPin}
 use Rattle.cb_world.specs.World.{WorldState}
@@ -15,11 +13,12 @@ use Rattle.cb_core.specs.Pinning.{PinStep, UnpinStep}
 use Rattle.cb_core.specs.Step.{Leads, Step, TurnStep, held as other_holds, free, ordered}
 use Rattle.cb_core.proofs.Laws.{MakesWithin}
 use Rattle.cb_lanes.specs.GivingBack.{unpin_event, GivesAll, Rests}
-use Rattle.cb_lanes.specs.LineGoes.{job_of}
-use Rattle.cb_lanes.specs.LineStep.{LineStep, ObjectStep, OtherStep, TurnAt, PeekStep, not_pinned}
-use Rattle.cb_lanes.specs.LineStep.{shown, PinLine, at_once, stays_far, swapped_in}
+use Rattle.cb_lanes.specs.LineGoes.{Ask, Calls, Leaves, Peeks, Pins, Unpins, job_of}
+use Rattle.cb_lanes.specs.LineStep.{LineStep, PeekStep, PinLine, SwapEvent, TurnAt, at_once}
+use Rattle.cb_lanes.specs.LineStep.{goes_at, not_pinned, shown, stays_far, swapped_in}
 use Rattle.cb_lanes.specs.declared.side.Side.{Side}
-use Rattle.cb_lanes.proofs.LineJobs.{by_line_job}
+use Rattle.cb_lanes.proofs.ByAsk.{IsAskOf, of_line}
+use Rattle.cb_lanes.proofs.LineJobs.{IsCallOf, by_line_job, by_object_job, call_alone}
 use Rattle.cb_lanes.proofs.Recounting.{IsRecounted, turn_beside}
 
 -- the job is one of a line on an object
@@ -31,21 +30,6 @@ IsObjectJob (job.Free handle) = Unit {0}
 IsObjectJob (job.Swap handle) = Unit {0}
 IsObjectJob (job.Filter handle) = Unit {0}
 IsObjectJob j = ⊥
-
--- no such job hands an order out or takes one
-object_alone : (j : Job) → IsObjectJob j → NeedsNoOrder j
-object_alone (job.Make bytes) is = tt
-object_alone (job.Read handle) is = tt
-object_alone (job.Write handle at bytes) is = tt
-object_alone (job.Free handle) is = tt
-object_alone (job.Swap handle) is = tt
-object_alone (job.Filter handle) is = tt
-object_alone j is = absurd is
-
--- nor does one of a line about no object, and it makes none
-pub line_alone : (request : Request) (j : Job) → job_of request ≡ Some j → NeedsNoOrder j
-line_alone = by_line_job (λ (q : Request) (i : Job). NeedsNoOrder i) tt tt tt tt tt tt tt tt tt tt tt
-    (λ node. tt) (λ node. tt)
 
 pub line_within : (most : ℕ) (request : Request) (j : Job) → job_of request ≡ Some j
     → MakesWithin most j
@@ -82,47 +66,20 @@ module _ (P : WorldState → Type 0) (May : Job → Type 0) (k : IsKeptByTurns P
   turn_kept side seat j w new r may alone x p = let z = turn_beside j side seat w new r x in
       k.recount z.mid new z.counts (event_kept seat j w z.mid r may alone z.step p)
 
-  on_object : (seat : ℕ) (j : Job) (w new : WorldState) (r : Reply) → IsObjectJob j
-      → Step w (Turn seat j) r new → P w → P new
-  on_object seat j w new r is step p =
-      event_kept seat j w new r (k.object j is) (object_alone j is) step p
+  swap_kept : (seat h : ℕ) (w new : WorldState) (r : Reply) → SwapEvent seat h w r new → P w → P new
+  swap_kept seat h w new r swap p = let j = job.Swap (record { n = h }) in
+      event_kept seat j w new r (k.object j tt) tt swap p
 
   pin_kept : (seat h : ℕ) (w new : WorldState) (r : Reply) → PinLine seat h w r new → P w → P new
   pin_kept seat h w new r (at_once pin never) p = k.pin seat h w new r pin p
   pin_kept seat h w new r (stays_far away swap off) p =
-      on_object seat (job.Swap (record { n = h })) w new r tt swap p
+      swap_kept seat h w new r swap p
   pin_kept seat h w new r (swapped_in m q away swap is again) p =
-      k.pin seat h m new r again (on_object seat (job.Swap (record { n = h })) w m q tt swap p)
+      k.pin seat h m new r again (swap_kept seat h w m q swap p)
 
   peek_kept : (seat h : ℕ) (w new : WorldState) (r : Reply) → PeekStep seat h w r new → P w → P new
   peek_kept seat h w new r (not_pinned none is same) p = same_kept w new same p
   peek_kept seat h w new r (shown at newest is same) p = same_kept w new same p
-
-  object_kept : (side : Side) (seat : ℕ) (handle : Option ℕ) (request : Request)
-      (w new : WorldState) (r : Reply)
-      → ObjectStep side seat handle request w r new → P w → P new
-  object_kept side seat None request w new r x p = same_kept w new x.1 p
-  object_kept side seat (Some h) (Pin name) w new r x p = pin_kept seat h w new r x p
-  object_kept side seat (Some h) (Peek name) w new r x p = peek_kept seat h w new r x p
-  object_kept side seat (Some h) (Unpin name) w new r x p = k.unpin seat h w new r x p
-  object_kept side seat (Some h) (Read name) w new r x p =
-      on_object seat (job.Read (record { n = h })) w new r tt x p
-  object_kept side seat (Some h) (Write name at bytes) w new r x p =
-      on_object seat (job.Write (record { n = h }) at bytes) w new r tt x p
-  object_kept side seat (Some h) (Free name) w new r x p =
-      on_object seat (job.Free (record { n = h })) w new r tt x p
-  object_kept side seat (Some h) (Filter name) w new r x p =
-      on_object seat (job.Filter (record { n = h })) w new r tt x p
-  object_kept side seat (Some h) request w new r x p = absurd x
-
-  other_kept : (side : Side) (seat : ℕ) (handle : Option ℕ) (request : Request) (o : Option Job)
-      (w new : WorldState) (r : Reply) → ((j : Job) → o ≡ Some j → May j)
-      → ((j : Job) → o ≡ Some j → NeedsNoOrder j)
-      → OtherStep side seat handle request o w r new → P w → P new
-  other_kept side seat handle request (Some j) w new r may alone x p =
-      turn_kept side seat j w new r (may j refl) (alone j refl) x p
-  other_kept side seat handle request None w new r may alone x p =
-      object_kept side seat handle request w new r x p
 
   gives_kept : (seat : ℕ) (pins : List SeatPin) (replies : List Reply) (w new : WorldState)
       → Leads w (map (unpin_event seat) pins) replies new → P w → P new
@@ -136,15 +93,34 @@ module _ (P : WorldState → Type 0) (May : Job → Type 0) (k : IsKeptByTurns P
   pub all_kept : (seat : ℕ) (w new : WorldState) → GivesAll seat w new → P w → P new
   all_kept seat w new leads p = gives_kept seat _ _ w new leads p
 
+  -- what a line asks for
+  call_may : (handle : Option ℕ) (request : Request) (j : Job) → MayBe May request
+      → IsCallOf handle request j → May j
+  call_may handle request j may (inl (name, bytes, e, is)) =
+      k.object j (subst IsObjectJob (sym is) tt)
+  call_may handle request j may (inr (inl (h, named, e))) = k.object j (by_object_job h
+      (λ (q : Request) (i : Job). IsObjectJob i) (λ name. tt) (λ name at bytes. tt) (λ name. tt)
+      (λ name. tt) request j e)
+  call_may handle request j may (inr (inr e)) = may j e
+
+  ask_kept : (side : Side) (seat : ℕ) (handle : Option ℕ) (request : Request) (ask : Ask)
+      (w new : WorldState) (r : Reply) → MayBe May request → IsAskOf handle request ask
+      → goes_at side seat ask w r new → P w → P new
+  ask_kept side seat handle request (Calls j) w new r may is x p = turn_kept side seat j w new r
+      (call_may handle request j may is) (call_alone handle request j is) x p
+  ask_kept side seat handle request (Pins h) w new r may is x p = pin_kept seat h w new r x p
+  ask_kept side seat handle request (Peeks h) w new r may is x p = peek_kept seat h w new r x p
+  ask_kept side seat handle request (Unpins h) w new r may is x p = k.unpin seat h w new r x p
+  ask_kept side seat handle request Leaves w new r may is x p = all_kept seat w new x.1 p
+
   -- a line
   pub line_kept : (side : Side) (seat : ℕ) (handle : Option ℕ) (request : Request)
       (w new : WorldState) (r : Reply) → MayBe May request
       → LineStep side seat handle request w r new → P w → P new
-  line_kept side seat handle (Make name bytes) w new r may x p =
-      on_object seat (job.Make bytes) w new r tt x p
-  line_kept side seat handle Leave w new r may x p = all_kept seat w new x.1 p
   line_kept side seat handle request w new r may x p =
-      other_kept side seat handle request (job_of request) w new r may (line_alone request) x p
+      of_line (goes_at side seat) w new r (P new) handle request
+      (λ ask is y. ask_kept side seat handle request ask w new r may is y p)
+      (λ unmade same. same_kept w new same p) x
 
   -- a lane that rests
   pub rests_kept : (left seat : ℕ) (w new : WorldState) → Rests left seat w new → P w → P new

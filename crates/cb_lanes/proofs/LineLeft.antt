@@ -10,8 +10,7 @@ use Rattle.cb_types.specs.declared.handle.SetId.{SetId}
 use Rattle.cb_types.specs.declared.job.Job.{Job}
 use Rattle.cb_types.specs.declared.job.Job.TheVariants as job
 use Rattle.cb_types.specs.declared.request.Request.{Request}
-use Rattle.cb_types.specs.declared.request.Request.TheVariants.{Make, Read, Write, Free, Pin, Peek}
-use Rattle.cb_types.specs.declared.request.Request.TheVariants.{Unpin, Filter, Leave}
+use Rattle.cb_types.specs.declared.request.Request.TheVariants.{Pin, Read, Write}
 use Rattle.cb_types.specs.declared.reply.Reply.{Reply}
 use Rattle.cb_types.specs.declared.reply.Reply.TheVariants as answer
 use Rattle.cb_types.specs.Table.{IsReplyOf}
@@ -26,6 +25,7 @@ use Rattle.cb_core.specs.declared.event.Event.{Event}
 use Rattle.cb_core.specs.declared.event.Event.TheVariants as event
 use Rattle.cb_core.specs.declared.event.Event.TheVariants.{Turn}
 use Rattle.cb_core.specs.Jobs.{IsJob, NeedsNoOrder}
+use Rattle.cb_core.specs.OnceHere.{IsThere}
 use Rattle.cb_core.specs.Pinning.{UnpinStep, not_pinned as none_given, given}
 use Rattle.cb_core.specs.Step.{Leads, Step, worn, done, held as other_holds, free, ordered}
 use Rattle.cb_core.specs.Unavailable.{IsLost, TellsUnavailable, brought_by}
@@ -36,13 +36,14 @@ use Rattle.cb_core.proofs.Laws.{unmoved_same, unpin_step_sound}
 use Rattle.cb_lanes.specs.declared.side.Side.{Side}
 use Rattle.cb_lanes.specs.declared.side.Side.TheVariants as parities
 use Rattle.cb_lanes.specs.GivingBack.{GivesAll, Rests, unpin_event}
-use Rattle.cb_lanes.specs.LineGoes.{job_of}
-use Rattle.cb_lanes.specs.LineStep.{LineStep, ObjectStep, OtherStep, TurnAt, PeekStep, not_pinned}
-use Rattle.cb_lanes.specs.LineStep.{shown, IsInReply, PinLine, at_once, stays_far, swapped_in}
+use Rattle.cb_lanes.specs.LineGoes.{Ask, Calls, Leaves, Peeks, Pins, Unpins, job_of}
+use Rattle.cb_lanes.specs.LineStep.{LineStep, PeekStep, PinLine, TurnAt, at_once, goes_at}
+use Rattle.cb_lanes.specs.LineStep.{not_pinned, shown, stays_far, swapped_in}
 use Rattle.cb_lanes.specs.LineTells.{BringsObject, LineLeaves, LineTells}
 use Rattle.cb_lanes.proofs.FarPins.{far_not_here}
 use Rattle.cb_lanes.proofs.GivingBack.{pin_below}
-use Rattle.cb_lanes.proofs.LineJobs.{by_line_job}
+use Rattle.cb_lanes.proofs.ByAsk.{IsAskOf, of_line}
+use Rattle.cb_lanes.proofs.LineJobs.{IsCallOf, by_line_job, by_object_job}
 use Rattle.cb_lanes.proofs.Lone.{event_seats, lone_other, turn_alone}
 
 -- ---- unmoved
@@ -170,9 +171,10 @@ module _ (seat h : ℕ) (w new : WorldState) (r : Reply) (sound : IsSoundWorld w
   same_handle : (k : ℕ) → Some h ≡ Some k → k ≡ h
   same_handle k e = cc
 
-  in_reply : (q : Reply) (id : SetId) (l : List Loss) → q ≡ answer.Unavailable id l → IsInReply q
-      → ⊥
-  in_reply q id l e is = subst IsInReply e is
+  lost_not_there : (q : Reply) (id : SetId) (l : List Loss) → q ≡ answer.Unavailable id l
+      → IsThere q → ⊥
+  lost_not_there q id l e (inl is) = cc
+  lost_not_there q id l e (inr (frame, is)) = cc
 
   swap_tells : (m : WorldState) (q : Reply) → IsSoundWorld m → Step w swap q m
       → TellsUnavailable w swap q
@@ -202,7 +204,8 @@ module _ (seat h : ℕ) (w new : WorldState) (r : Reply) (sound : IsSoundWorld w
         only = λ id l e. absurd
             (let z = brought_only m pin r t (λ id l x. x) id l e in none_some z.0 z.1);
         each = λ k id l e room few lost.
-            absurd (in_reply q id l (s.each k id l e (lone_other w.seats seat lone, few) lost) is);
+            absurd (lost_not_there q id l
+            (s.each k id l e (lone_other w.seats seat lone, few) lost) is);
       }
 
 -- ---- a line
@@ -211,38 +214,9 @@ module _ (side : Side) (seat : ℕ) (w new : WorldState) (r : Reply) (sound : Is
   abbrev Ready : Option ℕ → Type 0
   Ready handle = (h : ℕ) → handle ≡ Some h → h < w.desk.settings.handles
 
-  turn_keeps : (j : Job) → IsAsked w.desk.settings j → Step w (Turn seat j) r new
-      → KeepsPinned w new
-  turn_keeps j ok step = step_pinned (Turn seat j) w new r sound after (lt, ok.0) step
-
   peek_keeps : (h : ℕ) → PeekStep seat h w r new → KeepsPinned w new
   peek_keeps h (not_pinned none is same) = keeps_same w new same
   peek_keeps h (shown at newest is same) = keeps_same w new same
-
-  object_keeps : (handle : Option ℕ) (request : Request) → Ready handle
-      → ObjectStep side seat handle request w r new → KeepsPinned w new
-  object_keeps None request ready x = keeps_same w new x.1
-  object_keeps (Some h) (Pin name) ready x =
-      pin_pinned seat h w new r sound after lt (ready h refl) lone x
-  object_keeps (Some h) (Peek name) ready x = peek_keeps h x
-  object_keeps (Some h) (Unpin name) ready x =
-      λ k some still. unpin_unmoved w new seat h k r sound lt x
-  object_keeps (Some h) (Read name) ready x =
-      turn_keeps (job.Read (record { n = h })) (ready h refl, tt) x
-  object_keeps (Some h) (Write name at bytes) ready x =
-      turn_keeps (job.Write (record { n = h }) at bytes) (ready h refl, tt) x
-  object_keeps (Some h) (Free name) ready x =
-      turn_keeps (job.Free (record { n = h })) (ready h refl, tt) x
-  object_keeps (Some h) (Filter name) ready x =
-      turn_keeps (job.Filter (record { n = h })) (ready h refl, tt) x
-  object_keeps (Some h) request ready x = absurd x
-
-  other_keeps : (handle : Option ℕ) (request : Request) (o : Option Job)
-      → ((j : Job) → o ≡ Some j → IsAsked w.desk.settings j) → Ready handle
-      → OtherStep side seat handle request o w r new → KeepsPinned w new
-  other_keeps handle request (Some j) ok ready x =
-      turn_pinned j side seat w new r sound after lt (ok j refl) x
-  other_keeps handle request None ok ready x = object_keeps handle request ready x
 
   -- the job of a line about no object is one that may be asked for
   own_job : (request : Request) → IsRequest w.desk.settings.nodes request → (j : Job)
@@ -253,13 +227,36 @@ module _ (side : Side) (seat : ℕ) (w new : WorldState) (r : Reply) (sound : Is
       (λ x. (tt, tt)) (λ x. (tt, tt)) (λ x. (tt, tt)) (λ x. (tt, tt)) (λ x. (tt, tt))
       (λ x. (tt, tt)) (λ node x. (x, tt)) (λ node x. (x, tt)) request j e is
 
+  call_asked : (handle : Option ℕ) (request : Request) (j : Job)
+      → IsRequest w.desk.settings.nodes request → Ready handle → IsCallOf handle request j
+      → IsAsked w.desk.settings j
+  call_asked handle request j is ready (inl (name, bytes, e, of)) =
+      let q = subst (IsRequest w.desk.settings.nodes) e is in
+      subst (IsAsked w.desk.settings) (sym of) ((q.1.some, q.1.few), tt)
+  call_asked handle request j is ready (inr (inl (h, named, e))) = let below = ready h named in
+      by_object_job h (λ (q : Request) (i : Job). IsAsked w.desk.settings i) (λ name. (below, tt))
+      (λ name at bytes. (below, tt)) (λ name. (below, tt)) (λ name. (below, tt)) request j e
+  call_asked handle request j is ready (inr (inr e)) = own_job request is j e
+
+  ask_keeps : (handle : Option ℕ) (request : Request) (ask : Ask)
+      → IsRequest w.desk.settings.nodes request → Ready handle → IsAskOf handle request ask
+      → goes_at side seat ask w r new → KeepsPinned w new
+  ask_keeps handle request (Calls j) is ready of x = turn_pinned j side seat w new r sound after lt
+      (call_asked handle request j is ready of) x
+  ask_keeps handle request (Pins h) is ready of x =
+      pin_pinned seat h w new r sound after lt (ready h of.0) lone x
+  ask_keeps handle request (Peeks h) is ready of x = peek_keeps h x
+  ask_keeps handle request (Unpins h) is ready of x =
+      λ k some still. unpin_unmoved w new seat h k r sound lt x
+  ask_keeps handle request Leaves is ready of x =
+      λ k some still. all_unmoved seat w new k sound lt x.1
+
   line_keeps : (handle : Option ℕ) (request : Request) → IsRequest w.desk.settings.nodes request
       → Ready handle → LineStep side seat handle request w r new → KeepsPinned w new
-  line_keeps handle (Make name bytes) is ready x =
-      turn_keeps (job.Make bytes) ((is.1.some, is.1.few), tt) x
-  line_keeps handle Leave is ready x = λ k some still. all_unmoved seat w new k sound lt x.1
   line_keeps handle request is ready x =
-      other_keeps handle request (job_of request) (own_job request is) ready x
+      of_line (goes_at side seat) w new r (KeepsPinned w new) handle request
+      (λ ask of y. ask_keeps handle request ask is ready of y)
+      (λ unmade same. keeps_same w new same) x
 
   -- ---- when it is answered Unavailable
   none_tells : (handle : Option ℕ) (request : Request)

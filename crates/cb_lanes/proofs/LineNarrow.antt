@@ -1,14 +1,10 @@
 -- No line but a long make brings a span or a set of several pages.
-use Rattle.std.proofs.Common.{◌≡◌, ℕ, List, [], ◌∷◌, ◌++◌, Option, None, Some, refl, ap, subst, sym}
+use Rattle.std.proofs.Common.{◌≡◌, ℕ, List, [], ◌∷◌, ◌++◌, Option, inl, inr, refl, ap, subst, sym}
 use Rattle.cb_types.specs.declared.answer.Answer.{Answer}
 use Rattle.cb_types.specs.declared.job.Job.{Job}
 use Rattle.cb_types.specs.declared.job.Job.TheVariants as job
 use Rattle.cb_types.specs.declared.request.Request.{Request}
-use Rattle.cb_types.specs.declared.request.Request.TheVariants.{Make, Read, Write, Free, Pin, Peek}
-use Rattle.cb_types.specs.declared.request.Request.TheVariants.{Unpin, Filter, Evict, Begin, Ship}
-use Rattle.cb_types.specs.declared.request.Request.TheVariants.{Commit, Abort, Pair, Patch, Merge}
-use Rattle.cb_types.specs.declared.request.Request.TheVariants.{Part, Compact, Rebuild, Crash, Join}
-use Rattle.cb_types.specs.declared.request.Request.TheVariants.{Leave}
+use Rattle.cb_types.specs.declared.request.Request.TheVariants.{Make}
 use Rattle.cb_types.specs.declared.reply.Reply.{Reply}
 use Rattle.cb_types.specs.Requests.{name_of}
 use Rattle.cb_model.specs.Called.{handle_named}
@@ -20,12 +16,13 @@ use Rattle.cb_core.specs.Step.{Step, held as other_holds, free, ordered}
 use Rattle.cb_core.proofs.Laws.{KeepsNarrow, narrow_configured, narrow_same, narrow_stays}
 use Rattle.cb_core.proofs.Laws.{narrow_then}
 use Rattle.cb_core.proofs.Laws.{pin_far, turn_keeps_narrow, unpin_far}
-use Rattle.cb_lanes.specs.LineGoes.{job_of}
-use Rattle.cb_lanes.specs.LineStep.{LineStep, LinesLead, ObjectStep, OtherStep, TurnAt, PeekStep}
-use Rattle.cb_lanes.specs.LineStep.{PinLine, at_once, not_pinned, shown, stays_far, swapped_in}
+use Rattle.cb_lanes.specs.LineGoes.{Ask, Calls, Leaves, Peeks, Pins, Unpins}
+use Rattle.cb_lanes.specs.LineStep.{LineStep, LinesLead, PeekStep, PinLine, TurnAt, at_once}
+use Rattle.cb_lanes.specs.LineStep.{goes_at, not_pinned, shown, stays_far, swapped_in}
 use Rattle.cb_lanes.specs.declared.side.Side.{Side}
+use Rattle.cb_lanes.proofs.ByAsk.{IsAskOf, of_line}
 use Rattle.cb_lanes.proofs.LineCodes.{rests_far}
-use Rattle.cb_lanes.proofs.LineKeeps.{line_alone}
+use Rattle.cb_lanes.proofs.LineJobs.{IsCallOf, by_line_job, by_object_job, call_alone}
 use Rattle.cb_lanes.proofs.Recounting.{IsRecounted, turn_beside}
 
 -- the line is a make of more bytes than a span of one page has in a slot, and an object was made
@@ -72,64 +69,39 @@ peek_narrow : (seat h : ℕ) (w new : WorldState) (r : Reply) → PeekStep seat 
 peek_narrow seat h w new r (not_pinned none is same) = same_world w new same
 peek_narrow seat h w new r (shown at newest is same) = same_world w new same
 
-object_narrow : (side : Side) (seat : ℕ) (handle : Option ℕ) (request : Request)
-    (w new : WorldState)
-    (r : Reply) → ObjectStep side seat handle request w r new → KeepsNarrow w.far new.far
-object_narrow side seat None request w new r x = same_world w new x.1
-object_narrow side seat (Some h) (Pin name) w new r x = pin_narrow seat h w new r x
-object_narrow side seat (Some h) (Peek name) w new r x = peek_narrow seat h w new r x
-object_narrow side seat (Some h) (Unpin name) w new r x =
+-- the job of a line makes what the line makes
+call_short : (handle : Option ℕ) (request : Request) (r : Reply) (j : Job)
+    → (IsLongLine request r → ⊥) → IsCallOf handle request j → IsLongMade j r → ⊥
+call_short handle request r j short (inl (name, bytes, e, is)) long =
+    short (subst (λ (q : Request). IsLongLine q r) (sym e)
+    (subst (λ (i : Job). IsLongMade i r) is long))
+call_short handle request r j short (inr (inl (h, named, e))) long = by_object_job h
+    (λ (q : Request) (i : Job). IsLongMade i r → ⊥) (λ name z. z) (λ name at bytes z. z)
+    (λ name z. z) (λ name z. z) request j e long
+call_short handle request r j short (inr (inr e)) long = by_line_job
+    (λ (q : Request) (i : Job). IsLongMade i r → ⊥) (λ z. z) (λ z. z) (λ z. z) (λ z. z) (λ z. z)
+    (λ z. z) (λ z. z) (λ z. z) (λ z. z) (λ z. z) (λ z. z) (λ node z. z) (λ node z. z) request j e
+    long
+
+ask_narrow : (side : Side) (seat : ℕ) (handle : Option ℕ) (request : Request) (ask : Ask)
+    (w new : WorldState) (r : Reply) → (IsLongLine request r → ⊥) → IsAskOf handle request ask
+    → goes_at side seat ask w r new → KeepsNarrow w.far new.far
+ask_narrow side seat handle request (Calls j) w new r short is x = side_narrow side seat j w new r
+    (call_short handle request r j short is) (call_alone handle request j is) x
+ask_narrow side seat handle request (Pins h) w new r short is x = pin_narrow seat h w new r x
+ask_narrow side seat handle request (Peeks h) w new r short is x = peek_narrow seat h w new r x
+ask_narrow side seat handle request (Unpins h) w new r short is x =
     narrow_same w.far new.far (unpin_far w new seat h r x)
-object_narrow side seat (Some h) (Read name) w new r x =
-    event_narrow seat (job.Read (record { n = h })) w new r (λ z. z) tt x
-object_narrow side seat (Some h) (Write name at bytes) w new r x =
-    event_narrow seat (job.Write (record { n = h }) at bytes) w new r (λ z. z) tt x
-object_narrow side seat (Some h) (Free name) w new r x =
-    event_narrow seat (job.Free (record { n = h })) w new r (λ z. z) tt x
-object_narrow side seat (Some h) (Filter name) w new r x =
-    event_narrow seat (job.Filter (record { n = h })) w new r (λ z. z) tt x
-object_narrow side seat (Some h) request w new r x = absurd x
-
--- the job of a line about no object is no make
-abbrev IsLongIf : Option Job → Reply → Type 0
-IsLongIf None r = ⊥
-IsLongIf (Some j) r = IsLongMade j r
-
-no_make : (request : Request) (r : Reply) → IsLongIf (job_of request) r → ⊥
-no_make Evict r x = x
-no_make Begin r x = x
-no_make Ship r x = x
-no_make Commit r x = x
-no_make Abort r x = x
-no_make Pair r x = x
-no_make Patch r x = x
-no_make Merge r x = x
-no_make Part r x = x
-no_make Compact r x = x
-no_make Rebuild r x = x
-no_make (Crash node) r x = x
-no_make (Join node) r x = x
-no_make request r x = x
-
-other_narrow : (side : Side) (seat : ℕ) (handle : Option ℕ) (request : Request) (o : Option Job)
-    (w new : WorldState) (r : Reply) → (IsLongIf o r → ⊥)
-    → ((j : Job) → o ≡ Some j → NeedsNoOrder j)
-    → OtherStep side seat handle request o w r new → KeepsNarrow w.far new.far
-other_narrow side seat handle request (Some j) w new r short alone x =
-    side_narrow side seat j w new r short (alone j refl) x
-other_narrow side seat handle request None w new r short alone x =
-    object_narrow side seat handle request w new r x
+ask_narrow side seat handle request Leaves w new r short is x =
+    narrow_same w.far new.far (rests_far 0 seat w new x.1)
 
 pub line_keeps_narrow : (side : Side) (seat : ℕ) (handle : Option ℕ) (request : Request)
     (w new : WorldState) (r : Reply) → (IsLongLine request r → ⊥)
     → LineStep side seat handle request w r new → KeepsNarrow w.far new.far
-line_keeps_narrow side seat handle (Make name bytes) w new r short x =
-    event_narrow seat (job.Make bytes) w new r short tt x
-line_keeps_narrow side seat handle Leave w new r short x =
-    narrow_same w.far new.far (rests_far 0 seat w new x.1)
 line_keeps_narrow side seat handle request w new r short x =
-    other_narrow side seat handle request (job_of request) w new r (no_make request r)
-    (line_alone request) x
+    of_line (goes_at side seat) w new r (KeepsNarrow w.far new.far) handle request
+    (λ ask is y. ask_narrow side seat handle request ask w new r short is y)
+    (λ unmade same. same_world w new same) x
 
 pub line_narrow : (w : WorldState) → IsSoundWorld w → (side : Side) (seat : ℕ) (handle : Option ℕ)
     (request : Request) (new : WorldState) (r : Reply) → (IsLongLine request r → ⊥)

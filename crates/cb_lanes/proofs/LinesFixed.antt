@@ -21,6 +21,7 @@ use Rattle.cb_world.specs.Seats.{pins_of_seat}
 use Rattle.cb_world.specs.StillWords.{contents_at}
 use Rattle.cb_world.specs.World.{WorldState, IsSoundWorld, word_at}
 use Rattle.cb_core.specs.declared.event.Event.TheVariants.{Turn}
+use Rattle.cb_core.specs.OnceHere.{IsThere}
 use Rattle.cb_core.specs.Step.{Leads, Step}
 use Rattle.cb_core.specs.Turned.{counted}
 use Rattle.cb_core.proofs.Laws.{newest_fixed, step_fixes, unpin_fixed}
@@ -29,7 +30,7 @@ use Rattle.cb_local.proofs.Laws.{beside_fixed}
 use Rattle.cb_lanes.specs.Asked.{asked}
 use Rattle.cb_lanes.specs.GivingBack.{GivesAll, Rests, unpin_event, lines_by}
 use Rattle.cb_lanes.specs.LineGoes.{job_of}
-use Rattle.cb_lanes.specs.LineStep.{IsInReply, LinesLead, LineStep, ObjectStep, OtherStep, TurnAt}
+use Rattle.cb_lanes.specs.LineStep.{LinesLead, LineStep, ObjectStep, OtherStep, TurnAt}
 use Rattle.cb_lanes.specs.LineStep.{PeekStep, not_pinned, shown, PinEvent, PinLine, at_once}
 use Rattle.cb_lanes.specs.LineStep.{stays_far, swapped_in, SwapEvent}
 use Rattle.cb_lanes.specs.LinesSoundly.{AreOnlyAnswers, LinesLeadSoundly}
@@ -103,9 +104,9 @@ module _ (seat h : ℕ) (w a b : WorldState) (r q : Reply) (sound : IsSoundWorld
       absurd (on (far_not_here seat h w b q away f))
   pin_fixed (stays_far away x off) (stays_far still y on) = swap_event a b r q x y
   pin_fixed (stays_far away x off) (swapped_in n o still y is z) =
-      absurd (off (subst IsInReply (sym (swap_event a n r o x y).0) is))
+      absurd (off (subst IsThere (sym (swap_event a n r o x y).0) is))
   pin_fixed (swapped_in m p away x is u) (stays_far still y on) =
-      absurd (on (subst IsInReply (swap_event m b p q x y).0 is))
+      absurd (on (subst IsThere (swap_event m b p q x y).0 is))
   pin_fixed (swapped_in m p away x is u) (swapped_in n o still y also z) =
       let same = swap_event m n p o x y in
       pin_event seat h n a b r q (subst (λ (v : WorldState). PinEvent seat h v r a) same.1 u) z

@@ -7,12 +7,10 @@ use Rattle.std.proofs.lemmas.Option.{none-some}
 use Rattle.cb_member.specs.declared.names.Loss.{Loss}
 use Rattle.cb_member.specs.declared.names.NodeId.{NodeId}
 use Rattle.cb_types.specs.declared.answer.Answer.{Answer}
-use Rattle.cb_types.specs.declared.job.Job.{Job}
 use Rattle.cb_types.specs.declared.job.Job.TheVariants as job
 use Rattle.cb_types.specs.declared.reply.Reply.{Reply}
 use Rattle.cb_types.specs.declared.request.Request.{Request}
-use Rattle.cb_types.specs.declared.request.Request.TheVariants.{Make, Read, Write, Free, Pin, Peek}
-use Rattle.cb_types.specs.declared.request.Request.TheVariants.{Unpin, Filter, Crash, Leave}
+use Rattle.cb_types.specs.declared.request.Request.TheVariants.{Crash}
 use Rattle.cb_types.specs.Requests.{name_of}
 use Rattle.cb_model.specs.Called.{handle_named}
 use Rattle.cb_world.specs.FarState.{FarState}
@@ -24,11 +22,12 @@ use Rattle.cb_core.specs.Membership.{crashed, is_down}
 use Rattle.cb_core.specs.Step.{TurnStep, worn, done, held as other_holds, free, ordered}
 use Rattle.cb_core.proofs.Laws.{lead_rises, step_rises}
 use Rattle.cb_lanes.specs.GivingBack.{GivesAll, Rests, lines_by}
-use Rattle.cb_lanes.specs.LineGoes.{job_of}
-use Rattle.cb_lanes.specs.LineStep.{LinesLead, LineStep, ObjectStep, OtherStep, PeekStep}
-use Rattle.cb_lanes.specs.LineStep.{not_pinned, shown, PinLine, at_once, stays_far, swapped_in}
+use Rattle.cb_lanes.specs.LineGoes.{Ask, Calls, Leaves, Peeks, Pins, Unpins}
+use Rattle.cb_lanes.specs.LineStep.{LineStep, LinesLead, PeekStep, PinLine, at_once, goes_at}
+use Rattle.cb_lanes.specs.LineStep.{not_pinned, shown, stays_far, swapped_in}
 use Rattle.cb_lanes.specs.declared.side.Side.{Side}
 use Rattle.cb_lanes.specs.Lost.{AreInOrder, told_loss, losses_of}
+use Rattle.cb_lanes.proofs.ByAsk.{by_ask}
 use Rattle.cb_lanes.proofs.Recounting.{turn_beside}
 
 abbrev EpochRises : WorldState → WorldState → Type 0
@@ -54,24 +53,6 @@ peek_rises : (seat h : ℕ) (w new : WorldState) (r : Reply) → PeekStep seat h
 peek_rises seat h w new r (not_pinned n e same) = stays w new same
 peek_rises seat h w new r (shown at x e same) = stays w new same
 
-object_rises : (side : Side) (seat : ℕ) (handle : Option ℕ) (request : Request) (w new : WorldState)
-    (r : Reply)
-    → ObjectStep side seat handle request w r new → EpochRises w new
-object_rises side seat None request w new r x = stays w new x.1
-object_rises side seat (Some h) (Pin name) w new r x = pin_rises seat h w new r x
-object_rises side seat (Some h) (Peek name) w new r x = peek_rises seat h w new r x
-object_rises side seat (Some h) (Unpin name) w new r x =
-    step_rises w new (event.Step seat (atomic.Unpin (record { n = h }))) r x
-object_rises side seat (Some h) (Read name) w new r x =
-    step_rises w new (Turn seat (job.Read (record { n = h }))) r x
-object_rises side seat (Some h) (Write name at bytes) w new r x =
-    step_rises w new (Turn seat (job.Write (record { n = h }) at bytes)) r x
-object_rises side seat (Some h) (Free name) w new r x =
-    step_rises w new (Turn seat (job.Free (record { n = h }))) r x
-object_rises side seat (Some h) (Filter name) w new r x =
-    step_rises w new (Turn seat (job.Filter (record { n = h }))) r x
-object_rises side seat (Some h) request w new r x = absurd x
-
 gives_rise : (seat : ℕ) (w new : WorldState) → GivesAll seat w new → EpochRises w new
 gives_rise seat w new x = lead_rises w new _ _ x
 
@@ -79,23 +60,22 @@ rests_rise : (left seat : ℕ) (w new : WorldState) → Rests left seat w new �
 rests_rise zero seat w new x = gives_rise seat w new x
 rests_rise (suc left) seat w new x = stays w new x
 
-other_rises : (side : Side) (seat : ℕ) (handle : Option ℕ) (request : Request) (o : Option Job)
-    (w new : WorldState) (r : Reply) → OtherStep side seat handle request o w r new
-    → EpochRises w new
-other_rises side seat handle request (Some j) w new r x =
-    let z = turn_beside j side seat w new r x in
+ask_rises : (side : Side) (seat : ℕ) (ask : Ask) (w new : WorldState) (r : Reply)
+    → goes_at side seat ask w r new → EpochRises w new
+ask_rises side seat (Calls j) w new r x = let z = turn_beside j side seat w new r x in
     let rise = step_rises w z.mid (Turn seat j) r z.step in
     let same = ap (λ (f : FarState). f.members.epoch) z.counts.far in omega (arith, rise, same)
-other_rises side seat handle request None w new r x =
-    object_rises side seat handle request w new r x
+ask_rises side seat (Pins h) w new r x = pin_rises seat h w new r x
+ask_rises side seat (Peeks h) w new r x = peek_rises seat h w new r x
+ask_rises side seat (Unpins h) w new r x =
+    step_rises w new (event.Step seat (atomic.Unpin (record { n = h }))) r x
+ask_rises side seat Leaves w new r x = gives_rise seat w new x.1
 
 line_rises : (side : Side) (seat : ℕ) (handle : Option ℕ) (request : Request) (w new : WorldState)
     (r : Reply) → LineStep side seat handle request w r new → EpochRises w new
-line_rises side seat handle (Make name bytes) w new r x =
-    step_rises w new (Turn seat (job.Make bytes)) r x
-line_rises side seat handle Leave w new r x = gives_rise seat w new x.1
 line_rises side seat handle request w new r x =
-    other_rises side seat handle request (job_of request) w new r x
+    by_ask (goes_at side seat) w new r (EpochRises w new)
+    (λ ask y. ask_rises side seat ask w new r y) (λ unmade same. stays w new same) handle request x
 
 -- ---- a crash that took place
 

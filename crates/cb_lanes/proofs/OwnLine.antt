@@ -44,9 +44,10 @@ use Rattle.cb_lanes.proofs.OwnSays.{pin_reply, pin_shows, read_reply, unpin_repl
 use Rattle.cb_lanes.proofs.OwnSays.{write_reply}
 use Rattle.cb_lanes.proofs.OwnStands.{IsObject, LanePinsStand, LaneStands, ShowsLast, given_back}
 use Rattle.cb_lanes.proofs.OwnStands.{named_pins, newest_none, newest_some, scope_long}
-use Rattle.cb_lanes.proofs.OwnSteps.{Grew, OwnMore, call_pins, pinned_held, pins_still}
+use Rattle.cb_lanes.proofs.OwnSteps.{Grew, OwnMore, pinned_held, pins_still}
 use Rattle.cb_lanes.proofs.OwnSteps.{stands_changed, stands_still}
 use Rattle.cb_lanes.proofs.PinLists.{name_cases}
+use Rattle.cb_lanes.proofs.Trying.{call_pins}
 
 -- The record in the end: it has all that the record m has, and keeps what it has of its own
 -- objects.

@@ -10,8 +10,7 @@ use Rattle.cb_types.specs.declared.reply.Reply.{Reply}
 use Rattle.cb_types.specs.declared.reply.Reply.TheVariants as answer
 use Rattle.cb_types.specs.declared.request.Request.{Request}
 use Rattle.cb_types.specs.declared.request.Request.TheVariants.{Make, Read, Write, Free, Pin, Peek}
-use Rattle.cb_types.specs.declared.request.Request.TheVariants.{Unpin, Filter, Leave}
-use Rattle.cb_types.specs.declared.request.Request.TheVariants as line
+use Rattle.cb_types.specs.declared.request.Request.TheVariants.{Unpin, Leave}
 use Rattle.cb_types.specs.Requests.{name_of}
 use Rattle.cb_types.specs.Table.{IsReplyOf}
 use Rattle.cb_model.specs.declared.object.Object.TheVariants.{Held}
@@ -32,10 +31,10 @@ use Rattle.cb_lanes.specs.Alone.{now_named, own_name, peek_alone, pin_alone, rea
 use Rattle.cb_lanes.specs.Alone.{unpin_alone, write_alone}
 use Rattle.cb_lanes.specs.AloneUntil.{is_lack}
 use Rattle.cb_lanes.specs.KeepsOwn.{last_in}
-use Rattle.cb_lanes.specs.LineGoes.{Calls, LineGoes, ObjectGoes}
+use Rattle.cb_lanes.specs.LineGoes.{Ask, Calls, Leaves, LineGoes, ObjectGoes, Peeks, Pins, Unpins}
 use Rattle.cb_lanes.specs.Passing.{PeekGoes, goes_in}
 use Rattle.cb_lanes.specs.Scopes.{named_on, newest_on}
-use Rattle.cb_lanes.proofs.ByAsk.{line_less}
+use Rattle.cb_lanes.proofs.ByAsk.{IsAskOf, line_less, of_line}
 use Rattle.cb_lanes.proofs.LineParts.{LineAdds, about, make_handle, told_as}
 use Rattle.cb_lanes.proofs.OwnLine.{LeadsTo, pins_kept, quiet, quiet_own, own_free, own_peek}
 use Rattle.cb_lanes.proofs.OwnLine.{own_pin, own_read, own_unpin, own_write}
@@ -43,9 +42,10 @@ use Rattle.cb_lanes.proofs.OwnMade.{made_first, made_fresh}
 use Rattle.cb_lanes.proofs.OwnObjects.{last_hit, last_past}
 use Rattle.cb_lanes.proofs.OwnSays.{goes_own}
 use Rattle.cb_lanes.proofs.OwnStands.{LanePinsStand, LaneStands, ObjectStands, none_shared}
-use Rattle.cb_lanes.proofs.OwnSteps.{Grew, call_pins, pins_still, stands_made, stands_still}
+use Rattle.cb_lanes.proofs.OwnSteps.{Grew, pins_still, stands_made, stands_still}
 use Rattle.cb_lanes.proofs.PinLists.{name_cases}
 use Rattle.cb_lanes.proofs.TellingNew.{ask_new}
+use Rattle.cb_lanes.proofs.Trying.{call_pins}
 
 -- the request neither makes an object nor changes the scope
 abbrev pub KeepsScope : Request → Type 0
@@ -93,38 +93,19 @@ module _ (c : Config) (v m : View) (r : Reply) where
   peek_pins h (inl y) = ap (λ (k : View). k.pins) y.left
   peek_pins h (inr y) = ap (λ (k : View). k.pins) y.peeks.left
 
-  object_pins : (o : Option ℕ) (q : Request) → KeepsScope q → ObjectGoes (goes_in c) o q v r m
-      → m.pins ≡ v.pins
-  object_pins None q plain x = ap (λ (k : View). k.pins) x.1
-  object_pins (Some h) (Read p) plain x = call_pins c (job.Read (record { n = h })) r v m x
-  object_pins (Some h) (Write p at bytes) plain x =
-      call_pins c (job.Write (record { n = h }) at bytes) r v m x
-  object_pins (Some h) (Free p) plain x = call_pins c (job.Free (record { n = h })) r v m x
-  object_pins (Some h) (Filter p) plain x = call_pins c (job.Filter (record { n = h })) r v m x
-  object_pins (Some h) (Peek p) plain x = peek_pins h x
-  object_pins (Some h) (Pin p) plain x = absurd plain
-  object_pins (Some h) (Unpin p) plain x = absurd plain
-  object_pins (Some h) q plain x = absurd x
+  ask_pins : (o : Option ℕ) (q : Request) (ask : Ask) → KeepsScope q → IsAskOf o q ask
+      → goes_in c ask v r m → m.pins ≡ v.pins
+  ask_pins o q (Calls j) plain is x = call_pins c j r v m x
+  ask_pins o q (Pins h) plain (named, (p, is)) x = absurd (subst KeepsScope is plain)
+  ask_pins o q (Peeks h) plain is x = peek_pins h x
+  ask_pins o q (Unpins h) plain (named, (p, is)) x = absurd (subst KeepsScope is plain)
+  ask_pins o q Leaves plain is x = absurd (subst KeepsScope is plain)
 
   -- such a line leaves the pins
   plain_pins : (o : Option ℕ) (q : Request) → KeepsScope q → LineGoes (goes_in c) o q v r m
       → m.pins ≡ v.pins
-  plain_pins o (Make p bytes) plain x = absurd plain
-  plain_pins o Leave plain x = absurd plain
-  plain_pins o line.Evict plain x = call_pins c job.Evict r v m x
-  plain_pins o line.Begin plain x = call_pins c job.Begin r v m x
-  plain_pins o line.Ship plain x = call_pins c job.Ship r v m x
-  plain_pins o line.Commit plain x = call_pins c job.Commit r v m x
-  plain_pins o line.Abort plain x = call_pins c job.Abort r v m x
-  plain_pins o line.Pair plain x = call_pins c job.Pair r v m x
-  plain_pins o line.Patch plain x = call_pins c job.Patch r v m x
-  plain_pins o line.Merge plain x = call_pins c job.Merge r v m x
-  plain_pins o line.Part plain x = call_pins c job.Part r v m x
-  plain_pins o line.Compact plain x = call_pins c job.Compact r v m x
-  plain_pins o line.Rebuild plain x = call_pins c job.Rebuild r v m x
-  plain_pins o (line.Crash node) plain x = call_pins c (job.Crash node) r v m x
-  plain_pins o (line.Join node) plain x = call_pins c (job.Join node) r v m x
-  plain_pins o q plain x = object_pins o q plain x
+  plain_pins o q plain x = of_line (goes_in c) v m r (m.pins ≡ v.pins) o q
+      (λ ask is y. ask_pins o q ask plain is y) (λ unmade same. ap (λ (k : View). k.pins) same) x
 
 -- What is known of a line of a lane, where names have these handles: its reply is one that it may
 -- have, what it makes is the lane's own and new, and what it pins the lane's own.

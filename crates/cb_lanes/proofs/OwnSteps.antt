@@ -34,7 +34,7 @@ use Rattle.cb_lanes.proofs.OwnStands.{IsObject, LanePinsStand, LaneStands, Objec
 use Rattle.cb_lanes.proofs.OwnStands.{pin_still, pins_map}
 use Rattle.cb_lanes.proofs.PinLists.{name_cases}
 
--- ---- own handles stay own, and a call leaves the pins
+-- ---- own handles stay own
 abbrev pub OwnMore : View → View → Type 0
 OwnMore v m = (k : ℕ) → Has k v.own → Has k m.own
 
@@ -42,13 +42,6 @@ own_same : (v m : View) → m ≡ v → OwnMore v m
 own_same v m is k has = subst (λ (z : View). Has k z.own) (sym is) has
 
 module _ (c : Config) where
-  pub call_pins : (j : Job) (r : Reply) (v m : View) → CallGives c j v r m → m.pins ≡ v.pins
-  call_pins (job.Make bytes) r v m (d, x, is) = ap (λ (z : View). z.pins) is
-  call_pins (job.Read handle) r v m (d, x, is) = ap (λ (z : View). z.pins) is
-  call_pins (job.Write handle at bytes) r v m (d, x, is) = ap (λ (z : View). z.pins) is
-  call_pins (job.Free handle) r v m (d, x, is) = ap (λ (z : View). z.pins) is
-  call_pins j r v m (d, x, is) = ap (λ (z : View). z.pins) is
-
   call_own : (j : Job) (r : Reply) (v m : View) → CallGives c j v r m → OwnMore v m
   call_own (job.Make bytes) r v m (d, x, is) k has = subst (λ (z : View). Has k z.own) (sym is)
       (has_right k (made_by_turn (job.Make bytes) (Some r)) v.own has)

@@ -1,6 +1,7 @@
 -- A pin, a peek, an unpin and a leave are answered as the map beside the world answers them.
 use Rattle.std.proofs.Common.{◌≡◌, ℕ, zero, suc, ◌+◌, ◌^◌, ◌<◌, ◌≤◌, List, [], length, take, drop}
-use Rattle.std.proofs.Common.{get_or, None, Some, refl, sym, ap, ◌∙◌, subst, arith, nat_eq}
+use Rattle.std.proofs.Common.{get_or, None, Some, refl, sym, ap, ◌∙◌, subst, arith, inl, inr}
+use Rattle.std.proofs.Common.{nat_eq}
 use Rattle.std.proofs.lemmas.List.{length-take, get_or-drop, get_or-take}
 use Rattle.std.proofs.lemmas.List.Elements.{All-get_or, All-from_get_or}
 use Rattle.std.proofs.lemmas.List.Sums.{sum_by-take-drop, sum_by-le, count_by-le-length}
@@ -36,6 +37,7 @@ use Rattle.cb_mutate.specs.MapCalls.{IsValue, IsMapCall, IsCallOn}
 use Rattle.cb_mutate.specs.StillReplies.{reply_as}
 use Rattle.cb_mutate.proofs.Laws.{call_follows, beside_kept, was_made, IsOnContents, map_same}
 use Rattle.cb_mutate.proofs.Laws.{call_by_state, near_held, here_near}
+use Rattle.cb_core.specs.OnceHere.{IsThere}
 use Rattle.cb_core.specs.Pinning.{PinStep, scope_full, refused, taken, pin_refusal, UnpinStep}
 use Rattle.cb_core.specs.Pinning.{not_pinned as unpin_refused, given}
 use Rattle.cb_core.specs.declared.event.Atomic.TheVariants as atomic
@@ -46,8 +48,9 @@ use Rattle.cb_core.proofs.Laws.{swap_sound, IsSwapRefusal, SwapEnds, refused as 
 use Rattle.cb_core.proofs.Laws.{swapped, refusal_line}
 use Rattle.cb_lanes.specs.Asked.{answer_to, HasLineReply}
 use Rattle.cb_lanes.specs.GivingBack.{GivesAll}
-use Rattle.cb_lanes.specs.LineStep.{PeekStep, not_pinned, shown, IsInReply, PinLine, at_once}
+use Rattle.cb_lanes.specs.LineStep.{PeekStep, not_pinned, shown, PinLine, at_once}
 use Rattle.cb_lanes.specs.LineStep.{stays_far, swapped_in}
+use Rattle.cb_lanes.proofs.FarPins.{refused_not_there}
 use Rattle.cb_lanes.proofs.GivingBack.{StandsWithout, pin_stands, unpin_stands, stands_same}
 use Rattle.cb_lanes.proofs.GivingBack.{gives_all, pinned_here, pin_below}
 use Rattle.cb_lanes.proofs.Silent.{silent_follows}
@@ -244,23 +247,15 @@ pin_here_goes answers l name h r w new c lt below made few named (taken room may
 
 -- ---- a pin of an object wherever it is
 
-pub in_or_refused : (y : Words) (h : ℕ) (r : Reply) → SwapEnds y h r → (IsInReply r → ⊥)
+pub in_or_refused : (y : Words) (h : ℕ) (r : Reply) → SwapEnds y h r → (IsThere r → ⊥)
     → IsSwapRefusal r
 in_or_refused y h r (swap_refused z) off = z
-in_or_refused y h r (stays e here) off = absurd (off (subst IsInReply (sym e) tt))
-in_or_refused y h r (swapped f e here) off = absurd (off (subst IsInReply (sym e) tt))
+in_or_refused y h r (stays e here) off = absurd (off (inl e))
+in_or_refused y h r (swapped f e here) off = absurd (off (inr (f, e)))
 
-in_is_here : (y : Words) (h : ℕ) (r : Reply) → SwapEnds y h r → IsInReply r
+in_is_here : (y : Words) (h : ℕ) (r : Reply) → SwapEnds y h r → IsThere r
     → state_of (word_at y h) ≡ state.Here
-in_is_here y h r (swap_refused z) is = absurd (refused_in r z is)
-  where
-    refused_in : (r : Reply) → IsSwapRefusal r → IsInReply r → ⊥
-    refused_in answer.Unmade z is = is
-    refused_in answer.Freed z is = is
-    refused_in answer.Moving z is = is
-    refused_in (answer.Unavailable id l) z is = is
-    refused_in (answer.NoRoom frames loose nodes) z is = is
-    refused_in r z is = z
+in_is_here y h r (swap_refused z) is = absurd (refused_not_there r z is)
 in_is_here y h r (stays e here) is = here
 in_is_here y h r (swapped f e here) is = here
 
@@ -291,7 +286,7 @@ pub record SwappedIn (w n : WorldState) (h : ℕ) (s t : Shown) : Type 0 where
 
 pub swapped_here : (w n : WorldState) (h seat : ℕ) (q : Reply) → (before : IsSoundWorld w)
     → (after : IsSoundWorld n) → w.far.counts.turns < 2 ^ 40 → h < w.desk.settings.handles
-    → TurnStep (job.Swap (record { n = h })) w q n → IsInReply q
+    → TurnStep (job.Swap (record { n = h })) w q n → IsThere q
     → SwappedIn w n h before.shown after.shown
 swapped_here w n h seat q before after few below step is =
     let j = job.Swap (record { n = h }) in
@@ -306,7 +301,7 @@ swapped_here w n h seat q before after few below step is =
 stays_goes : (answers : List Answer) (l : Line) (name : List ℕ) (h : ℕ) (r : Reply)
     (w new : WorldState)
     → (c : Turning answers w new) → h < w.desk.settings.handles → handle_of answers name ≡ Some h
-    → TurnStep (job.Swap (record { n = h })) w r new → (IsInReply r → ⊥)
+    → TurnStep (job.Swap (record { n = h })) w r new → (IsThere r → ⊥)
     → LineGives answers (answer_to l (Pin name) r) w new c.then.shown
 stays_goes answers l name h r w new c below named step off =
     let j = job.Swap (record { n = h }) in
@@ -318,7 +313,7 @@ swapped_goes : (answers : List Answer) (l : Line) (name : List ℕ) (h : ℕ) (q
     (w n new : WorldState) → (c : Turning answers w new) → l.lane.n < 64
     → h < w.desk.settings.handles
     → h < w.far.made → ((seat : ℕ) → 16 ≤ seat → pins_of_seat w.seats seat ≡ [])
-    → handle_of answers name ≡ Some h → TurnStep (job.Swap (record { n = h })) w q n → IsInReply q
+    → handle_of answers name ≡ Some h → TurnStep (job.Swap (record { n = h })) w q n → IsThere q
     → PinStep l.lane.n h n r new → LineGives answers (answer_to l (Pin name) r) w new c.then.shown
 swapped_goes answers l name h q r w n new c lt below made few named swap is pin =
     let after = swap_sound w n h q c.before swap in

@@ -34,7 +34,7 @@ use Rattle.cb_lanes.proofs.GivingBack.{gives_all, pins_own, pins_other, given_pi
 use Rattle.cb_lanes.proofs.Filtering.{filter_counts}
 use Rattle.cb_lanes.proofs.PinLists.{AreHandlesApart, ArePinsOf, pins_length, scope_none}
 use Rattle.cb_lanes.proofs.PinLists.{scope_newest, scope_without, scope_count}
-use Rattle.cb_lanes.proofs.LineKeeps.{line_alone}
+use Rattle.cb_lanes.proofs.LineJobs.{line_alone}
 use Rattle.cb_lanes.proofs.Lone.{event_seats, turn_alone}
 use Rattle.cb_lanes.proofs.Pinning.{in_or_refused}
 use Rattle.cb_lanes.proofs.Recounting.{turn_beside}

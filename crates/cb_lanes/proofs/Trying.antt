@@ -164,18 +164,18 @@ call_is c j k v w result is x =
     subst (λ (z : Job). IfOk result (λ r. CallGives c z v r w)) (sym is) x
 
 -- it leaves the pins as they are, whatever its outcome
-pins_left : (c : Config) (j : Job) (r : Reply) (v w : View) → CallGives c j v r w
+pub call_pins : (c : Config) (j : Job) (r : Reply) (v w : View) → CallGives c j v r w
     → w.pins ≡ v.pins
-pins_left c (job.Make bytes) r v w x = ap (λ (z : View). z.pins) x.2
-pins_left c (job.Read h) r v w x = ap (λ (z : View). z.pins) x.2
-pins_left c (job.Write h at bytes) r v w x = ap (λ (z : View). z.pins) x.2
-pins_left c (job.Free h) r v w x = ap (λ (z : View). z.pins) x.2
-pins_left c j r v w x = ap (λ (z : View). z.pins) x.2
+call_pins c (job.Make bytes) r v w x = ap (λ (z : View). z.pins) x.2
+call_pins c (job.Read h) r v w x = ap (λ (z : View). z.pins) x.2
+call_pins c (job.Write h at bytes) r v w x = ap (λ (z : View). z.pins) x.2
+call_pins c (job.Free h) r v w x = ap (λ (z : View). z.pins) x.2
+call_pins c j r v w x = ap (λ (z : View). z.pins) x.2
 
 pub call_leaves : (c : Config) (j : Job) (on : ℕ → Type 0) (may : Job → Type 0) (v w : View)
     (result : Result Reply NoMemory) → IfOk result (λ r. CallGives c j v r w)
     → OnErr result (StopsBy c on may v w) → w.pins ≡ v.pins
-call_leaves c j on may v w (Ok r) x y = pins_left c j r v w x
+call_leaves c j on may v w (Ok r) x y = call_pins c j r v w x
 call_leaves c j on may v w (Err e) x y =
     ap (λ (z : View). z.pins) (stops_idle c on may v w y).2
 

@@ -1,6 +1,6 @@
 -- Worked examples: scopes of lanes, what they say of answers, and pins that are given back.
 use Rattle.std.proofs.Common.{◌≡◌, ℕ, zero, suc, List, [], ◌∷◌, length, replicate, Some, None, refl}
-use Rattle.std.proofs.Common.{ap, lit<, arith}
+use Rattle.std.proofs.Common.{ap, lit<, arith, inl, inr}
 use Rattle.std.specs.Prelude.{slice_get}
 use Rattle.std.proofs.lemmas.List.Edits.{length-remove}
 use Rattle.std.proofs.lemmas.Option.{slice_get_within}
@@ -22,10 +22,11 @@ use Rattle.cb_world.specs.StillWords.{contents_at}
 use Rattle.cb_world.specs.World.{WorldState, empty_world, word_at}
 use Rattle.cb_core.specs.declared.event.Atomic.TheVariants as atomic
 use Rattle.cb_core.specs.declared.event.Event.TheVariants as event
+use Rattle.cb_core.specs.OnceHere.{IsThere}
 use Rattle.cb_core.specs.Pinning.{not_pinned as unpin_refused, given}
 use Rattle.cb_lanes.specs.GivingBack.{unpin_event, GivesAll, lines_by, Rests}
 use Rattle.cb_lanes.specs.declared.side.Side.TheVariants.{Nodes}
-use Rattle.cb_lanes.specs.LineStep.{not_pinned, shown, CallStep, LineStep, IsInReply, PinEvent}
+use Rattle.cb_lanes.specs.LineStep.{not_pinned, shown, CallStep, LineStep, PinEvent}
 use Rattle.cb_lanes.specs.LineStep.{SwapEvent, IsFarToPin, PinLine, at_once, stays_far, swapped_in}
 use Rattle.cb_lanes.specs.LinesLeft.{AreLanes, AreLeft}
 use Rattle.cb_lanes.specs.Scopes.{NamedPin, Scope, newest_on, without_newest, named_on, scope_after}
@@ -293,14 +294,15 @@ peek_needs_a_pin = not_pinned (λ at p there. absurd cc) refl refl
 
 -- ---- pins of objects that are not here
 
-it_stays : IsInReply Stays
-it_stays = tt
+it_stays : IsThere Stays
+it_stays = inl refl
 
-it_came_in : IsInReply (Swapped 3)
-it_came_in = tt
+it_came_in : IsThere (Swapped 3)
+it_came_in = inr (3, refl)
 
-without_room_it_is_not_in : IsInReply (NoRoom 8 1 4) → ⊥
-without_room_it_is_not_in is = is
+without_room_it_is_not_there : IsThere (NoRoom 8 1 4) → ⊥
+without_room_it_is_not_there (inl is) = cc
+without_room_it_is_not_there (inr (frame, is)) = cc
 
 -- a far object, and one that is here, and a lane with as many pins as it may have
 abbrev with_word : ℕ → WorldState
@@ -329,12 +331,12 @@ pinned_at_once w new pin = at_once pin (λ e. cc)
 -- one that can't be swapped in is answered as the swap was
 not_swapped_in : (w new : WorldState) → IsFarToPin 1 4 w → SwapEvent 1 4 w (NoRoom 8 1 4) new
     → PinLine 1 4 w (NoRoom 8 1 4) new
-not_swapped_in w new away swap = stays_far away swap (λ is. is)
+not_swapped_in w new away swap = stays_far away swap without_room_it_is_not_there
 
 -- and one that came in is pinned then
 pinned_once_here : (w m new : WorldState) → IsFarToPin 1 4 w → SwapEvent 1 4 w (Swapped 3) m
     → PinEvent 1 4 m (Version 2) new → PinLine 1 4 w (Version 2) new
-pinned_once_here w m new away swap again = swapped_in m (Swapped 3) away swap tt again
+pinned_once_here w m new away swap again = swapped_in m (Swapped 3) away swap it_came_in again
 
 -- the refused pin of a far object is no line
 a_line_of_no_event : (w : WorldState) → PinLine 1 4 w NotHere w → (IsFarToPin 1 4 w → ⊥) → ⊥

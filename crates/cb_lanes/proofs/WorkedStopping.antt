@@ -1,7 +1,7 @@
 -- Worked lanes that found no memory: what meets each definition, and what breaks one of its parts
 -- alone.
-use Rattle.std.proofs.Common.{◌≡◌, ◌≢◌, ℕ, ◌<◌, List, [], ◌∷◌, ◌++◌, length, length-append, Option}
-use Rattle.std.proofs.Common.{None, Some, inl, inr, refl, sym, ap, ◌∙◌, subst, arith}
+use Rattle.std.proofs.Common.{◌≡◌, ◌≢◌, ◌⊎◌, ℕ, ◌<◌, List, [], ◌∷◌, ◌++◌, length, length-append}
+use Rattle.std.proofs.Common.{Option, None, Some, inl, inr, refl, sym, ap, ◌∙◌, subst, arith}
 use Rattle.std.proofs.lemmas.Bool.{eqb-false}
 use Rattle.std.proofs.lemmas.List.{append-nil}
 use Rattle.cb_types.specs.declared.answer.Answer.{Answer}
@@ -32,11 +32,10 @@ use Rattle.cb_lanes.specs.LineGoes.{Leaves, Peeks, Pins}
 use Rattle.cb_lanes.specs.Scoped.{AreOneToOne, IsMadeAs}
 use Rattle.cb_lanes.specs.Stopping.{AskStops, BringsNot, LineStops, PinStops, stops_in}
 use Rattle.cb_lanes.proofs.LaneStopping.{lane_stops}
-use Rattle.cb_lanes.proofs.PinTurns.{AreToBring, stops_to_bring}
 use Rattle.cb_lanes.proofs.Stopping.{idle_next, idle_pin}
 use Rattle.cb_lanes.proofs.WorkedBodies.{part}
 use Rattle.cb_lanes.proofs.WorkedPassing.{pinning, two}
-use Rattle.cb_lanes.proofs.WorkedPinTurns.{gets_a_fetch, gets_a_swap, one_turn}
+use Rattle.cb_lanes.proofs.WorkedPinTurns.{gets_a_fetch, gets_a_swap}
 
 abbrev a : List ℕ
 a = 97 ∷ []
@@ -176,12 +175,29 @@ no_memory_for_a_row t is told = record {
             (answer.Fetched (record { n = 3 }) 0)) is x
 
 -- it was a turn of another job
+abbrev newest_job : List Turn → Job
+newest_job [] = job.Compact
+newest_job (t ∷ ts) = t.job
+
 by_an_eviction : (t : Turn) → t.job ≡ job.Evict → BringsNot two 1 (blank two) (grown (turned t) far)
     → ⊥
-by_an_eviction t is x = no_eviction (subst (Brings 1) is (one_turn (AreToBring 1) t
-    (with_look 1 x.word (blank two)) (grown (turned t) far) refl
-    (stops_to_bring two 1 (with_look 1 x.word (blank two)) (grown (turned t) far) x.lacks)).0)
+by_an_eviction t is x = no_eviction (subst (Brings 1) is (newest x.lacks.lacks))
   where
+    tried : (ts : List Turn) → t ∷ [] ≡ ts ++ [] → Each (IsUnanswered (Brings 1)) ts
+        → Brings 1 t.job
+    tried [] e of = absurd (one_zero (ap (λ (us : List Turn). length us) e))
+    tried (u ∷ us) e of = subst (Brings 1) (sym (ap newest_job e)) of.0.0
+
+    newest : (grown (turned t) far ≡ x.lacks.between)
+        ⊎ ((j : Job) × Brings 1 j × TurnLacks two j x.lacks.between (grown (turned t) far))
+        → Brings 1 t.job
+    newest (inl same) = let z = x.lacks.tries in
+        tried z.1.turns (ap (λ (v : View). v.turns) (same ∙ z.2)
+        ∙ ap (λ (p : Part). p.turns ++ []) z.1.part) z.1.of
+    newest (inr (j, of, (e, (d, adds, is)))) = subst (Brings 1)
+        (sym (ap newest_job (ap (λ (v : View). v.turns) is
+        ∙ ap (λ (p : Part). p.turns ++ x.lacks.between.turns) adds.part) ∙ adds.job_is)) of
+
     no_eviction : Brings 1 job.Evict → ⊥
     no_eviction (inl e) = eqb-false 6 4 refl (ap job_index e)
     no_eviction (inr (inl e)) = eqb-false 6 21 refl (ap job_index e)

@@ -6,7 +6,6 @@ pub mod CompactsHere
 pub mod LineGoes
 pub mod MayAsk
 pub mod AnsweredBy
-pub mod PinTurns
 pub mod Passing
 pub mod Bodies
 pub mod Rising

@@ -17,6 +17,7 @@ use Rattle.cb_world.specs.World.{WorldState, word_at}
 use Rattle.cb_core.specs.declared.event.Atomic.TheVariants as atomic
 use Rattle.cb_core.specs.declared.event.Event.TheVariants as event
 use Rattle.cb_core.specs.declared.event.Event.TheVariants.{Turn}
+use Rattle.cb_core.specs.OnceHere.{IsThere}
 use Rattle.cb_core.specs.Step.{Step}
 use Rattle.cb_lanes.specs.CompactsHere.{CompactsHere}
 use Rattle.cb_lanes.specs.declared.side.Side.{Side}
@@ -34,12 +35,6 @@ pub data PeekStep (seat h : ℕ) (w : WorldState) (r : Reply) (new : WorldState)
       → r ≡ answer.Bytes newest.pin.version
       (bytes_in (contents_at w.desk h) (len_of (word_at w.desk h)))
       → new ≡ w → PeekStep seat h w r new
-
--- an object that was to be swapped in is in local memory
-abbrev pub IsInReply : Reply → Type 0
-IsInReply answer.Stays = Unit {0}
-IsInReply (answer.Swapped frame) = Unit {0}
-IsInReply r = ⊥
 
 -- one step that pins an object
 abbrev pub PinEvent : ℕ → ℕ → WorldState → Reply → WorldState → Type 0
@@ -59,10 +54,10 @@ pub record IsFarToPin (seat h : ℕ) (w : WorldState) : Type 0 where
 -- in, that turn is the line's only event, and the line is answered so.
 pub data PinLine (seat h : ℕ) (w : WorldState) (r : Reply) (new : WorldState) : Type 0 where
   at_once : PinEvent seat h w r new → (r ≡ answer.NotHere → ⊥) → PinLine seat h w r new
-  stays_far : IsFarToPin seat h w → SwapEvent seat h w r new → (IsInReply r → ⊥)
+  stays_far : IsFarToPin seat h w → SwapEvent seat h w r new → (IsThere r → ⊥)
       → PinLine seat h w r new
   swapped_in : (m : WorldState) (q : Reply) → IsFarToPin seat h w → SwapEvent seat h w q m
-      → IsInReply q → PinEvent seat h m r new → PinLine seat h w r new
+      → IsThere q → PinEvent seat h m r new → PinLine seat h w r new
 
 -- a compaction, by who makes the parities
 abbrev pub CompactsAt : Side → ℕ → WorldState → Reply → WorldState → Type 0

@@ -20,12 +20,11 @@ use Rattle.cb_record.specs.Parts.{Grows, Part}
 use Rattle.cb_shared.specs.declared.pass.Pin.{Pin}
 use Rattle.cb_shared.specs.Calls.{AsksFor, AtThis, Brings, IsUnanswered, ReadGives, TriesInVain}
 use Rattle.cb_shared.specs.Calls.{TurnGives, WriteAnswers}
-use Rattle.cb_shared.specs.Fetching.{GetsTurns}
+use Rattle.cb_shared.specs.Fetching.{AreBringing, GetsTurns}
 use Rattle.cb_shared.specs.Joining.{unpinned_all}
 use Rattle.cb_shared.specs.Pinning.{FindsFreed}
 use Rattle.cb_shared.specs.Turning.{TurnBy}
 use Rattle.cb_lanes.specs.LineGoes.{Calls, Goes, Leaves, Peeks, Pins, Unpins}
-use Rattle.cb_lanes.specs.PinTurns.{AreBringing}
 
 -- a call: reads, writes, makes and frees try again until they are answered, and every other job is
 -- one turn

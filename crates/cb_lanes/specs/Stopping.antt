@@ -11,11 +11,10 @@ use Rattle.cb_rule.specs.declared.view.View.{View}
 use Rattle.cb_rule.specs.Steps.{with_look}
 use Rattle.cb_shared.specs.Calls.{AtNone, Brings, ReadStops, StopsBy, TurnLacks, TurnStops}
 use Rattle.cb_shared.specs.Calls.{WriteStops}
-use Rattle.cb_shared.specs.Fetching.{GetsTurns}
+use Rattle.cb_shared.specs.Fetching.{AreBringing, GetsTurns}
 use Rattle.cb_lanes.specs.LineGoes.{Ask, Calls, Goes, Leaves, LineGoes, ObjectGoes, Peeks, Pins}
 use Rattle.cb_lanes.specs.LineGoes.{Unpins}
 use Rattle.cb_lanes.specs.Passing.{PinsInVain}
-use Rattle.cb_lanes.specs.PinTurns.{AreBringing}
 
 -- a look that found the object far, and turns that were to bring it in, where there was no memory
 pub record BringsNot (c : Config) (h : ℕ) (v w : View) : Type 0 where

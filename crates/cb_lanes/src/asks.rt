@@ -4,13 +4,12 @@ ghost use Rattle.std.specs.Prelude.{◌≡◌, ◌<◌, ℕ, List, length, None,
 ghost use Rattle.cb_core.specs.Jobs.{IsJob, NeedsNoOrder};
 ghost use Rattle.cb_rule.specs.Lists.{Has};
 ghost use Rattle.cb_rule.specs.Steps.{IsNewest, Knows};
-ghost use Rattle.cb_shared.specs.Fetching.{GetsTurns};
+ghost use Rattle.cb_shared.specs.Fetching.{AreBringing, AreTried, GetsTurns};
 ghost use Rattle.cb_shared.specs.Joining.{unpinned_all};
 ghost use Rattle.cb_shared.specs.Passes.{IsPassOf, IsPinOf, record_of, stand_of};
 ghost use Rattle.cb_shared.specs.Turning.{KnowsOf};
 ghost use Rattle.cb_lanes.specs.Passing.{AreHeld, CallGives, PeekGoes, PeeksAll, PinGoes, PinTries};
 ghost use Rattle.cb_lanes.specs.Passing.{PinsAtLast, UnpinGoes};
-ghost use Rattle.cb_lanes.specs.PinTurns.{AreBringing, AreTried};
 ghost use Rattle.cb_lanes.specs.Stopping.{BringsNot, CallStops, PinStops};
 
 use crate::kept_pins::{KeptPins, MOST_PINS, keep_pin, newest_pin};

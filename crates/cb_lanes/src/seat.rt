@@ -1,17 +1,17 @@
 //! The lane of a seat of a world, on one thread.
-ghost use Rattle.std.specs.Prelude.{◌↔◌, IsTrue, ◌<◌, IfOk};
+ghost use Rattle.std.specs.Prelude.{◌<◌, IfOk};
 ghost use Rattle.cb_world.specs.World.{IsSoundWorld};
 ghost use Rattle.cb_core.specs.Jobs.{IsJob, NeedsNoOrder};
 ghost use Rattle.cb_core.specs.Events.{IsAtomic};
 ghost use Rattle.cb_core.specs.Step.{AtomicStep, Step};
-ghost use Rattle.cb_lanes.specs.LineStep.{CompactsAt, IsInReply, PeekStep, PinLine, TurnAt};
+ghost use Rattle.cb_lanes.specs.LineStep.{CompactsAt, PeekStep, PinLine, TurnAt};
 ghost use Rattle.cb_lanes.specs.LineStep.{goes_at};
 
 use crate::caller::Caller;
 use crate::compacting::compact_here;
 use crate::resting::give_back;
 use crate::side::Side;
-use cb_core::{Atomic, Event, step};
+use cb_core::{Atomic, Event, is_there, step};
 use cb_mutate::read;
 use cb_types::{Handle, Job, NoMemory, Reply};
 use cb_world::World;
@@ -130,7 +130,7 @@ fn pin(alloc: Global, world: &mut World, seat: u32, handle: Handle) -> Result<Re
     match step_of(alloc, world, seat, pin)? {
         Reply::NotHere => {
             let reply = turn_of(alloc, world, seat, Job::Swap { handle })?;
-            if is_in(&reply) {
+            if is_there(&reply) {
                 step_of(alloc, world, seat, Atomic::Pin { handle })
             } else {
                 Ok(reply)
@@ -138,13 +138,6 @@ fn pin(alloc: Global, world: &mut World, seat: u32, handle: Handle) -> Result<Re
         }
         reply => Ok(reply),
     }
-}
-
-/// Whether a swap's reply says that the object is in local memory.
-fn is_in(reply: &Reply) -> bool
-    ensures { IsTrue result ↔ IsInReply reply.now }
-{
-    matches!(reply, Reply::Stays | Reply::Swapped { .. })
 }
 
 /// Shows an object on which the seat has a pin: it stays as it is, so it is read as it stands, and

@@ -21,7 +21,6 @@ use Rattle.cb_core.specs.Turned.{once_counted, worn}
 use Rattle.cb_core.specs.Unavailable.{TurnTells}
 use Rattle.cb_rule.specs.declared.turn.Turn.{Turn}
 use Rattle.cb_rule.specs.TriesAgain.{is_to_try_again, job_pages, may_come_loose}
-use Rattle.cb_shared.specs.Calls.{IsCalled}
 use Rattle.cb_shared.specs.Turning.{Did, DidAs, DidBy, DidWith, Slate, TellsLost, held_by}
 use Rattle.cb_shared.specs.Turning.{slate_run, slate_shows}
 

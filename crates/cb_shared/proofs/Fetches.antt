@@ -1,7 +1,6 @@
 -- The turns of a read have the job that its tries before ask for.
 use Rattle.std.proofs.Common.{◌≡◌, ℕ, ◌||◌, Bool, true, false, List, [], ◌∷◌, ◌++◌, Option}
-use Rattle.std.proofs.Common.{Some, Result, Ok, sym, refl, ap, ◌∙◌, subst, inl, inr}
-use Rattle.std.proofs.Common.{append_assoc}
+use Rattle.std.proofs.Common.{Some, Result, Ok, sym, refl, ap, ◌∙◌, subst, inr}
 use Rattle.cb_member.specs.declared.no_memory.NoMemory.{NoMemory}
 use Rattle.cb_types.specs.declared.config.Config.{Config}
 use Rattle.cb_types.specs.declared.job.Job.{Job}
@@ -19,43 +18,36 @@ use Rattle.cb_shared.specs.declared.reading.ReadAnswer.TheVariants as found
 use Rattle.cb_shared.specs.declared.ways.Way.{Way}
 use Rattle.cb_shared.specs.declared.ways.Way.TheVariants as ways
 use Rattle.cb_shared.specs.Calls.{the_handle}
-use Rattle.cb_shared.specs.Fetching.{AreBringingTo, AreDone, AreFetches, AreFetchesTo, GetsTurns}
-use Rattle.cb_shared.specs.Fetching.{IsOneAtMost, IsOneMore, IsOneOf, brings, brought_in_by}
+use Rattle.cb_shared.specs.Fetching.{AreBringingTo, AreDone, AreFetches, AreFetchesTo, AreOneTry}
+use Rattle.cb_shared.specs.Fetching.{GetsTurns, IsOfTry, IsOneAtMost, IsOneMore, IsOneOf, brings}
+use Rattle.cb_shared.specs.Fetching.{brought_in_by}
 use Rattle.cb_shared.specs.Fetching.{job_behind_fetch, job_behind_turn, job_to_fetch}
 use Rattle.cb_shared.specs.Reading.{ReadFinds, looked}
 use Rattle.cb_shared.specs.Turning.{TurnBy}
 use Rattle.cb_shared.specs.Ways.{IsFound, IsWayTold}
+use Rattle.cb_shared.proofs.InOrder.{IsFetchTold, behind_more, done_behind, done_more}
+use Rattle.cb_shared.proofs.InOrder.{fetch_in_order, in_order_more, one_at_most, told_behind}
+use Rattle.cb_shared.proofs.InOrder.{told_direct, told_made, try_fetches, turns_then, two_in_order}
 
 -- ---- one turn after the other
+job_more : (h : ℕ) (b : Bool) (us ts : List Turn) → AreDone h ts
+    → job_to_fetch h b us ≡ job_to_fetch h b (us ++ ts)
+job_more h true us ts done = refl
+job_more h false us ts done = behind_more h us ts done
+
 brought_more : (b : Bool) (us ts : List Turn)
     → brought_in_by (brought_in_by b ts) us ≡ brought_in_by b (us ++ ts)
 brought_more b [] ts = refl
 brought_more b (u ∷ us) ts = ap (λ (x : Bool). brings u.reply || x) (brought_more b us ts)
 
 -- behind turns that are done the first one has the job that it has without these
-pub job_more : (h : ℕ) (b : Bool) (us ts : List Turn) → AreDone h ts
-    → job_to_fetch h b us ≡ job_to_fetch h b (us ++ ts)
-job_more h true us ts done = refl
-job_more h false [] ts done = sym done
-job_more h false (u ∷ us) ts done = refl
-
-pub done_more : (h : ℕ) (us ts : List Turn) → AreDone h ts → AreDone h us → AreDone h (us ++ ts)
-done_more h [] ts x y = x
-done_more h (u ∷ us) ts x y = y
-
 fetches_more : (h : ℕ) (b : Bool) (us ts : List Turn) → AreDone h ts
     → AreFetches h (brought_in_by b ts) us → AreFetches h b ts → AreFetches h b (us ++ ts)
-fetches_more h b [] ts done x y = y
-fetches_more h b (u ∷ us) ts done x y = (
-  x.0 ∙ ap (λ (z : Bool). job_to_fetch h z us) (brought_more b us ts)
-      ∙ job_more h (brought_in_by b (us ++ ts)) us ts done,
-  fetches_more h b us ts done x.1 y,
-)
-
-pub turns_then : (ts us : List Turn) (v w u : View) → w.turns ≡ ts ++ v.turns → u.turns ≡ us ++ w.turns
-    → u.turns ≡ (us ++ ts) ++ v.turns
-turns_then ts us v w u got more =
-    more ∙ ap (λ (xs : List Turn). us ++ xs) got ∙ sym (append_assoc us ts v.turns)
+fetches_more h b us ts done x y = in_order_more
+    (λ xs j. j ≡ job_to_fetch h (brought_in_by (brought_in_by b ts) xs) xs)
+    (λ xs j. j ≡ job_to_fetch h (brought_in_by b xs) xs) us ts
+    (λ xs j is. is ∙ ap (λ (z : Bool). job_to_fetch h z xs) (brought_more b xs ts)
+    ∙ job_more h (brought_in_by b (xs ++ ts)) xs ts done) x y
 
 -- those of a read so far, and those of a try behind them
 pub fetches_then : (h : ℕ) (b m : Bool) (v w u : View) → GetsTurns (AreFetchesTo h b m) v w
@@ -158,23 +150,26 @@ read_fetched_more h b m v w is (ts, got, ((t, one, of), after)) = (
 
 -- ---- turns that bring it in
 pub fetches_first : (h : ℕ) (b : Bool) (v w : View) → b ≡ false
-    → GetsTurns (AreFetches h false) v w → GetsTurns (AreFetches h b) v w
-fetches_first h b v w is x = subst (λ (z : Bool). GetsTurns (AreFetches h z) v w) (sym is) x
+    → GetsTurns (AreOneTry h) v w → GetsTurns (AreFetches h b) v w
+fetches_first h b v w is (ts, got, are) =
+    (ts, got, subst (λ (z : Bool). AreFetches h z ts) (sym is) (try_fetches h ts are))
 
 pub bringing_first : (h : ℕ) (b m : Bool) (v w : View) → b ≡ false
     → GetsTurns (AreBringingTo h b m) v w → GetsTurns (AreFetchesTo h b m) v w
-bringing_first h b m v w is (ts, got, (are, after, done)) =
-    (ts, got, (subst (λ (z : Bool). AreFetches h z ts) (sym is) are, after, done))
+bringing_first h b m v w is (ts, got, (are, after, done)) = (
+  ts,
+  got,
+  (subst (λ (z : Bool). AreFetches h z ts) (sym is) (try_fetches h ts are), after, done),
+)
 
 pub fetch_first : (h : ℕ) (v w : View) → GetsTurns (IsOneOf (jobs.Fetch (the_handle h))) v w
-    → GetsTurns (AreFetches h false) v w
-fetch_first h v w (ts, got, (t, one, of)) =
-    (ts, got, subst (AreFetches h false) (sym one) (of, tt))
+    → GetsTurns (AreOneTry h) v w
+fetch_first h v w x = fetch_in_order h (IsOfTry h) (refl, refl) v w x
 
 pub found_first : (h : ℕ) (way : Way) (b m : Bool) (v w : View)
-    → GetsTurns (IsFound h way b m) v w → GetsTurns (AreFetches h false) v w
+    → GetsTurns (IsFound h way b m) v w → GetsTurns (AreOneTry h) v w
 found_first h way b m v w (ts, got, (t, one, of, told, after)) =
-    (ts, got, subst (AreFetches h false) (sym one) (of, tt))
+    fetch_first h v w (ts, got, (t, one, of))
 
 pub found_told : (h : ℕ) (r : Option Reply) (way : Way) (b m : Bool) (v w : View)
     → way ≡ ways.Told r → GetsTurns (IsFound h way b m) v w → GetsTurns (AreBringingTo h b m) v w
@@ -182,7 +177,7 @@ found_told h r way b m v w is (ts, got, (t, one, of, told, after)) = (
   ts,
   got,
   (
-    subst (AreFetches h false) (sym one) (of, tt),
+    subst (AreOneTry h) (sym one) ((of, refl), tt),
     after ∙ ap (brought_in_by b) (sym one),
     subst (AreDone h) (sym one) (ap (λ (j : Job). job_behind_turn h j t.reply) of
         ∙ subst (λ (z : Way). IsWayTold z t.reply) is told h),
@@ -193,28 +188,17 @@ found_told h r way b m v w is (ts, got, (t, one, of, told, after)) = (
 module _ (h : ℕ) (next : Job) (told : Option Reply) (none : brings told ≡ false)
     (behind : next ≡ job_behind_fetch h told)
     (last : (r : Option Reply) → job_behind_turn h next r ≡ jobs.Fetch (the_handle h)) where
-  second : (t s : Turn) → t.job ≡ jobs.Fetch (the_handle h) → t.reply ≡ told → s.job ≡ next
-      → AreFetches h false (s ∷ t ∷ [])
-  second t s of reply is = (
-    is ∙ behind ∙ sym (ap (λ (x : Bool). job_to_fetch h x (t ∷ []))
-        (ap (λ (r : Option Reply). brings r || false) reply ∙ ap (λ (x : Bool). x || false) none)
-        ∙ (λ i. job_behind_turn h (of i) (reply i))),
-    (of, tt),
+  of_try : (t : Turn) → t.job ≡ jobs.Fetch (the_handle h) → t.reply ≡ told
+      → IsOfTry h (t ∷ []) next
+  of_try t fetch reply = (
+    behind ∙ told_behind h told t fetch reply,
+    ap (λ (r : Option Reply). brings r || false) reply ∙ ap (λ (x : Bool). x || false) none,
   )
 
-  second_at_most : (b m : Bool) (v w u : View) → GetsTurns (λ ts. (t : Turn) × (ts ≡ t ∷ [])
-      × (t.job ≡ jobs.Fetch (the_handle h)) × (t.reply ≡ told) × (m ≡ (brings t.reply || b))) v w
-      → GetsTurns (IsOneAtMost next) w u → GetsTurns (AreFetches h false) v u
-  second_at_most b m v w u (ts, got, (t, one, of, reply, knows)) (us, more, inl is) = (
-    us ++ ts,
-    turns_then ts us v w u got more,
-    subst (AreFetches h false) (sym (λ i. is i ++ one i)) (of, tt),
-  )
-  second_at_most b m v w u (ts, got, (t, one, of, reply, knows)) (us, more, inr (s, is, job)) = (
-    us ++ ts,
-    turns_then ts us v w u got more,
-    subst (AreFetches h false) (sym (λ i. is i ++ one i)) (second t s of reply job),
-  )
+  second_at_most : (v w u : View) → GetsTurns (IsFetchTold h told) v w
+      → GetsTurns (IsOneAtMost next) w u → GetsTurns (AreOneTry h) v u
+  second_at_most v w u x y =
+      one_at_most h (IsOfTry h) (refl, refl) next told of_try v w u x y
 
   second_more : (b m n : Bool) (v w u : View) → GetsTurns (λ ts. (t : Turn) × (ts ≡ t ∷ [])
       × (t.job ≡ jobs.Fetch (the_handle h)) × (t.reply ≡ told) × (m ≡ (brings t.reply || b))) v w
@@ -224,10 +208,10 @@ module _ (h : ℕ) (next : Job) (told : Option Reply) (none : brings told ≡ fa
         us ++ ts,
         turns_then ts us v w u got more,
         (
-          subst (AreFetches h false) (sym all) (second t s of reply job),
+          subst (AreOneTry h) (sym all)
+              (two_in_order h (IsOfTry h) (refl, refl) next told of_try t s of reply job),
           after ∙ (λ i. brought_in_by (knows i) (is i)) ∙ ap (brought_in_by b) (sym all),
-          subst (AreDone h) (sym all)
-              (ap (λ (j : Job). job_behind_turn h j s.reply) job ∙ last s.reply),
+          subst (AreDone h) (sym all) (done_behind h next last s (t ∷ []) job),
         ),
       )
 
@@ -238,10 +222,10 @@ module _ (h : ℕ) (way : Way) (b m : Bool) (v w u : View) (x : GetsTurns (IsFou
     found_as z is = subst (λ (y : Way). GetsTurns (IsFound h y b m) v w) is x
 
     pub landed_at_most : (o : DecodeOrder) → way ≡ ways.Made o
-        → GetsTurns (IsOneAtMost jobs.Land) w u → GetsTurns (AreFetches h false) v u
+        → GetsTurns (IsOneAtMost jobs.Land) w u → GetsTurns (AreOneTry h) v u
     landed_at_most o is y = second_at_most h jobs.Land
-        (Some (answer.Fetched (record { n = o.set }) o.position)) refl refl (λ r. refl) b m v w u
-        (found_as (ways.Made o) is) y
+        (Some (answer.Fetched (record { n = o.set }) o.position)) refl refl (λ r. refl) v w u
+        (told_made h way o b m v w is x) y
 
     pub landed_more : (o : DecodeOrder) (n : Bool) → way ≡ ways.Made o
         → GetsTurns (IsOneMore jobs.Land m n) w u → GetsTurns (AreBringingTo h b n) v u
@@ -250,9 +234,10 @@ module _ (h : ℕ) (way : Way) (b m : Bool) (v w u : View) (x : GetsTurns (IsFou
         (found_as (ways.Made o) is) y
 
     pub swapped_one : way ≡ ways.Direct → GetsTurns (IsOneOf (jobs.Swap (the_handle h))) w u
-        → GetsTurns (AreFetches h false) v u
-    swapped_one is (us, more, one) = second_at_most h (jobs.Swap (the_handle h)) (Some answer.Direct)
-        refl refl (λ r. refl) b m v w u (found_as ways.Direct is) (us, more, inr one)
+        → GetsTurns (AreOneTry h) v u
+    swapped_one is y = second_at_most h (jobs.Swap (the_handle h)) (Some answer.Direct)
+        refl refl (λ r. refl) v w u (told_direct h way b m v w is x)
+        (at_most_one (jobs.Swap (the_handle h)) w u y)
 
     pub swapped_more : (n : Bool) → way ≡ ways.Direct
         → GetsTurns (IsOneMore (jobs.Swap (the_handle h)) m n) w u

@@ -11,6 +11,8 @@ pub use Rattle.cb_shared.proofs.CallSteps.{stops_wider, tries_then, tries_wider,
 pub use Rattle.cb_shared.proofs.CallSteps.{turn_idle, turn_in_vain, turn_without, vain_look}
 pub use Rattle.cb_shared.proofs.FarSteps.{LooksFar, far_at_last, far_stops, far_tries}
 pub use Rattle.cb_shared.proofs.DidAlone.{did_alone, turn_alone, turn_keeps_order}
+pub use Rattle.cb_shared.proofs.InOrder.{bringing_then, gets_bringing, gets_tried}
+pub use Rattle.cb_shared.proofs.InOrder.{none_tried, tried_then}
 pub use Rattle.cb_shared.proofs.Known.{Keeps, call_keeps, call_made, fetch_keeps, join_keeps}
 pub use Rattle.cb_shared.proofs.Known.{left_keeps, peek_has, peek_keeps, pin_keeps, read_keeps}
 pub use Rattle.cb_shared.proofs.Known.{right_keeps, turn_keeps, turn_made, turned_keeps, turns_keep}

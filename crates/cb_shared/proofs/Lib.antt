@@ -37,6 +37,7 @@ mod Seeking
 mod CallSteps
 mod AskedTurns
 mod FarSteps
+mod InOrder
 mod Fetches
 mod WriteParts
 mod WriteTurns

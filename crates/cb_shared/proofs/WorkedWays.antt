@@ -21,10 +21,11 @@ use Rattle.cb_rule.specs.declared.view.Look.{Look}
 use Rattle.cb_rule.specs.declared.view.View.{View}
 use Rattle.cb_rule.specs.Steps.{look_at, with_look}
 use Rattle.cb_shared.specs.declared.ways.Way.TheVariants as ways
-use Rattle.cb_shared.specs.Fetching.{AreBringingTo, AreDone, AreFetches, AreFetchesTo, AreWrites}
-use Rattle.cb_shared.specs.Fetching.{AreWritesOn, FoundInside, FoundPast, GetsBoth, GetsTurns}
-use Rattle.cb_shared.specs.Fetching.{GoAsWrite, GoesOnAsWrite, IsOneAtMost, IsOneMore, IsWriteFor}
-use Rattle.cb_shared.specs.Fetching.{brought_in_by, job_behind, job_to_fetch}
+use Rattle.cb_shared.specs.Fetching.{AreBringing, AreBringingTo, AreDone, AreFetches, AreFetchesTo}
+use Rattle.cb_shared.specs.Fetching.{AreOneTry, AreTried, AreWrites, AreWritesOn, FoundInside}
+use Rattle.cb_shared.specs.Fetching.{FoundPast, GetsBoth, GetsTurns, GoAsWrite, GoesOnAsWrite}
+use Rattle.cb_shared.specs.Fetching.{IsOneAtMost, IsOneMore, IsWriteFor, brought_in_by, job_behind}
+use Rattle.cb_shared.specs.Fetching.{job_to_fetch}
 use Rattle.cb_shared.specs.Ordering.{CanRun}
 use Rattle.cb_shared.specs.Ways.{HasWay, IsFound, IsWayBy, IsWayOf, IsWayTold, way_told}
 use Rattle.cb_shared.specs.Writing.{FoundFarAs}
@@ -117,6 +118,58 @@ begins_wrong x = eqb-false 4 21 refl (ap job_index x.1.0)
 of_its_turn : GetsTurns (AreFetches 1 false) part (record part { turns = fetched ∷ [] })
 of_its_turn = (fetched ∷ [], refl, (refl, tt))
 
+-- ---- and of a call that brings the object in and never reads it
+none_yet : AreBringing 1 []
+none_yet = tt
+
+a_fetch_first : AreBringing 1 (fetched ∷ [])
+a_fetch_first = (refl, tt)
+
+lands_behind_it : AreBringing 1 (landed ∷ fetched ∷ [])
+lands_behind_it = (refl, (refl, tt))
+
+swaps_behind_it : AreBringing 1 (swapped ∷ direct ∷ [])
+swaps_behind_it = (refl, (refl, tt))
+
+-- behind one that brought the object in it is fetched again, where a read would read it
+fetches_it_again : AreBringing 1 (direct ∷ landed ∷ fetched ∷ [])
+fetches_it_again = (refl, (refl, (refl, tt)))
+
+a_read_fetches_no_more : AreFetches 1 false (direct ∷ landed ∷ fetched ∷ []) → ⊥
+a_read_fetches_no_more x = eqb-false 21 1 refl (ap job_index x.0)
+
+swaps_first : AreBringing 1 (swapped ∷ []) → ⊥
+swaps_first x = eqb-false 4 21 refl (ap job_index x.0)
+
+lands_first : AreBringing 1 (landed ∷ []) → ⊥
+lands_first x = eqb-false 22 21 refl (ap job_index x.0)
+
+lands_a_row_at_hand : AreBringing 1 (landed ∷ direct ∷ []) → ⊥
+lands_a_row_at_hand x = eqb-false 22 4 refl (ap job_index x.0)
+
+swaps_a_lost_row : AreBringing 1 (swapped ∷ fetched ∷ []) → ⊥
+swaps_a_lost_row x = eqb-false 4 22 refl (ap job_index x.0)
+
+fetches_a_row_at_hand : AreBringing 1 (fetched ∷ direct ∷ []) → ⊥
+fetches_a_row_at_hand x = eqb-false 21 4 refl (ap job_index x.0)
+
+reads_at_last : AreBringing 1 (told read (Some answer.Moving) ∷ landed ∷ fetched ∷ []) → ⊥
+reads_at_last x = eqb-false 1 21 refl (ap job_index x.0)
+
+-- the newest comes in its order, and the one before it does not
+began_with_a_swap : AreBringing 1 (fetched ∷ swapped ∷ []) → ⊥
+began_with_a_swap x = eqb-false 4 21 refl (ap job_index x.1.0)
+
+-- one try
+tries_once : AreOneTry 1 (landed ∷ fetched ∷ [])
+tries_once = ((refl, refl), ((refl, refl), tt))
+
+tries_out_of_order : AreOneTry 1 (landed ∷ direct ∷ []) → ⊥
+tries_out_of_order x = eqb-false 22 4 refl (ap job_index x.0.0)
+
+goes_on_behind_what_brought_it : AreOneTry 1 (direct ∷ landed ∷ fetched ∷ []) → ⊥
+goes_on_behind_what_brought_it x = false≢true (sym x.0.1)
+
 -- ---- behind which nothing is left to be done
 done : AreDone 1 (landed ∷ fetched ∷ [])
 done = refl
@@ -126,6 +179,19 @@ left_to_land e = eqb-false 22 21 refl (ap job_index e)
 
 left_to_swap : AreDone 1 (direct ∷ []) → ⊥
 left_to_swap e = eqb-false 4 21 refl (ap job_index e)
+
+-- tries that came to nothing
+tried : AreTried 1 (landed ∷ fetched ∷ [])
+tried = ((refl, (refl, tt)), refl)
+
+tried_in_part : AreTried 1 (fetched ∷ []) → ⊥
+tried_in_part x = left_to_land x.1
+
+tried_till_the_swap : AreTried 1 (direct ∷ []) → ⊥
+tried_till_the_swap x = left_to_swap x.1
+
+tried_to_swap : AreTried 1 (swapped ∷ []) → ⊥
+tried_to_swap x = swaps_first x.0
 
 none_or_one : IsOneAtMost swap [] × IsOneAtMost swap (swapped ∷ [])
 none_or_one = (inl refl, inr (swapped, refl, refl))
@@ -162,10 +228,10 @@ landed_first x = lands_at_once x.0
 
 -- turns that do not read bring it in once more
 brings_once_more : AreBringingTo 1 true true (told fetch (Some answer.Moving) ∷ [])
-brings_once_more = ((refl, tt), refl, refl)
+brings_once_more = (((refl, refl), tt), refl, refl)
 
 reads_once_more : AreBringingTo 1 true true (told read (Some answer.Moving) ∷ []) → ⊥
-reads_once_more x = reads_at_once x.0
+reads_once_more x = eqb-false 1 21 refl (ap job_index x.0.0.0)
 
 forgets_before : AreBringingTo 1 true false (told fetch (Some answer.Moving) ∷ []) → ⊥
 forgets_before x = false≢true x.1

@@ -1,14 +1,12 @@
 -- The turns of a write have the job that its tries before ask for.
 use Rattle.std.proofs.Common.{◌≡◌, ℕ, ◌+◌, ◌<◌, ◌≤◌, List, [], ◌∷◌, ◌++◌, length, Option, None, Some, refl}
 use Rattle.std.proofs.Common.{Bool, append_assoc, sym, ap, ◌∙◌, subst, inl, inr}
-use Rattle.std.specs.Prelude.{false, IfOk, OnErr, Result, Ok, Err}
+use Rattle.std.specs.Prelude.{IfOk, OnErr, Result, Ok, Err}
 use Rattle.cb_member.specs.declared.no_memory.NoMemory.{NoMemory}
 use Rattle.cb_types.specs.declared.config.Config.{Config}
 use Rattle.cb_types.specs.declared.job.Job.{Job}
 use Rattle.cb_types.specs.declared.job.Job.TheVariants as jobs
-use Rattle.cb_types.specs.declared.order.DecodeOrder.{DecodeOrder}
 use Rattle.cb_types.specs.declared.reply.Reply.{Reply}
-use Rattle.cb_types.specs.declared.reply.Reply.TheVariants as answer
 use Rattle.cb_ptr.specs.Word.{len_of}
 use Rattle.cb_rule.specs.declared.turn.Turn.{Turn}
 use Rattle.cb_rule.specs.declared.view.Look.{Look}
@@ -29,35 +27,14 @@ use Rattle.cb_shared.specs.Fetching.{job_behind_turn}
 use Rattle.cb_shared.specs.Ways.{IsFound, IsWayTold}
 use Rattle.cb_shared.specs.Writing.{FoundFarAs, WriteGives}
 use Rattle.cb_shared.proofs.CallSteps.{stops_idle}
-use Rattle.cb_shared.proofs.Fetches.{done_more, job_more, turns_then}
+use Rattle.cb_shared.proofs.InOrder.{IsFetchTold, done_behind, done_more, fetch_in_order}
+use Rattle.cb_shared.proofs.InOrder.{in_order_wider, one_at_most, order_more, told_behind}
+use Rattle.cb_shared.proofs.InOrder.{turns_then, two_in_order}
 use Rattle.cb_shared.proofs.WriteParts.{write_finds}
 
 pub is_one : (job : Job) (b m : Bool) (v w : View) → GetsTurns (IsOneMore job b m) v w
     → GetsTurns (IsOneOf job) v w
 is_one job b m v w (ts, got, (one, after)) = (ts, got, one)
-
--- one fetch that was told so
-abbrev pub IsFetchTold : ℕ → Option Reply → List Turn → Type 0
-IsFetchTold h told ts =
-    (t : Turn) × (ts ≡ t ∷ []) × (t.job ≡ jobs.Fetch (the_handle h)) × (t.reply ≡ told)
-
-pub told_as : (h : ℕ) (way : Way) (told : Option Reply) (b m : Bool) (v w : View)
-    → ((r : Option Reply) → IsWayTold way r → r ≡ told) → GetsTurns (IsFound h way b m) v w
-    → GetsTurns (IsFetchTold h told) v w
-told_as h way told b m v w only (ts, got, (t, one, of, reply, after)) =
-    (ts, got, (t, one, of, only t.reply reply))
-
--- by the way: an order was handed out, or the row is not lost
-pub told_made : (h : ℕ) (way : Way) (o : DecodeOrder) (b m : Bool) (v w : View) → way ≡ ways.Made o
-    → GetsTurns (IsFound h way b m) v w
-    → GetsTurns (IsFetchTold h (Some (answer.Fetched (record { n = o.set }) o.position))) v w
-told_made h way o b m v w is x = told_as h way _ b m v w
-    (λ r y. subst (λ (z : Way). IsWayTold z r) is y) x
-
-pub told_direct : (h : ℕ) (way : Way) (b m : Bool) (v w : View) → way ≡ ways.Direct
-    → GetsTurns (IsFound h way b m) v w → GetsTurns (IsFetchTold h (Some answer.Direct)) v w
-told_direct h way b m v w is x = told_as h way _ b m v w
-    (λ r y. subst (λ (z : Way). IsWayTold z r) is y) x
 
 -- ---- one turn after the other
 module _ (own : Job) (inside past more over : Type 0) (f : inside → more) (g : past → over) where
@@ -70,23 +47,22 @@ module _ (own : Job) (inside past more over : Type 0) (f : inside → more) (g :
 
   goes_wider : (h : ℕ) (ts : List Turn) → GoAsWrite h own inside past ts
       → GoAsWrite h own more over ts
-  goes_wider h [] x = tt
-  goes_wider h (t ∷ ts) x = (write_wider (job_behind h ts) t.job x.0, goes_wider h ts x.1)
+  goes_wider h ts x = in_order_wider (λ us j. IsWriteFor own inside past (job_behind h us) j)
+      (λ us j. IsWriteFor own more over (job_behind h us) j)
+      (λ us j y. write_wider (job_behind h us) j y) ts x
 
 module _ (h : ℕ) (own : Job) (inside past : Type 0) where
+  abbrev IsNext : List Turn → Job → Type 0
+  IsNext ts j = IsWriteFor own inside past (job_behind h ts) j
+
   go_more : (us ts : List Turn) → AreDone h ts → GoAsWrite h own inside past us
       → GoAsWrite h own inside past ts → GoAsWrite h own inside past (us ++ ts)
-  go_more [] ts done x y = y
-  go_more (u ∷ us) ts done x y = (
-    subst (λ (j : Job). IsWriteFor own inside past j u.job) (job_more h false us ts done) x.0,
-    go_more us ts done x.1 y,
-  )
+  go_more us ts done x y = order_more h (IsWriteFor own inside past) us ts done x y
 
   -- ---- a fetch comes first
   pub write_first : (v w : View) → GetsTurns (IsOneOf (jobs.Fetch (the_handle h))) v w
       → GetsTurns (GoAsWrite h own inside past) v w
-  write_first v w (ts, got, (t, one, of)) =
-      (ts, got, subst (GoAsWrite h own inside past) (sym one) (of, tt))
+  write_first v w x = fetch_in_order h IsNext refl v w x
 
   pub write_told : (r : Option Reply) (way : Way) (b m : Bool) (v w : View) → way ≡ ways.Told r
       → GetsTurns (IsFound h way b m) v w → GetsTurns (GoesOnAsWrite h own inside past) v w
@@ -104,27 +80,14 @@ module _ (h : ℕ) (own : Job) (inside past : Type 0) where
   module _ (next : Job) (told : Option Reply)
       (of : IsWriteFor own inside past (job_behind_fetch h told) next)
       (last : (r : Option Reply) → job_behind_turn h next r ≡ jobs.Fetch (the_handle h)) where
-    second : (t s : Turn) → t.job ≡ jobs.Fetch (the_handle h) → t.reply ≡ told → s.job ≡ next
-        → GoAsWrite h own inside past (s ∷ t ∷ [])
-    second t s fetch reply is = (
-      subst (λ (j : Job). IsWriteFor own inside past j s.job)
-          (sym (λ i. job_behind_turn h (fetch i) (reply i)))
-          (subst (IsWriteFor own inside past (job_behind_fetch h told)) (sym is) of),
-      (fetch, tt),
-    )
+    of_write : (t : Turn) → t.job ≡ jobs.Fetch (the_handle h) → t.reply ≡ told
+        → IsNext (t ∷ []) next
+    of_write t fetch reply = subst (λ (j : Job). IsWriteFor own inside past j next)
+        (told_behind h told t fetch reply) of
 
     pub behind_at_most : (v w u : View) → GetsTurns (IsFetchTold h told) v w
         → GetsTurns (IsOneAtMost next) w u → GetsTurns (GoAsWrite h own inside past) v u
-    behind_at_most v w u (ts, got, (t, one, fetch, reply)) (us, more, inl is) = (
-      us ++ ts,
-      turns_then ts us v w u got more,
-      subst (GoAsWrite h own inside past) (sym (λ i. is i ++ one i)) (fetch, tt),
-    )
-    behind_at_most v w u (ts, got, (t, one, fetch, reply)) (us, more, inr (s, is, job)) = (
-      us ++ ts,
-      turns_then ts us v w u got more,
-      subst (GoAsWrite h own inside past) (sym (λ i. is i ++ one i)) (second t s fetch reply job),
-    )
+    behind_at_most v w u x y = one_at_most h IsNext refl next told of_write v w u x y
 
     pub behind_one : (v w u : View) → GetsTurns (IsFetchTold h told) v w
         → GetsTurns (IsOneOf next) w u → GetsTurns (GoesOnAsWrite h own inside past) v u
@@ -133,9 +96,9 @@ module _ (h : ℕ) (own : Job) (inside past : Type 0) where
           us ++ ts,
           turns_then ts us v w u got more,
           (
-            subst (GoAsWrite h own inside past) (sym all) (second t s fetch reply job),
-            subst (AreDone h) (sym all)
-                (ap (λ (j : Job). job_behind_turn h j s.reply) job ∙ last s.reply),
+            subst (GoAsWrite h own inside past) (sym all)
+                (two_in_order h IsNext refl next told of_write t s fetch reply job),
+            subst (AreDone h) (sym all) (done_behind h next last s (t ∷ []) job),
           ),
         )
 

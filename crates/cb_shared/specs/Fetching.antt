@@ -46,15 +46,34 @@ abbrev pub job_to_fetch : ℕ → Bool → List Turn → Job
 job_to_fetch h false ts = job_behind h ts
 job_to_fetch h true ts = jobs.Read (record { n = h })
 
--- each of these turns, the newest first, has that job by those before it
+-- each of these turns, the newest first, has a job that may come behind those before it
+abbrev pub ComeInOrder : (List Turn → Job → Type 0) → List Turn → Type 0
+ComeInOrder may [] = Unit {0}
+ComeInOrder may (t ∷ ts) = may ts t.job × ComeInOrder may ts
+
+-- the turns of a read
 abbrev pub AreFetches : ℕ → Bool → List Turn → Type 0
-AreFetches h before [] = Unit {0}
-AreFetches h before (t ∷ ts) =
-    (t.job ≡ job_to_fetch h (brought_in_by before ts) ts) × AreFetches h before ts
+AreFetches h before = ComeInOrder (λ ts j. j ≡ job_to_fetch h (brought_in_by before ts) ts)
+
+-- those of a call that brings the object in and never reads it, whether or not it was brought in
+-- before
+abbrev pub AreBringing : ℕ → List Turn → Type 0
+AreBringing h = ComeInOrder (λ ts j. j ≡ job_behind h ts)
+
+-- a turn of one try of such a call, which ends with the turn that brings the object in
+abbrev pub IsOfTry : ℕ → List Turn → Job → Type 0
+IsOfTry h ts j = (j ≡ job_behind h ts) × (brought_in_by false ts ≡ false)
+
+abbrev pub AreOneTry : ℕ → List Turn → Type 0
+AreOneTry h = ComeInOrder (IsOfTry h)
 
 -- the newest one is no fetch behind which a row is still to be landed or swapped in
 abbrev pub AreDone : ℕ → List Turn → Type 0
 AreDone h ts = job_behind h ts ≡ jobs.Fetch (record { n = h })
+
+-- tries that came to nothing: behind them the object is fetched again
+abbrev pub AreTried : ℕ → List Turn → Type 0
+AreTried h ts = AreBringing h ts × AreDone h ts
 
 -- the turns that a record got
 abbrev pub GetsTurns : (List Turn → Type 0) → View → View → Type 0
@@ -76,10 +95,10 @@ abbrev pub AreFetchesTo : ℕ → Bool → Bool → List Turn → Type 0
 AreFetchesTo h before after ts =
     AreFetches h before ts × (after ≡ brought_in_by before ts) × AreDone h ts
 
--- so of turns that bring the object in, and do not read it, whether or not it was brought in before
+-- so of one try that does not read it, whether or not it was brought in before
 abbrev pub AreBringingTo : ℕ → Bool → Bool → List Turn → Type 0
 AreBringingTo h before after ts =
-    AreFetches h false ts × (after ≡ brought_in_by before ts) × AreDone h ts
+    AreOneTry h ts × (after ≡ brought_in_by before ts) × AreDone h ts
 
 -- The job of a write's next turn, where that of a read is this one: its own where a read swaps the
 -- object in; where a read lands a row it does so too, if its bytes lie inside of the object, and
@@ -89,11 +108,9 @@ IsWriteFor own inside past (jobs.Swap handle) job = job ≡ own
 IsWriteFor own inside past jobs.Land job = ((job ≡ jobs.Land) × inside) ⊎ ((job ≡ own) × past)
 IsWriteFor own inside past other job = job ≡ other
 
--- each of these turns, the newest first, has such a job by those before it
+-- each of these turns has such a job by those before it
 abbrev pub GoAsWrite : ℕ → Job → Type 0 → Type 0 → List Turn → Type 0
-GoAsWrite h own inside past [] = Unit {0}
-GoAsWrite h own inside past (t ∷ ts) =
-    IsWriteFor own inside past (job_behind h ts) t.job × GoAsWrite h own inside past ts
+GoAsWrite h own inside past = ComeInOrder (λ ts j. IsWriteFor own inside past (job_behind h ts) j)
 
 -- so where the call goes on behind them
 abbrev pub GoesOnAsWrite : ℕ → Job → Type 0 → Type 0 → List Turn → Type 0

@@ -8,7 +8,7 @@ ghost use Rattle.cb_types.specs.Orders.{IsDecodable};
 ghost use Rattle.cb_shared.specs.Ways.{HasWay, IsFound, IsWayOf, way_told};
 ghost use Rattle.cb_shared.specs.Calls.{AtNone, Brings, OfThis, StopsBy, TriesBy, TurnStops};
 ghost use Rattle.cb_shared.specs.Calls.{TurnTries};
-ghost use Rattle.cb_shared.specs.Fetching.{AreBringingTo, AreFetches, GetsTurns};
+ghost use Rattle.cb_shared.specs.Fetching.{AreBringingTo, AreOneTry, GetsTurns};
 ghost use Rattle.cb_shared.specs.Fetching.{IsOneAtMost, IsOneMore, IsOneOf};
 ghost use Rattle.cb_shared.specs.Passes.{IsPassOf, record_of};
 
@@ -55,7 +55,7 @@ impl Shared {
             (record_of pass.old) (record_of pass.new)) }
         ensures error { OnErr result (StopsBy self.now.config AtNone (Brings h.n)
             (record_of pass.old) (record_of pass.new)) }
-        ensures jobs { GetsTurns (AreFetches h.n false) (record_of pass.old) (record_of pass.new) }
+        ensures jobs { GetsTurns (AreOneTry h.n) (record_of pass.old) (record_of pass.new) }
         ensures brought { IfOk result (λ o. o ≡ None → GetsTurns (AreBringingTo h.n
             patience.old.brought patience.new.brought) (record_of pass.old) (record_of pass.new)) }
     {

@@ -21,7 +21,7 @@ ghost use Rattle.cb_shared.specs.UnderLock.{IsTriedAgain, TriesOn, TurnAtSeat, W
 use crate::board::{SeatAt, Top};
 use crate::reading::{ReadAnswer, read_pinned};
 use crate::seat_desk::SeatDesk;
-use cb_core::{bring_to_read, turn};
+use cb_core::{bring_to_read, is_there, turn};
 use cb_types::{Config, Handle, Job, NoMemory, Reply};
 use cb_world::Far;
 use std::alloc::Global;
@@ -137,21 +137,20 @@ fn read_by_seat<R: Wait>(
     ensures unavailable { IfOk result (λ reply. TurnTells (jobs.Read h) far.old reply) }
 {
     let place = bring_by_seat(rt, top, seat, config, far, h);
-    if !is_there(&place) {
+    if !came_there(&place) {
         return place;
     }
     read_tried(rt, top, seat, config, alloc, h.n)
 }
 
-/// Whether the object is here by the answer of the first part of a read: it was so, or was brought
-/// in.
-fn is_there(place: &Result<Reply, NoMemory>) -> bool
+/// Whether the object is here by the answer of the first part of a read.
+fn came_there(place: &Result<Reply, NoMemory>) -> bool
     ensures yes { result ≡ true → CameThere place.now }
     ensures other { result ≡ false → CameThere place.now → ⊥ }
 {
     match place {
-        Ok(Reply::Stays | Reply::Swapped { .. }) => true,
-        _ => false,
+        Ok(reply) => is_there(reply),
+        Err(_) => false,
     }
 }
 

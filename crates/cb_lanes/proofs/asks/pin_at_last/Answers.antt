@@ -1,8 +1,7 @@
 use Rattle.std.proofs.Common.{◌<◌, List, length, Some, refl, sym, subst}
 use Rattle.cb_rule.specs.declared.view.Stand.{Stand}
 use Rattle.cb_shared.specs.Calls.{AtThis, Brings, IsUnanswered}
-use Rattle.cb_shared.proofs.Laws.{known_still, so_far}
-use Rattle.cb_lanes.proofs.PinTurns.{bringing_then, tried_none, tried_then}
+use Rattle.cb_shared.proofs.Laws.{bringing_then, known_still, none_tried, so_far, tried_then}
 use Rattle.cb_lanes.proofs.Stopping.{err_always}
 use Rattle.cb_lanes.proofs.Trying.{pin_again, pinned_at_last, vain_pins}
 use Rattle.cb_lanes.proofs.asks.pin_at_last.Goals as goal
@@ -14,7 +13,7 @@ loop-init g c = (
   so_far (AtThis c.args.h.n)
       (IsUnanswered (Brings c.args.h.n))
       c.args.pass.now.seat.me.0,
-  tried_none c.args.h.n c.args.pass.now.seat.me.0 c.args.pass.now.seat.me.0 refl,
+  none_tried c.args.h.n c.args.pass.now.seat.me.0 c.args.pass.now.seat.me.0 refl,
 )
 
 pub try_pin-requires-clause-of : goal.try_pin-requires-clause-of

@@ -1,7 +1,6 @@
-use Rattle.cb_shared.specs.Fetching.{GetsTurns}
+use Rattle.cb_shared.specs.Fetching.{AreTried, GetsTurns}
 use Rattle.cb_shared.specs.Passes.{IsPassOf}
 use Rattle.cb_lanes.specs.Passing.{AreHeld, PinsInVain}
-use Rattle.cb_lanes.specs.PinTurns.{AreTried}
 use Rattle.cb_lanes.proofs.asks.pin_at_last.Given as goal
 
 -- tries so far came to nothing, and the next one fetches the object again

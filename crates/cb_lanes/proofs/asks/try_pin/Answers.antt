@@ -61,16 +61,15 @@ returns-in-NotHere-clause-error g c = brings_not c.args.shared.now.config c.args
     c.bring.ensures.error
 
 pub returns-in-NotHere-clause-jobs : goal.returns-in-NotHere-clause-jobs
-returns-in-NotHere-clause-jobs g c = brings_behind c.args.shared.now.config c.args.h.n c.pin.result
+returns-in-NotHere-clause-jobs g c = brings_behind c.args.h.n c.pin.result
     c.args.pass.now.seat.me.0 c.pin.new.pass.seat.me.0 c.bring.new.pass.seat.me.0
-    c.pin.ensures.pin c.bring.result c.bring.ensures.brings c.bring.ensures.error
-    c.bring.ensures.jobs
+    c.pin.ensures.pin c.bring.ensures.jobs
 
 pub returns-in-NotHere-clause-again : goal.returns-in-NotHere-clause-again
-returns-in-NotHere-clause-again g c = tries_behind c.args.shared.now.config c.args.h.n c.pin.result
+returns-in-NotHere-clause-again g c = tries_behind c.args.h.n c.pin.result
     c.args.pass.now.seat.me.0 c.pin.new.pass.seat.me.0 c.bring.new.pass.seat.me.0
     c.pin.ensures.pin c.args.patience.now.brought c.bring.new.patience.brought c.bring.result
-    c.bring.ensures.brings c.bring.ensures.brought
+    c.bring.ensures.brought
 
 pub returns-in-Pinned-clause-jobs : goal.returns-in-Pinned-clause-jobs
 returns-in-Pinned-clause-jobs g c = pin_no_turn c.args.h.n c.pin.result

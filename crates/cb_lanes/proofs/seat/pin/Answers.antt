@@ -1,5 +1,4 @@
 use Rattle.std.proofs.Common.{◌<◌, sym, ◌∙◌, subst}
-use Rattle.std.proofs.lemmas.Bool.{false≢true}
 use Rattle.cb_types.specs.declared.config.Config.{Config}
 use Rattle.cb_types.specs.declared.job.Job.TheVariants as job
 use Rattle.cb_types.specs.declared.reply.Reply.{Reply}
@@ -23,8 +22,8 @@ turn_of-requires-clause-job c = subst (λ (d : Config). c.args.handle.n < d.hand
 pub turn_of-requires-clause-sound : goal.turn_of-requires-clause-sound
 turn_of-requires-clause-sound c = c.step_of.ensures.sound
 
-pub step_of-requires-then-is_in-clause-handle : goal.step_of-requires-then-is_in-clause-handle
-step_of-requires-then-is_in-clause-handle c = subst (λ (d : Config). c.args.handle.n < d.handles)
+pub step_of-requires-then-is_there-clause-handle : goal.step_of-requires-then-is_there-clause-handle
+step_of-requires-then-is_there-clause-handle c = subst (λ (d : Config). c.args.handle.n < d.handles)
     (sym (step_settings c.step_of.new.world c.turn_of.new.world
     (event.Turn c.args.seat (job.Swap c.args.handle)) c.in_ok-reply-in-NotHere.reply
     c.in_ok-reply-in-NotHere.ensures.step
@@ -33,29 +32,29 @@ step_of-requires-then-is_in-clause-handle c = subst (λ (d : Config). c.args.han
     c.in_ok-reply.ensures.step))
     c.requires.within
 
-pub step_of-requires-then-is_in-clause-sound : goal.step_of-requires-then-is_in-clause-sound
-step_of-requires-then-is_in-clause-sound c = c.turn_of.ensures.sound
+pub step_of-requires-then-is_there-clause-sound : goal.step_of-requires-then-is_there-clause-sound
+step_of-requires-then-is_there-clause-sound c = c.turn_of.ensures.sound
 
-pub returns-then-is_in : goal.returns-then-is_in
-returns-then-is_in c =
+pub returns-then-is_there : goal.returns-then-is_there
+returns-then-is_there c =
     let first : PinEvent c.args.seat c.args.handle.n c.args.world.now answer.NotHere
     c.step_of.new.world =
     subst (λ (q : Reply). PinEvent c.args.seat c.args.handle.n c.args.world.now q
     c.step_of.new.world)
     c.in-NotHere.is c.in_ok-reply.ensures.step in record {
-      pin = ok_then c.step_of-then-is_in.result (λ r again.
+      pin = ok_then c.step_of-then-is_there.result (λ r again.
           let z = far_to_pin c.args.seat c.args.handle.n c.args.world.now c.step_of.new.world first
           in
           swapped_in c.turn_of.new.world c.in_ok-reply-in-NotHere.reply z.0
           (subst (λ (v : WorldState). SwapEvent c.args.seat c.args.handle.n v
           c.in_ok-reply-in-NotHere.reply c.turn_of.new.world) z.1
           c.in_ok-reply-in-NotHere.ensures.step)
-          (c.is_in.ensures.0 c.if-is_in.true) again) c.step_of-then-is_in.ensures.step;
-      sound = c.step_of-then-is_in.ensures.sound;
+          (c.is_there.ensures.yes c.if-is_there.true) again) c.step_of-then-is_there.ensures.step;
+      sound = c.step_of-then-is_there.ensures.sound;
     }
 
-pub returns-else-is_in : goal.returns-else-is_in
-returns-else-is_in c =
+pub returns-else-is_there : goal.returns-else-is_there
+returns-else-is_there c =
     let first : PinEvent c.args.seat c.args.handle.n c.args.world.now answer.NotHere
     c.step_of.new.world =
     subst (λ (q : Reply). PinEvent c.args.seat c.args.handle.n c.args.world.now q
@@ -66,7 +65,7 @@ returns-else-is_in c =
           stays_far z.0 (subst (λ (v : WorldState). SwapEvent c.args.seat c.args.handle.n v
           c.in_ok-reply-in-NotHere.reply c.turn_of.new.world) z.1
           c.in_ok-reply-in-NotHere.ensures.step)
-          (λ is. false≢true (sym c.if-is_in.false ∙ c.is_in.ensures.1 is));
+          (c.is_there.ensures.other c.if-is_there.false);
       sound = c.turn_of.ensures.sound;
     }
 

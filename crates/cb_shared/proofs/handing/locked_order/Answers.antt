@@ -3,8 +3,6 @@ use Rattle.std.specs.Prelude.{IfOk}
 use Rattle.cb_types.specs.declared.order.Kept.{Kept}
 use Rattle.cb_world.specs.declared.shown.Shown.{Shown}
 use Rattle.cb_world.specs.FarState.{FarState}
-use Rattle.cb_world.specs.Orders.{KeepsOrder}
-use Rattle.cb_world.specs.Played.{played}
 use Rattle.cb_rule.specs.Locking.{Stood}
 use Rattle.cb_rule.specs.Slot.{Sat}
 use Rattle.cb_rule.specs.TriesAgain.{is_to_try_again}

@@ -8,14 +8,15 @@ bring_by_seat-place-requires-clause-holds g c = holds_begun c.args.top.now.table
     c.args.top.now.key c.args.config.now c.args.far.now c.args.seat.now c.requires.of
     c.requires.begins
 
-pub returns-then-not-is_there-clause-work : goal.returns-then-not-is_there-clause-work
-returns-then-not-is_there-clause-work g c = work_away c.args.config.now c.args.h
+pub returns-then-not-came_there-clause-work : goal.returns-then-not-came_there-clause-work
+returns-then-not-came_there-clause-work g c = work_away c.args.config.now c.args.h
     c.bring_by_seat-place.result c.args.far.now c.bring_by_seat-place.new.far c.args.seat.now
     c.bring_by_seat-place.new.seat c.requires.begins.kept c.bring_by_seat-place.ensures.bring
-    (c.is_there.ensures.other c.if-not-is_there.true)
+    (c.came_there.ensures.other c.if-not-came_there.true)
 
-pub returns-then-not-is_there-clause-unavailable : goal.returns-then-not-is_there-clause-unavailable
-returns-then-not-is_there-clause-unavailable g c = tells_away c.args.config.now c.args.h
+pub returns-then-not-came_there-clause-unavailable
+    : goal.returns-then-not-came_there-clause-unavailable
+returns-then-not-came_there-clause-unavailable g c = tells_away c.args.config.now c.args.h
     c.bring_by_seat-place.result c.args.far.now c.bring_by_seat-place.new.far c.args.seat.now
     c.bring_by_seat-place.new.seat c.bring_by_seat-place.ensures.bring c.requires.begins.stood
 
@@ -37,7 +38,8 @@ pub returns-clause-work : goal.returns-clause-work
 returns-clause-work g c = work_read c.args.config.now c.args.h c.bring_by_seat-place.result
     c.read_tried.result c.args.far.now c.bring_by_seat-place.new.far c.args.seat.now
     c.bring_by_seat-place.new.seat c.read_tried.new.seat c.requires.begins.kept
-    c.bring_by_seat-place.ensures.bring c.requires.begins.fresh (c.is_there.ensures.yes c.if-not-is_there.false) c.read_tried.ensures
+    c.bring_by_seat-place.ensures.bring c.requires.begins.fresh
+    (c.came_there.ensures.yes c.if-not-came_there.false) c.read_tried.ensures
 
 pub returns-clause-no_frame : goal.returns-clause-no_frame
 returns-clause-no_frame g c = no_frame_read c.args.config.now c.args.h.n c.read_tried.result
@@ -47,4 +49,5 @@ pub returns-clause-unavailable : goal.returns-clause-unavailable
 returns-clause-unavailable g c = tells_read c.args.config.now c.args.h c.bring_by_seat-place.result
     c.read_tried.result c.args.far.now c.bring_by_seat-place.new.far c.args.seat.now
     c.bring_by_seat-place.new.seat c.read_tried.new.seat c.bring_by_seat-place.ensures.bring
-    c.requires.begins.stood (c.is_there.ensures.yes c.if-not-is_there.false) c.read_tried.ensures
+    c.requires.begins.stood (c.came_there.ensures.yes c.if-not-came_there.false)
+    c.read_tried.ensures

@@ -10,8 +10,8 @@ use Rattle.cb_shared.proofs.CallSteps.{err_always}
 use Rattle.cb_shared.proofs.FarSteps.{tries_by_wider, turn_stops, way_knows, write_fetch}
 use Rattle.cb_shared.proofs.FarSteps.{write_stops, write_tries}
 use Rattle.cb_shared.proofs.Resting.{known_below}
-use Rattle.cb_shared.proofs.WriteTurns.{behind_at_most, behind_one, is_one, told_direct, told_made}
-use Rattle.cb_shared.proofs.WriteTurns.{write_first, write_told}
+use Rattle.cb_shared.proofs.InOrder.{told_direct, told_made}
+use Rattle.cb_shared.proofs.WriteTurns.{behind_at_most, behind_one, is_one, write_first, write_told}
 use Rattle.cb_shared.proofs.runtime.Shared.write_far.Goals as goal
 
 pub find_way-requires-clause-handle : goal.find_way-requires-clause-handle
