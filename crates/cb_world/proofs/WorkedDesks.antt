@@ -6,6 +6,7 @@ use Rattle.cb_world.specs.declared.shown.Shown.{Shown}
 use Rattle.cb_world.specs.Desks.{IsReadyDesk, Operates}
 use Rattle.cb_world.specs.Empty.{empty_far, empty_shown}
 use Rattle.cb_world.specs.FarState.{FarState}
+use Rattle.cb_world.specs.Sound.{Sound}
 use Rattle.cb_world.proofs.Empty.{empty_sound}
 
 abbrev config : Config
@@ -28,8 +29,11 @@ shows desk s = (desk ≡ 1) × (s ≡ world)
 abbrev runs : ℕ → List Access → ℕ → Type 0
 runs desk es after = (es ≡ []) × (after ≡ desk)
 
+sound : Sound world far
+sound = empty_sound 1 config (lit≤ tt) (lit< tt)
+
 ready : IsReadyDesk shows 1 far
-ready = (world, (refl, refl), empty_sound 1 config (lit≤ tt) (lit< tt))
+ready = (world, (refl, refl), sound)
 
 shows_nothing : IsReadyDesk shows 0 far → ⊥
 shows_nothing x = let e : 0 ≡ 1 = x.1.0 in omega (arith, e)
@@ -60,11 +64,11 @@ against_its_rule x = x.rule
 
 not_sound_afterwards : Does 1 none_sound (λ es. es ≡ []) (λ es s t. t ≡ s) → ⊥
 not_sound_afterwards x =
-    let z : 1 ≤ 0 = (x.sound_after world ((refl, refl), ready.2)).here.known.least in
+    let z : 1 ≤ 0 = (x.sound_after world ((refl, refl), sound)).here.known.least in
     omega (arith, z)
 
 without_its_effect : Does 1 far (λ es. es ≡ []) (λ es s t. ⊥) → ⊥
-without_its_effect x = x.effect world ((refl, refl), ready.2)
+without_its_effect x = x.effect world ((refl, refl), sound)
 
 -- of what the desk does not show, or what was not sound, nothing is said
 unshown : Operates runs shows 0 none_sound 0 none_sound (λ es. es ≡ []) (λ es s t. ⊥)
