@@ -1,7 +1,7 @@
 # What the launcher and ./prove share: where the proved program and the kept trial build lie, and whether they are
 # current. The folder of the repository is $here.
 
-version=0.12
+version=0.13
 program=$here/build/carbink
 # A trial build that the launcher kept. It is compiled with checks, and not proved.
 trial=$here/build/trial
