@@ -73,15 +73,6 @@ fn is_world(alloc: Global, world: World, ended: &Ended) -> Result<bool, NoMemory
     Ok(are_last? && ended.given.unwrap_or(given) == given)
 }
 
-/// Whether no answer was wrong, and a close is refused as it is where a pass with the share 1 is
-/// out.
-fn is_out(refused: &CloseRefused, ended: &Ended) -> bool {
-    match refused {
-        CloseRefused::Out { share, .. } => ended.is_right && ended.is_out && *share == 63,
-        CloseRefused::NoMemory { .. } => false,
-    }
-}
-
 /// Closes a runtime by its first pass; whether no answer was wrong, and the world has all that was
 /// written, or the close is refused as it is to be. A runtime that is not closed is left as it is.
 pub(crate) fn close(
@@ -95,9 +86,9 @@ pub(crate) fn close(
     match shared.close(alloc, first) {
         Ok((world, _seal)) => is_world(alloc, world, ended),
         Err(refused) => {
-            let is_out = is_out(&refused, ended);
+            let is_out = matches!(&refused, CloseRefused::Out { share: 63, .. });
             mem::forget(refused);
-            Ok(is_out)
+            Ok(is_out && ended.is_out && ended.is_right)
         }
     }
 }

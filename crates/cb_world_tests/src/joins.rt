@@ -16,17 +16,19 @@ turns=0\n1 make a 01\n1 make b 02\n1 filter a\n1 evict\n1 make c 03\n1 make d 04
 1 evict\n1 read b\n1 read c\n";
 
 /// Whether the replies are the same ending of a join.
-fn are_same(a: &Reply, b: &Reply) -> bool {
+fn are_same(a: &Result<Reply, NoMemory>, b: &Result<Reply, NoMemory>) -> bool {
     match (a, b) {
         (
-            Reply::Merged { set, moved },
-            Reply::Merged {
-                set: other,
-                moved: count,
-            },
+            Ok(Reply::Merged { set, moved }),
+            Ok(
+                Reply::Merged {
+                    set: other,
+                    moved: count,
+                },
+            ),
         ) => { set.n == other.n && moved == count }
-        (Reply::NodeFull { node }, Reply::NodeFull { node: other }) => node.n == other.n,
-        (Reply::NoPair, Reply::NoPair) => true,
+        (Ok(Reply::NodeFull { node }), Ok(Reply::NodeFull { node: other })) => node.n == other.n,
+        (Ok(Reply::NoPair), Ok(Reply::NoPair)) => true,
         _ => false,
     }
 }
@@ -77,16 +79,16 @@ fn same_far(a: &Far, b: &Far) -> bool {
 /// Whether both ways to join the sets of these worlds, which are alike, lead to the same, but that
 /// the compute side was given so many rows: in a turn, with parities that the nodes make, and with
 /// parities that the compute side makes.
-fn compare(alloc: Global, there: &mut World, here: &mut World, rows: u64) -> Result<bool, NoMemory>
+fn compare(alloc: Global, there: &mut World, here: &mut World, rows: u64) -> bool
     requires there { IsSoundWorld there.old }
     requires here { IsSoundWorld here.old }
 {
     let before = given_in(here);
     let job = Job::Compact;
-    let said = step(alloc, there, &Event::Turn { seat: 0, job })?;
-    let told = compact_local(alloc, &mut here.desk, &mut here.far)?;
+    let said = step(alloc, there, &Event::Turn { seat: 0, job });
+    let told = compact_local(alloc, &mut here.desk, &mut here.far);
     let given = given_in(there) == before && given_in(here).wrapping_sub(before) == rows;
-    Ok(are_same(&said, &told) && given && same_far(&here.far, &there.far))
+    are_same(&said, &told) && given && same_far(&here.far, &there.far)
 }
 
 /// The same in two worlds that these lines lead to.
@@ -96,7 +98,7 @@ fn both_join(alloc: Global, text: &[u8], rows: u64) -> Result<bool, NoMemory> {
         Ok(mut here) => {
             let found = compare(alloc, &mut there, &mut here, rows);
             here.end();
-            found
+            Ok(found)
         }
         Err(e) => Err(e),
     };

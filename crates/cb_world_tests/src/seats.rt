@@ -7,7 +7,7 @@ ghost use Rattle.cb_world.specs.World.{IsSoundWorld};
 use crate::acting::{Act, Acts, Row};
 use crate::bodies::MOST;
 use crate::told::{Number, Plain, Step, Told, shows, told_of};
-use cb_core::{Atomic, Event, run, step};
+use cb_core::{Atomic, Event, Replies, run, step};
 use cb_ptr::unpack;
 use cb_types::{Bytes, Config, Handle, Job, NoMemory, Reply};
 use cb_world::{Desk, World};
@@ -76,12 +76,13 @@ fn looked(world: &World, h: Handle, act: Act) -> Told
     }
 }
 
-/// What the reply to an act tells.
-fn told_of_act(reply: &Reply, act: Act, bytes: &[u8]) -> Told {
+/// What an act tells that was so answered.
+fn told_by_act(reply: Result<Reply, NoMemory>, act: Act, bytes: &[u8]) -> Result<Told, NoMemory> {
+    let reply = reply?;
     match act {
-        Act::Show if shows(reply, bytes) => Told::Just(Plain::Done),
-        Act::Show => Told::Just(Plain::Other),
-        _ => told_of(reply),
+        Act::Show if shows(&reply, bytes) => Ok(Told::Just(Plain::Done)),
+        Act::Show => Ok(Told::Just(Plain::Other)),
+        _ => Ok(told_of(&reply)),
     }
 }
 
@@ -101,10 +102,7 @@ impl<'a> Acts for AtSeats<'a> {
             return Ok(Told::Just(Plain::Other));
         }
         match event_of(alloc, config, u32::from(seat % 64), h, act, bytes)? {
-            Some(event) => {
-                let reply = step(alloc, world, &event)?;
-                Ok(told_of_act(&reply, act, bytes))
-            }
+            Some(event) => told_by_act(step(alloc, world, &event), act, bytes),
             None => Ok(looked(world, h, act)),
         }
     }
@@ -134,15 +132,17 @@ fn events_of(
 }
 
 /// Whether these are the replies of rows, in order.
-fn are_of_rows(replies: &[Reply], rows: &[Row]) -> bool {
+fn are_of_rows(replies: Result<Replies, NoMemory>, rows: &[Row]) -> Result<bool, NoMemory> {
+    let replies = replies?;
+    let replies = replies.as_slice();
     if replies.len() != rows.len() {
-        return false;
+        return Ok(false);
     }
     let mut all = true;
     for i in 0..rows.len() {
         all &= told_of(&replies[i]) == rows[i].3;
     }
-    all
+    Ok(all)
 }
 
 /// Whether a run of the events of rows on the first object is answered as they say.
@@ -159,6 +159,5 @@ pub(crate) fn are_told_in_a_run(
         return Ok(false);
     }
     let events = events_of(alloc, config, rows, bytes)?;
-    let replies = run(alloc, world, events.as_slice())?;
-    Ok(are_of_rows(replies.as_slice(), rows))
+    are_of_rows(run(alloc, world, events.as_slice()), rows)
 }

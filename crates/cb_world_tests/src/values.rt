@@ -89,6 +89,7 @@ fn counts<R: Wait>(rt: &R, alloc: Global, shared: &Shared, pass: &mut Pass) -> R
     requires of { IsPassOf shared.now pass.old }
     ensures of { IsPassOf shared.now pass.new }
 {
+    let mut counts = FarMap::new(alloc, 4)?;
     let mut array = FarArray::new(alloc);
     let mut numbers = OnPass {
         rt,
@@ -105,7 +106,6 @@ fn counts<R: Wait>(rt: &R, alloc: Global, shared: &Shared, pass: &mut Pass) -> R
         pass: _,
         array: _,
     } = numbers;
-    let mut counts = FarMap::new(alloc, 4)?;
     count_all(rt, alloc, shared, pass, &mut array, &mut counts)?;
     let wanted = [Some(101), Some(100), Some(100), None];
     Ok(is_filled && has_all(rt, alloc, shared, pass, &mut counts, &wanted)?)
