@@ -1,5 +1,5 @@
-//! What the seats of a world do, and what they are to be told: tables, and walks over them that reach
-//! no type of a world.
+//! What the seats of a world do, and what they are to be told: tables, and walks over them that
+//! reach no type of a world.
 use crate::bodies::MOST;
 use crate::told::{Number, Plain, Step, Told};
 use cb_types::{Handle, NoMemory};
@@ -32,7 +32,8 @@ pub(crate) enum Act {
     Memory,
 }
 
-/// The seats of a world. The tables walk over any such, so that their proofs do not reach its types.
+/// The seats of a world. The tables walk over any such, so that their proofs do not reach its
+/// types.
 pub(crate) trait Acts {
     // More may be done.
     ghost may: { Self → Type 0 };
