@@ -3,6 +3,7 @@ pub mod Calling
 pub mod Makes
 pub mod Orders
 pub mod ScrubbedWorld
+pub mod SmallWorlds
 pub mod SplitArrays
 mod WorkedKeeping
 mod WorkedPacked

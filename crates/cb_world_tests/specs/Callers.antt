@@ -33,3 +33,7 @@ pub caller_at : (s t : Shared) (objects others : List Handle) (p : Pass) → s �
     → objects ≡ others → IsCaller s objects p → IsCaller t others p
 caller_at s t objects others p is same c = subst (λ (x : Shared). IsCaller x others p) is
     (subst (λ (all : List Handle). IsCaller s all p) same c)
+
+-- a pass of a runtime that is the same
+pub pass_at : (s t : Shared) (p : Pass) → s ≡ t → IsPassOf s p → IsPassOf t p
+pass_at s t p is of = subst (λ (x : Shared). IsPassOf x p) is of

@@ -53,28 +53,46 @@ pub(crate) enum Body {
     Crew(Work),
 }
 
-/// How its objects are made.
-pub(crate) fn way_of(body: Body) -> Way {
-    match body {
+/// How its objects are made, and what stands at the end.
+#[derive(Clone, Copy)]
+pub(crate) struct Plan {
+    pub(crate) way: Way,
+    /// The version at which they are made.
+    pub(crate) version: u64,
+    pub(crate) count: usize,
+    /// How many rows were given out, where that is fixed.
+    pub(crate) given: Option<u64>,
+    /// The share of the first pass.
+    pub(crate) share: u32,
+}
+
+pub(crate) fn plan_of(body: Body) -> Plan {
+    let way = match body {
         Body::Calls | Body::Crew(_) => Way::Call,
         _ => Way::Turn,
-    }
-}
-
-/// The version at which they are made.
-pub(crate) fn wanted_of(body: Body) -> u64 {
-    match body {
+    };
+    let version = match body {
         Body::Wears => u64::MAX - 1,
         _ => 1,
-    }
-}
-
-/// How many there are.
-pub(crate) fn count_of(body: Body) -> usize {
-    match body {
-        Body::Crew(_) => OBJECTS,
-        Body::Crashes | Body::Order(_) => 2,
-        _ => 1,
+    };
+    let share = match body {
+        Body::Fills => 63,
+        _ => 64,
+    };
+    let (count, given) = match body {
+        Body::Crew(_) => (OBJECTS, None),
+        Body::Values => (1, None),
+        Body::Crashes | Body::Order(Course::Rebuild) => (2, Some(4)),
+        Body::Order(Course::Batch | Course::Batches) => (2, Some(0)),
+        Body::Order(_) => (2, Some(2)),
+        _ => (1, Some(0)),
+    };
+    Plan {
+        way,
+        version,
+        count,
+        given,
+        share,
     }
 }
 
@@ -90,49 +108,19 @@ pub(crate) fn len_shared(i: usize) -> usize
     }
 }
 
-/// The length of an object.
-pub(crate) fn len_of(body: Body, i: usize) -> usize
-    ensures { (1 ≤ result) × (result ≤ 1024) }
+/// The length of an object, and its bytes up to the most: two, behind which there are zeros.
+pub(crate) fn bytes_of(body: Body, i: usize) -> (usize, [u8; MOST])
+    ensures { (1 ≤ result.0) × (result.0 ≤ 1024) }
 {
-    match body {
-        Body::Crew(_) => len_shared(i),
-        Body::Calls => 2,
-        Body::Crashes | Body::Order(_) if i == 0 => 2,
-        _ => 1,
-    }
-}
-
-/// The first two bytes of an object, behind which there are zeros.
-fn front_of(body: Body, i: usize) -> (u8, u8) {
-    match body {
-        Body::Crew(_) => (0, 0),
-        Body::Crashes | Body::Order(_) if i == 0 => (10, 11),
-        Body::Crashes | Body::Order(_) => (12, 0),
-        _ => (1, 2),
-    }
-}
-
-/// The bytes of an object, up to the most.
-pub(crate) fn bytes_of(body: Body, i: usize) -> [u8; MOST] {
+    let (len, first, second) = match body {
+        Body::Crew(_) => (len_shared(i), 0, 0),
+        Body::Calls => (2, 1, 2),
+        Body::Crashes | Body::Order(_) if i == 0 => (2, 10, 11),
+        Body::Crashes | Body::Order(_) => (1, 12, 0),
+        _ => (1, 1, 2),
+    };
     let mut bytes = [0u8; MOST];
-    (bytes[0], bytes[1]) = front_of(body, i);
-    bytes
-}
-
-/// How many rows were given out at the end, where that is fixed.
-pub(crate) fn given_of(body: Body) -> Option<u64> {
-    match body {
-        Body::Crew(_) | Body::Values => None,
-        Body::Crashes | Body::Order(Course::Rebuild) => Some(4),
-        Body::Order(Course::Fetch | Course::Land | Course::Frees | Course::Loses) => Some(2),
-        _ => Some(0),
-    }
-}
-
-/// The share of the first pass at the end.
-pub(crate) fn share_of(body: Body) -> u32 {
-    match body {
-        Body::Fills => 63,
-        _ => 64,
-    }
+    bytes[0] = first;
+    bytes[1] = second;
+    (len, bytes)
 }

@@ -8,6 +8,8 @@
 #![tactic(auto)]
 
 #[cfg(test)]
+mod acting;
+#[cfg(test)]
 mod asking;
 #[cfg(test)]
 mod bodies;
@@ -30,8 +32,6 @@ mod merges;
 #[cfg(test)]
 mod notes;
 #[cfg(test)]
-mod objects;
-#[cfg(test)]
 mod pinned;
 #[cfg(test)]
 mod rounds;
@@ -40,14 +40,12 @@ mod runs;
 #[cfg(test)]
 mod scrubbing;
 #[cfg(test)]
+mod seats;
+#[cfg(test)]
 mod tables;
 #[cfg(test)]
 mod told;
 #[cfg(test)]
-mod turns;
-#[cfg(test)]
 mod values;
 #[cfg(test)]
 mod worlds;
-#[cfg(test)]
-mod writes;

@@ -3,7 +3,7 @@ ghost use Rattle.std.specs.Prelude.{◌≤◌, [], length, IfOk, IfSome, OnOk};
 ghost use Rattle.cb_rule.specs.Steps.{Knows};
 ghost use Rattle.cb_world_tests.specs.Callers.{IsCaller, TellsMade};
 
-use crate::bodies::{Body, MOST, bytes_of, count_of, len_of, wanted_of, way_of};
+use crate::bodies::{Body, bytes_of, plan_of};
 use crate::worlds::SMALL;
 use cb_shared::{Pass, Shared};
 use cb_types::{Bytes, Handle, Job, NoMemory, Reply};
@@ -83,10 +83,11 @@ pub(crate) fn make_all<R: Wait>(
     requires caller { IsCaller shared.now objects.old.items pass.old }
     ensures caller { OnOk result (IsCaller shared.now objects.new.items pass.new) }
 {
-    let (way, wanted) = (way_of(body), wanted_of(body));
-    for i in 0..count_of(body) {
-        let all = bytes_of(body, i);
-        let bytes = &all[..len_of(body, i)];
+    let plan = plan_of(body);
+    let (way, wanted) = (plan.way, plan.version);
+    for i in 0..plan.count {
+        let (len, all) = bytes_of(body, i);
+        let bytes = &all[..len];
         let known = objects.as_slice();
         let Some(h) = make_one(rt, alloc, shared, known, pass, way, bytes, wanted)? else {
             return Ok(false);

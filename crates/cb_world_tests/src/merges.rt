@@ -1,4 +1,5 @@
 use crate::scrubbing::world_of;
+use cb_types::NoMemory;
 use cb_world::World;
 use std::alloc::Global;
 use std::test::Fail;
@@ -23,23 +24,26 @@ pub(crate) fn given_in(world: &World) -> u64 {
     world.far.nodes.given()
 }
 
-/// How many rows were given out in the world that the lines lead to.
-fn given_by(alloc: Global, parts: &[&[u8]]) -> Result<u64, Fail> {
-    let mut text = Vec::new(alloc);
-    for part in parts {
-        text.extend_from_slice(part)?;
+/// Whether so many rows were given out in the world that the lines lead to.
+fn are_given_by(alloc: Global, parts: &[&[u8]], rows: u64) -> Result<bool, NoMemory> {
+    let world = world_of(alloc, parts)?;
+    let given = given_in(&world);
+    world.end();
+    Ok(given == rows)
+}
+
+/// Whether a merge, in steps and at once, gives no row out, and four are given out behind it.
+fn merges_give_none(alloc: Global) -> Result<bool, NoMemory> {
+    let mut all = are_given_by(alloc, &[TWO_SETS], 2)?;
+    for merge in [IN_STEPS, AT_ONCE] {
+        all &= are_given_by(alloc, &[TWO_SETS, merge], 2)?;
+        all &= are_given_by(alloc, &[TWO_SETS, merge, READ], 6)?;
     }
-    let world = world_of(alloc, text.as_slice())?;
-    Ok(given_in(&world))
+    Ok(all)
 }
 
 #[test]
 fn a_merge_gives_no_row_out(rt: HostRuntime) -> Result<(), Fail> {
-    let alloc = rt.alloc();
-    assert!(rt; given_by(alloc, &[TWO_SETS])? == 2);
-    for merge in [IN_STEPS, AT_ONCE] {
-        assert!(rt; given_by(alloc, &[TWO_SETS, merge])? == 2);
-        assert!(rt; given_by(alloc, &[TWO_SETS, merge, READ])? == 6);
-    }
+    assert!(rt; matches!(merges_give_none(rt.alloc()), Ok(true)));
     Ok(())
 }

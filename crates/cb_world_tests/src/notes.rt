@@ -40,6 +40,7 @@ fn note_of(object: usize, word: u64, told: Told) -> Option<Note> {
 fn is_right(object: usize, told: Told) -> bool {
     match told {
         Told::Just(Plain::Torn) | Told::Just(Plain::Worn) | Told::Just(Plain::Other) => false,
+        Told::Step(..) => false,
         Told::Just(Plain::Freed) => object == MORTAL,
         _ => true,
     }

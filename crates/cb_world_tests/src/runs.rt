@@ -4,7 +4,7 @@ ghost use Rattle.cb_shared.specs.Passes.{IsPassOf};
 ghost use Rattle.cb_world_tests.specs.Callers.{IsCaller};
 
 use crate::asking::Asks;
-use crate::bodies::{Body, Course, Work, given_of, share_of};
+use crate::bodies::{Body, Course, Work, plan_of};
 use crate::called::Caller;
 use crate::closed::{Ended, close};
 use crate::crew::{are_settled, run_crew};
@@ -64,7 +64,7 @@ fn done<R: Threads + Wait + Sync>(
         objects: _,
         pass: _,
     } = caller;
-    Ok(is_run && is_right? && first.share() == share_of(body))
+    Ok(is_run && is_right? && first.share() == plan_of(body).share)
 }
 
 /// What was done with a runtime, before it is closed. Only of threads the objects are noted.
@@ -90,7 +90,7 @@ fn ended<R: Threads + Wait + Sync>(
     Ok(Ended {
         is_right: is_right_first && is_made && is_right,
         is_out: matches!(body, Body::Fills),
-        given: given_of(body),
+        given: plan_of(body).given,
         objects,
         notes,
     })

@@ -7,16 +7,17 @@ ghost use Rattle.cb_scrub_world.specs.Spoilt.{IsSoundAgain, IsSpoilt};
 ghost use Rattle.cb_scrub_world.specs.Standing.{RowStands};
 ghost use Rattle.cb_world_tests.specs.Shards.{IsFirstSets};
 
-use crate::objects::shows;
-use cb_core::{Event, step};
+use crate::acting::{Act, Row, are_told};
+use crate::seats::AtSeats;
+use crate::told::Told;
 use cb_lanes::{Side, run_lines};
 use cb_member::Shard;
 use cb_script::{Mode, read_script};
 use cb_scrub::Found;
 use cb_scrub_world::{Scrubbed, scrub_next};
 use cb_set::is_lost;
-use cb_types::{Handle, Job};
-use cb_world::{Desk, Far, World};
+use cb_types::NoMemory;
+use cb_world::{Far, World};
 use std::alloc::Global;
 use std::test::Fail;
 
@@ -24,12 +25,16 @@ use std::test::Fail;
 const SCRIPT: &[u8] = b"carbink 1 k=2 r=2 nodes=6 frames=8 room=64 handles=2 turns=0\n\
     1 make a 0a0b\n1 make b 0c0c0c0c0c0c0c0c0c0c0c0c0c0c0c0c0c\n1 evict\n";
 
-/// The world that the lines of a script lead to.
-pub(crate) fn world_of(alloc: Global, text: &[u8]) -> Result<World, Fail>
+/// The world that the lines of a script lead to, which stands in parts.
+pub(crate) fn world_of(alloc: Global, parts: &[&[u8]]) -> Result<World, NoMemory>
     ensures { IfOk result IsSoundWorld }
 {
-    let Ok(script) = read_script(alloc, text, Mode::Seq) else {
-        return Err(Fail::from("no script"));
+    let mut text = Vec::new(alloc);
+    for part in parts {
+        text.extend_from_slice(part)?;
+    }
+    let Ok(script) = read_script(alloc, text.as_slice(), Mode::Seq) else {
+        return Err(NoMemory);
     };
     let end = run_lines(alloc, &script, Side::Nodes)?;
     Ok(end.world)
@@ -81,8 +86,9 @@ fn tells_the_row(scrubbed: Scrubbed) -> bool
     }
 }
 
-/// Spoils the row of position 1 of the first set, and scrubs the set.
-fn spoil_and_scrub(alloc: Global, far: &mut Far) -> Result<(), Fail>
+/// Spoils the row of position 1 of the first set, and scrubs the set. That there is no such row, or
+/// another finding, is told as want of memory.
+fn spoil_and_scrub(alloc: Global, far: &mut Far) -> Result<(), NoMemory>
     requires may { MayScrub far.old }
     requires given { far.old.nodes.given < 2 ^ 61 }
     ensures may { MayScrub far.new }
@@ -90,11 +96,11 @@ fn spoil_and_scrub(alloc: Global, far: &mut Far) -> Result<(), Fail>
     ensures sound { IfOk result (λ _. (s : Shown) → Sound s far.old → IsSoundAgain s far.old far.new) }
 {
     if !spoil(far, 1) {
-        return Err(Fail::from("no row"));
+        return Err(NoMemory);
     }
     let scrubbed = scrub_next(alloc, far, None)?;
     if !tells_the_row(scrubbed) {
-        return Err(Fail::from("another finding"));
+        return Err(NoMemory);
     }
     Ok(())
 }
@@ -107,14 +113,15 @@ fn few_were_given(far: &Far) -> bool
     far.nodes.given() <= 1_000_000 && far.counts.turns >= 1
 }
 
-/// Spoils the row, and scrubs the set twice; whether it is clean at last.
-fn scrub_twice(alloc: Global, far: &mut Far) -> Result<bool, Fail>
+/// Spoils the row, and scrubs the set twice; whether it is clean at last. What else comes of it is
+/// told as want of memory.
+fn scrub_twice(alloc: Global, far: &mut Far) -> Result<bool, NoMemory>
     requires may { MayScrub far.old }
     ensures given { IfOk result (λ _. far.new.nodes.given ≤ 2 ^ 20 * far.old.counts.turns) }
     ensures sound { IfOk result (λ _. (s : Shown) → Sound s far.old → IsSoundAgain s far.old far.new) }
 {
     if !few_were_given(far) {
-        return Err(Fail::from("too many rows were given out"));
+        return Err(NoMemory);
     }
     spoil_and_scrub(alloc, far)?;
     let scrubbed = scrub_next(alloc, far, None)?;
@@ -128,52 +135,58 @@ fn scrub_twice(alloc: Global, far: &mut Far) -> Result<bool, Fail>
 }
 
 /// The same in a world, which is sound again.
-fn scrub_world(alloc: Global, world: &mut World) -> Result<bool, Fail>
+fn scrub_world(alloc: Global, world: &mut World) -> Result<bool, NoMemory>
     requires { IsSoundWorld world.old }
     ensures { IfOk result (λ _. IsSoundWorld world.new) }
 {
     scrub_twice(alloc, &mut world.far)
 }
 
-/// Whether the core's read of an object, which brings it in where it is far, shows these bytes.
-fn reads(alloc: Global, world: &mut World, handle: Handle, wanted: &[u8]) -> Result<bool, Fail>
-    requires { IsSoundWorld world.old }
-    ensures { IsSoundWorld world.new }
-{
-    if handle.n >= world.desk.config().handles {
-        return Ok(false);
-    }
-    let job = Job::Read { handle };
-    let reply = step(alloc, world, &Event::Turn { seat: 0, job })?;
-    Ok(shows(&reply, wanted))
-}
-
-/// Whether both objects have their bytes.
-fn both_read(alloc: Global, world: &mut World) -> Result<bool, Fail>
-    requires { IsSoundWorld world.old }
-{
-    let first = reads(alloc, world, Handle { n: 0 }, &[0x0a, 0x0b])?;
-    let second = reads(alloc, world, Handle { n: 1 }, &[0x0c; 17])?;
-    Ok(first && second)
-}
+/// Both objects have their bytes, which a read of the core brings in where they are far.
+static BOTH: [Row; 2] = [
+    (
+        0,
+        0,
+        Act::Read,
+        Told::Bytes {
+            version: 1,
+            len: 2,
+            word: 0x0b0a,
+        },
+    ),
+    (
+        0,
+        1,
+        Act::Read,
+        Told::Bytes {
+            version: 1,
+            len: 17,
+            word: 0x0c0c_0c0c_0c0c_0c0c,
+        },
+    ),
+];
 
 /// Whether the set is clean and both objects have their bytes, once a row was spoilt and scrubbed.
-fn reads_as_before(alloc: Global, world: &mut World) -> Result<bool, Fail>
+fn reads_as_before(alloc: Global, world: &mut World) -> Result<bool, NoMemory>
     requires { IsSoundWorld world.old }
 {
     let clean = scrub_world(alloc, world)?;
-    let read = both_read(alloc, world)?;
-    Ok(clean && read)
+    let mut seats = AtSeats { alloc, world };
+    let shown = are_told(&mut seats, &BOTH, &[]);
+    let AtSeats { alloc: _, world: _ } = seats;
+    Ok(shown? && clean)
 }
 
 /// The same in the world of the script.
-fn holds(alloc: Global) -> Result<bool, Fail> {
-    let mut world = world_of(alloc, SCRIPT)?;
-    reads_as_before(alloc, &mut world)
+fn holds(alloc: Global) -> Result<bool, NoMemory> {
+    let mut world = world_of(alloc, &[SCRIPT])?;
+    let holds = reads_as_before(alloc, &mut world);
+    world.end();
+    holds
 }
 
 #[test]
 fn a_spoilt_row_is_made_right_and_the_core_reads_both_objects(rt: HostRuntime) -> Result<(), Fail> {
-    assert!(rt; holds(rt.alloc())?);
+    assert!(rt; matches!(holds(rt.alloc()), Ok(true)));
     Ok(())
 }

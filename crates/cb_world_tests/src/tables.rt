@@ -379,29 +379,14 @@ fn tables_of(body: Body) -> (&'static [Line], &'static [Line]) {
         Body::Crashes => (&LOST, &READS),
         Body::Wears => (&WEARS, &NONE),
         Body::Fills => (&PINS, &FILLS),
-        Body::Order(course) => (before(course), behind(course)),
+        Body::Order(Course::Batch) => (&BATCH, &NONE),
+        Body::Order(Course::Batches) => (&BATCHES, &NONE),
+        Body::Order(Course::Fetch) => (&LOST, &FETCH),
+        Body::Order(Course::Land) => (&LOST, &LAND),
+        Body::Order(Course::Rebuild) => (&LOST, &REBUILD),
+        Body::Order(Course::Frees) => (&LOST, &FREES),
+        Body::Order(Course::Loses) => (&LOST, &LOSES),
         Body::Values | Body::Crew(_) => (&NONE, &NONE),
-    }
-}
-
-/// Of an order: what comes before it.
-fn before(course: Course) -> &'static [Line] {
-    match course {
-        Course::Batch | Course::Batches => &NONE,
-        _ => &LOST,
-    }
-}
-
-/// The order, and what comes behind it.
-fn behind(course: Course) -> &'static [Line] {
-    match course {
-        Course::Batch => &BATCH,
-        Course::Batches => &BATCHES,
-        Course::Fetch => &FETCH,
-        Course::Land => &LAND,
-        Course::Rebuild => &REBUILD,
-        Course::Frees => &FREES,
-        Course::Loses => &LOSES,
     }
 }
 

@@ -51,11 +51,33 @@ pub(crate) enum Plain {
     Other,
 }
 
+/// What a step of a seat of a world tells, a make there, or a look at a word.
+#[derive(Clone, Copy, PartialEq, Eq)]
+pub(crate) enum Step {
+    /// The object with this handle was made, at the first version.
+    Made,
+    /// A pointer word, or a memory word.
+    Word,
+    Place,
+    Claimed,
+    NotClaimed,
+    /// So many words of the seat's open write are left.
+    Stored,
+    NotStored,
+    /// The seat with this number holds the far lock.
+    Held,
+    NotHeld,
+    NotPinned,
+    Unmade,
+}
+
 /// What a call was answered. An enum of few variants, since its comparison is proved for all pairs.
 #[derive(Clone, Copy, PartialEq, Eq)]
 pub(crate) enum Told {
     Count(Number, u64),
     Just(Plain),
+    /// With 0 where there is no number.
+    Step(Step, u64),
     /// The object's version, its length, and the word that each eight of its bytes are.
     Bytes { version: u64, len: usize, word: u64 },
 }
@@ -107,7 +129,25 @@ pub(crate) fn told_of(reply: &Reply) -> Told {
         Reply::EpochAt { epoch } => Told::Count(Number::Epoch, epoch.n),
         Reply::Rebuilt { .. } | Reply::Whole { .. } => Told::Just(Plain::Whole),
         Reply::Moving => Told::Just(Plain::Later),
+        Reply::Made { handle, version: 1 } => Told::Step(Step::Made, u64::from(handle.n)),
+        Reply::Word { word } => Told::Step(Step::Word, *word),
+        Reply::Claimed => Told::Step(Step::Claimed, 0),
+        Reply::NotClaimed => Told::Step(Step::NotClaimed, 0),
+        Reply::Stored { left } => Told::Step(Step::Stored, u64::from(*left)),
+        Reply::NotStored { left } => Told::Step(Step::NotStored, u64::from(*left)),
+        Reply::Held { seat } => Told::Step(Step::Held, u64::from(*seat)),
+        Reply::NotHeld => Told::Step(Step::NotHeld, 0),
+        Reply::NotPinned => Told::Step(Step::NotPinned, 0),
+        Reply::Unmade => Told::Step(Step::Unmade, 0),
         _ => Told::Just(Plain::Other),
+    }
+}
+
+/// Whether a reply shows these bytes at the first version.
+pub(crate) fn shows(reply: &Reply, wanted: &[u8]) -> bool {
+    match reply {
+        Reply::Bytes { version, bytes } => *version == 1 && bytes.as_slice() == wanted,
+        _ => false,
     }
 }
 

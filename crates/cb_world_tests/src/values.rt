@@ -1,6 +1,6 @@
 //! A far array and a far map on one pass, and what an array tells where another pass writes or frees
 //! an object of it.
-ghost use Rattle.std.specs.Prelude.{◌<◌, []};
+ghost use Rattle.std.specs.Prelude.{◌≡◌, ◌<◌, []};
 ghost use Rattle.cb_rule.specs.Steps.{Knows};
 ghost use Rattle.cb_shared.specs.Passes.{IsPassOf, record_of};
 ghost use Rattle.cb_farmap.specs.Arrays.{IsArrayOf};
@@ -17,27 +17,6 @@ use std::sync::Wait;
 
 /// An array and a map have fewer numbers and pairs.
 const MOST: u32 = 1_000_000_000;
-
-/// Puts a number behind the last one of the array.
-fn push<R: Wait>(
-    rt: &R,
-    alloc: Global,
-    shared: &Shared,
-    pass: &mut Pass,
-    array: &mut FarArray,
-    x: u64,
-) -> Result<(), Cannot>
-    requires of { IsPassOf shared.now pass.old }
-    requires array { IsArrayOf (record_of pass.old) array.old }
-    ensures of { IsPassOf shared.now pass.new }
-    ensures array { IsArrayOf (record_of pass.new) array.new }
-{
-    if array.len() < MOST {
-        array.push(rt, alloc, shared, pass, x)
-    } else {
-        Err(Cannot::NoMemory)
-    }
-}
 
 /// Counts a number once more.
 fn count_one<R: Wait>(
@@ -84,26 +63,6 @@ fn count_all<R: Wait>(
     Ok(())
 }
 
-/// Puts so many numbers into the array, 0, 1 and 2 in turns.
-fn fill<R: Wait>(
-    rt: &R,
-    alloc: Global,
-    shared: &Shared,
-    pass: &mut Pass,
-    array: &mut FarArray,
-    count: u32,
-) -> Result<(), Cannot>
-    requires of { IsPassOf shared.now pass.old }
-    requires array { IsArrayOf (record_of pass.old) array.old }
-    ensures of { IsPassOf shared.now pass.new }
-    ensures array { IsArrayOf (record_of pass.new) array.new }
-{
-    for n in 0..count {
-        push(rt, alloc, shared, pass, array, u64::from(n % 3))?;
-    }
-    Ok(())
-}
-
 /// Whether the map has these numbers under the keys 0, 1 and so on.
 fn has_all<R: Wait>(
     rt: &R,
@@ -125,34 +84,31 @@ fn has_all<R: Wait>(
     Ok(true)
 }
 
-/// Whether the numbers of an array are counted as they are.
-fn is_counted<R: Wait>(
-    rt: &R,
-    alloc: Global,
-    shared: &Shared,
-    pass: &mut Pass,
-    array: &mut FarArray,
-    counts: &mut FarMap,
-) -> Result<bool, Cannot>
-    requires of { IsPassOf shared.now pass.old }
-    requires array { IsArrayOf (record_of pass.old) array.old }
-    requires map { IsMapOf (record_of pass.old) counts.old }
-    ensures of { IsPassOf shared.now pass.new }
-{
-    count_all(rt, alloc, shared, pass, array, counts)?;
-    let wanted = [Some(101), Some(100), Some(100), None];
-    has_all(rt, alloc, shared, pass, counts, &wanted)
-}
-
-/// The same of an array and a map of its own.
+/// Whether an array of numbers 0, 1 and 2 in turns is filled, and they are counted as they are.
 fn counts<R: Wait>(rt: &R, alloc: Global, shared: &Shared, pass: &mut Pass) -> Result<bool, Cannot>
     requires of { IsPassOf shared.now pass.old }
     ensures of { IsPassOf shared.now pass.new }
 {
-    let mut array = FarArray::new(alloc);
-    fill(rt, alloc, shared, pass, &mut array, 301)?;
     let mut counts = FarMap::new(alloc, 4)?;
-    is_counted(rt, alloc, shared, pass, &mut array, &mut counts)
+    let mut array = FarArray::new(alloc);
+    let mut numbers = OnPass {
+        rt,
+        alloc,
+        shared,
+        pass,
+        array: &mut array,
+    };
+    let is_filled = is_filled(&mut numbers, 301);
+    let OnPass {
+        rt: _,
+        alloc: _,
+        shared: _,
+        pass: _,
+        array: _,
+    } = numbers;
+    count_all(rt, alloc, shared, pass, &mut array, &mut counts)?;
+    let wanted = [Some(101), Some(100), Some(100), None];
+    Ok(is_filled && has_all(rt, alloc, shared, pass, &mut counts, &wanted)?)
 }
 
 /// What another pass does to an object.
@@ -163,12 +119,12 @@ enum Foul {
     Free,
 }
 
-/// A call on an array: at the first number, or of the number 9.
+/// A call on an array: at the first number, or at the end. What is set is 9.
 #[derive(Clone, Copy)]
 enum Call {
     Get,
     Set,
-    Push,
+    Push(u64),
     Pop,
 }
 
@@ -218,28 +174,40 @@ fn said_last(answer: &Result<Option<u64>, Cannot>) -> Said {
     }
 }
 
-/// What a call on the array is answered.
-fn say<R: Wait>(
-    rt: &R,
-    alloc: Global,
-    shared: &Shared,
-    pass: &mut Pass,
-    array: &mut FarArray,
-    call: Call,
-) -> Said
-    requires of { IsPassOf shared.now pass.old }
-    requires array { IsArrayOf (record_of pass.old) array.old }
-    ensures of { IsPassOf shared.now pass.new }
-    ensures array { IsArrayOf (record_of pass.new) array.new }
+/// An array of one pass. The tables walk over any such, so that their proofs do not reach the types
+/// of a runtime.
+trait Numbers {
+    // What follows is the same array of the same pass, of which more may be asked.
+    ghost keeps: { Self → Self → Type 0 };
+
+    /// What a call on the array is answered.
+    fn say(&mut self, call: Call) -> Said
+        requires { keeps self.old self.old }
+        ensures { keeps self.old self.new };
+
+    /// A second pass is split off, does this to the object of the array's first number, and is
+    /// joined; whether it was done.
+    fn foul(&mut self, foul: Foul) -> bool
+        requires { keeps self.old self.old }
+        ensures { keeps self.old self.new };
+
+    // More may be asked.
+    ghost again: { (a b : Self) → keeps a b → keeps b b };
+
+    // It is the same after more.
+    ghost more: { (a b c : Self) → keeps a b → keeps b c → keeps a c };
+}
+
+/// Whether so many numbers are put into the array, 0, 1 and 2 in turns.
+fn is_filled<N: Numbers>(numbers: &mut N, count: u64) -> bool
+    requires { N.keeps numbers.old numbers.old }
+    ensures { N.keeps numbers.old numbers.new }
 {
-    let is_some = 0 < array.len();
-    match call {
-        Call::Get if is_some => said_number(&array.get(rt, alloc, shared, pass, 0)),
-        Call::Set if is_some => said_done(&array.set(rt, alloc, shared, pass, 0, 9)),
-        Call::Push => said_done(&push(rt, alloc, shared, pass, array, 9)),
-        Call::Pop => said_last(&array.pop(rt, alloc, shared, pass)),
-        _ => Said::Other,
+    let mut all = true;
+    for n in 0..count {
+        all &= numbers.say(Call::Push(n % 3)) == Said::Done;
     }
+    all
 }
 
 /// What is done to an object; whether it was.
@@ -289,6 +257,60 @@ fn foul_first<R: Wait>(
     is_done
 }
 
+/// An array on a pass, with all that its calls take.
+struct OnPass<'a, R: Wait> {
+    rt: &'a R,
+    alloc: Global,
+    shared: &'a Shared,
+    pass: &'a mut Pass,
+    array: &'a mut FarArray,
+}
+
+impl<'a, R: Wait> Numbers for OnPass<'a, R> {
+    ghost use Rattle.std.proofs.Common.{refl, sym, ◌∙◌};
+    ghost use Rattle.cb_world_tests.specs.Callers.{pass_at};
+
+    ghost keeps = { λ a b. IsPassOf a.shared.now b.pass.now
+        × IsArrayOf (record_of b.pass.now) b.array.now × (b.shared.now ≡ a.shared.now)
+        × (b.pass.ghost_name ≡ a.pass.ghost_name) × (b.array.ghost_name ≡ a.array.ghost_name) };
+
+    fn say(&mut self, call: Call) -> Said {
+        let (rt, alloc, shared) = (self.rt, self.alloc, self.shared);
+        let (pass, array) = (&mut *self.pass, &mut *self.array);
+        let is_some = 0 < array.len();
+        match call {
+            Call::Get if is_some => said_number(&array.get(rt, alloc, shared, pass, 0)),
+            Call::Set if is_some => said_done(&array.set(rt, alloc, shared, pass, 0, 9)),
+            Call::Push(x) if array.len() < MOST => {
+                said_done(&array.push(rt, alloc, shared, pass, x))
+            }
+            Call::Pop => said_last(&array.pop(rt, alloc, shared, pass)),
+            _ => Said::Other,
+        }
+    }
+
+    fn foul(&mut self, foul: Foul) -> bool {
+        let (pass, array) = (&mut *self.pass, &*self.array);
+        0 < array.len() && foul_first(self.rt, self.alloc, self.shared, pass, array, foul)
+    }
+
+    ghost again = { λ a b k. (
+      pass_at a.shared.now b.shared.now b.pass.now (sym k.2) k.0,
+      k.1,
+      refl,
+      refl,
+      refl,
+    ) };
+
+    ghost more = { λ a b c j k. (
+      pass_at b.shared.now a.shared.now c.pass.now j.2 k.0,
+      k.1,
+      k.2 ∙ j.2,
+      k.3 ∙ j.3,
+      k.4 ∙ j.4,
+    ) };
+}
+
 /// The object is kept at the version of its make, and has the next one.
 const FOREIGN: Said = Said::Foreign { kept: 1, found: 2 };
 
@@ -297,63 +319,40 @@ const FOREIGN: Said = Said::Foreign { kept: 1, found: 2 };
 const ROWS: [(Foul, Call, Said); 8] = [
     (Foul::Nothing, Call::Get, Said::Number(7)),
     (Foul::Nothing, Call::Set, Said::Done),
-    (Foul::Nothing, Call::Push, Said::Done),
+    (Foul::Nothing, Call::Push(9), Said::Done),
     (Foul::Nothing, Call::Pop, Said::Number(7)),
     (Foul::Write, Call::Get, FOREIGN),
     (Foul::Write, Call::Set, FOREIGN),
     (Foul::Free, Call::Get, Said::Freed),
-    (Foul::Free, Call::Push, Said::Freed),
+    (Foul::Free, Call::Push(9), Said::Freed),
 ];
 
-/// Whether every call is answered so.
-fn all_say<R: Wait>(
-    rt: &R,
-    alloc: Global,
-    shared: &Shared,
-    pass: &mut Pass,
-    array: &mut FarArray,
-    said: Said,
-) -> bool
-    requires of { IsPassOf shared.now pass.old }
-    requires array { IsArrayOf (record_of pass.old) array.old }
-    ensures of { IsPassOf shared.now pass.new }
+/// Whether every call is answered so, where something was done to the array's object: what tells of
+/// another pass is told for good.
+fn all_say<N: Numbers>(numbers: &mut N, foul: Foul, said: Said) -> bool
+    requires { N.keeps numbers.old numbers.old }
+    ensures { N.keeps numbers.old numbers.new }
 {
-    for call in [Call::Get, Call::Set, Call::Push, Call::Pop, Call::Get] {
-        if say(rt, alloc, shared, pass, array, call) != said {
-            return false;
-        }
+    if let Foul::Nothing = foul {
+        return true;
     }
-    true
+    let mut all = true;
+    for call in [Call::Get, Call::Set, Call::Push(9), Call::Pop, Call::Get] {
+        all &= numbers.say(call) == said;
+    }
+    all
 }
 
-/// Whether a row holds of an empty array, into which 7 is put first. What tells of another pass is
-/// told for good.
-fn is_row<R: Wait>(
-    rt: &R,
-    alloc: Global,
-    shared: &Shared,
-    pass: &mut Pass,
-    array: &mut FarArray,
-    foul: Foul,
-    call: Call,
-    said: Said,
-) -> bool
-    requires of { IsPassOf shared.now pass.old }
-    requires array { IsArrayOf (record_of pass.old) array.old }
-    ensures of { IsPassOf shared.now pass.new }
+/// Whether a row holds of an empty array, into which 7 is put first.
+fn is_row<N: Numbers>(numbers: &mut N, foul: Foul, call: Call, said: Said) -> bool
+    requires { N.keeps numbers.old numbers.old }
+    ensures { N.keeps numbers.old numbers.new }
 {
-    let is_made = push(rt, alloc, shared, pass, array, 7).is_ok();
-    if !is_made || array.len() == 0 {
-        return false;
-    }
-    if !foul_first(rt, alloc, shared, pass, array, foul) {
-        return false;
-    }
-    let is_said = say(rt, alloc, shared, pass, array, call) == said;
-    match foul {
-        Foul::Nothing => is_said,
-        _ => is_said && all_say(rt, alloc, shared, pass, array, said),
-    }
+    let made = numbers.say(Call::Push(7));
+    let is_done = numbers.foul(foul);
+    let told = numbers.say(call);
+    let is_for_good = all_say(numbers, foul, said);
+    is_done & is_for_good & (made == Said::Done) & (told == said)
 }
 
 /// Whether each row holds, of an array of its own.
@@ -361,13 +360,26 @@ fn are_rows<R: Wait>(rt: &R, alloc: Global, shared: &Shared, pass: &mut Pass) ->
     requires of { IsPassOf shared.now pass.old }
     ensures of { IsPassOf shared.now pass.new }
 {
+    let mut all = true;
     for (foul, call, said) in ROWS {
         let mut array = FarArray::new(alloc);
-        if !is_row(rt, alloc, shared, pass, &mut array, foul, call, said) {
-            return false;
-        }
+        let mut numbers = OnPass {
+            rt,
+            alloc,
+            shared,
+            pass,
+            array: &mut array,
+        };
+        all &= is_row(&mut numbers, foul, call, said);
+        let OnPass {
+            rt: _,
+            alloc: _,
+            shared: _,
+            pass: _,
+            array: _,
+        } = numbers;
     }
-    true
+    all
 }
 
 /// Whether arrays and maps are answered so, where they are to be; what else the test makes comes

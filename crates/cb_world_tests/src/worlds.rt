@@ -1,12 +1,14 @@
-ghost use Rattle.std.specs.Prelude.{◌≡◌, IfOk};
+//! Worlds in which nothing was made, and the tests of them. One function owns them all, and gives
+//! each one up, so that none is proved to drop a world.
+ghost use Rattle.std.specs.Prelude.{◌≡◌, IfOk, OnOk};
 ghost use Rattle.cb_core.specs.Jobs.{IsJob, NeedsNoOrder};
 ghost use Rattle.cb_world.specs.World.{IsSoundWorld};
-ghost use Rattle.cb_world_tests.specs.Worlds.{IsSmallWorld};
+ghost use Rattle.cb_world_tests.specs.Worlds.{IsSmallWorld, small};
 
-use crate::far_core::is_read;
-use crate::objects::{second_of_length_is_at, words_are_of_nine_bytes};
-use crate::turns::replies_in_order;
-use crate::writes::{rows_are_answered, run_is_answered};
+use crate::acting::{LENGTHS, Look, ON_NOTHING, WRITES, WRITTEN, is_told};
+use crate::far_core::read_behind_a_crash;
+use crate::seats::{AtSeats, are_told_in_a_run};
+use crate::told::shows;
 use cb_core::{Event, step};
 use cb_types::{Config, Job, NoMemory, Reply};
 use cb_world::World;
@@ -25,67 +27,88 @@ pub(crate) const SMALL: Config = Config {
 };
 
 /// A world in which nothing was made.
-fn empty_world(alloc: Global, config: Config) -> Result<World, Fail>
+fn empty_world(alloc: Global, config: Config) -> Result<World, NoMemory>
     ensures sound { IfOk result IsSoundWorld }
     ensures settings { IfOk result (λ world. world.desk.settings ≡ config) }
 {
     let Ok(()) = config.check() else {
-        return Err(Fail::from("a field is out of range"));
+        return Err(NoMemory);
     };
-    Ok(World::new(alloc, config)?)
+    World::new(alloc, config)
 }
 
-/// The reply of a turn, after which more may come.
+/// The reply of a turn of a small world, after which more may come.
 pub(crate) fn turn_of(alloc: Global, world: &mut World, job: Job) -> Result<Reply, NoMemory>
-    requires sound { IsSoundWorld world.old }
-    requires job { IsJob world.old.desk.settings job }
+    requires world { IsSmallWorld world.old }
+    requires job { IsJob small job }
     requires alone { NeedsNoOrder job }
-    ensures sound { IsSoundWorld world.new }
-    ensures settings { IfOk result (λ reply. world.new.desk.settings ≡ world.old.desk.settings) }
+    ensures world { OnOk result (IsSmallWorld world.new) }
 {
     step(alloc, world, &Event::Turn { seat: 0, job })
 }
 
-/// What is looked at in a world in which nothing was made.
-#[derive(Clone, Copy)]
-pub(crate) enum Look {
-    /// The place and the bytes of the second of two objects of a length.
-    Second { len: usize, place: u32 },
-    /// The words of an object of nine bytes.
-    Words,
-    /// The replies of a run.
-    Run,
-    /// The replies to the steps of open writes and of the far lock.
-    Writes,
-    /// The replies of a run of these.
-    WritesInARun,
-    /// An object that is read behind a crash.
-    Crash,
-}
-
-fn is_seen(alloc: Global, world: &mut World, look: Look) -> Result<bool, Fail>
+/// Whether what is looked at in a small world is as it should be.
+fn is_seen(alloc: Global, world: &mut World, look: Look) -> Result<bool, NoMemory>
     requires { IsSmallWorld world.old }
 {
     match look {
-        Look::Second { len, place } => second_of_length_is_at(alloc, world, len, place),
-        Look::Words => words_are_of_nine_bytes(alloc, world),
-        Look::Run => replies_in_order(alloc, world),
-        Look::Writes => rows_are_answered(alloc, world),
-        Look::WritesInARun => run_is_answered(alloc, world),
-        Look::Crash => is_read(alloc, world),
+        Look::OnNothing => are_told_in_a_run(alloc, world, &ON_NOTHING, &[]),
+        Look::WritesInARun => are_told_in_a_run(alloc, world, &WRITES, WRITTEN),
+        Look::Crash => Ok(shows(&read_behind_a_crash(alloc, world)?, b"hello")),
+        _ => by_seats(alloc, world, look),
     }
 }
 
-/// Whether what is looked at in a small world is as it should be. No other function of the tests
-/// owns a world, since each that does is proved to drop it.
-pub(crate) fn holds(alloc: Global, look: Look) -> Result<bool, Fail> {
-    let mut world = small_world(alloc)?;
-    is_seen(alloc, &mut world, look)
+/// The same, of what its seats do one after another.
+fn by_seats(alloc: Global, world: &mut World, look: Look) -> Result<bool, NoMemory>
+    requires { IsSoundWorld world.old }
+{
+    let mut seats = AtSeats { alloc, world };
+    let holds = is_told(&mut seats, look);
+    let AtSeats { alloc: _, world: _ } = seats;
+    holds
 }
 
-/// A small world in which nothing was made.
-fn small_world(alloc: Global) -> Result<World, Fail>
-    ensures { IfOk result IsSmallWorld }
-{
-    empty_world(alloc, SMALL)
+/// The same of a world of its own.
+fn holds(alloc: Global, look: Look) -> Result<bool, NoMemory> {
+    let mut world = empty_world(alloc, SMALL)?;
+    let holds = is_seen(alloc, &mut world, look);
+    world.end();
+    holds
+}
+
+/// The same of each of these.
+fn all_hold(alloc: Global, looks: &[Look]) -> Result<bool, NoMemory> {
+    let mut all = true;
+    for look in looks {
+        all &= holds(alloc, *look)?;
+    }
+    Ok(all)
+}
+
+#[test]
+fn each_length_has_a_slot_of_its_class_and_reads_back(rt: HostRuntime) -> Result<(), Fail> {
+    assert!(rt; matches!(all_hold(rt.alloc(), &LENGTHS), Ok(true)));
+    Ok(())
+}
+
+#[test]
+fn the_words_of_an_object_hold_its_bytes_and_then_zeros(rt: HostRuntime) -> Result<(), Fail> {
+    assert!(rt; matches!(holds(rt.alloc(), Look::Words), Ok(true)));
+    Ok(())
+}
+
+#[test]
+fn an_object_is_read_behind_a_crash(rt: HostRuntime) -> Result<(), Fail> {
+    assert!(rt; matches!(holds(rt.alloc(), Look::Crash), Ok(true)));
+    Ok(())
+}
+
+/// Of a run on nothing, and of a write in steps beside the far lock, event by event and in one run.
+const BY_ROWS: [Look; 3] = [Look::OnNothing, Look::Writes, Look::WritesInARun];
+
+#[test]
+fn steps_and_runs_are_answered_row_by_row(rt: HostRuntime) -> Result<(), Fail> {
+    assert!(rt; matches!(all_hold(rt.alloc(), &BY_ROWS), Ok(true)));
+    Ok(())
 }

@@ -1,7 +1,9 @@
+use Rattle.std.proofs.Common.{refl}
 use Rattle.cb_world_tests.proofs.values.counts.Goals as goal
 
-pub fill-requires-clause-array : goal.fill-requires-clause-array
-fill-requires-clause-array g c = (c.new-array.ensures.array _).0
+pub is_filled-is_filled-requires : goal.is_filled-is_filled-requires
+is_filled-is_filled-requires g c =
+    (c.requires.of, (c.new-array.ensures.array _).0, refl, refl, refl)
 
-pub is_counted-requires-clause-map : goal.is_counted-requires-clause-map
-is_counted-requires-clause-map g c = (c.in_ok-counts.ensures.map _).0
+pub count_all-requires-clause-map : goal.count_all-requires-clause-map
+count_all-requires-clause-map g c = (c.in_ok-counts.ensures.map _).0
