@@ -32,8 +32,8 @@ Gathers run shows a g b =
     (GatherRule a.far b.far g) (GatherEffect a.far b.far g)
 
 -- the batch that is leaving gets the parities of the order that a seat keeps
-abbrev pub Installs : {D : Type 0} → (D → List Access → D → Type 0) → Option Kept → Holding D → Reply
-    → Option Kept → Holding D → Type 0
+abbrev pub Installs : {D : Type 0} → (D → List Access → D → Type 0) → Option Kept → Holding D
+    → Reply → Option Kept → Holding D → Type 0
 Installs run order a r keeps b = run a.desk [] b.desk × InstallStep a.far b.far r order keeps
 
 -- the rows of the set in which a far object has its home are handed out
@@ -43,8 +43,8 @@ FetchesRows run h a g b = (home : Home) × (home_at a.far.homes h ≡ Some home)
     × FetchStep home.set home.position a.far b.far g
 
 -- the position of the order that a seat keeps is brought in, with the order's row
-abbrev pub Lands : {D : Type 0} → (D → List Access → D → Type 0) → (D → Shown → Type 0) → Option Kept
-    → Holding D → Reply → Holding D → Type 0
+abbrev pub Lands : {D : Type 0} → (D → List Access → D → Type 0) → (D → Shown → Type 0)
+    → Option Kept → Holding D → Reply → Holding D → Type 0
 Lands run shows order a r b = Operates run shows a.desk a.far b.desk b.far
     (LandRule order a.far b.far r) (LandEffect order a.far b.far r)
 
@@ -119,8 +119,9 @@ abbrev pub StopsWith : {D : Type 0} → (D → List Access → D → Type 0) →
 StopsWith run shows c = StopsWithBy (desk_orders run shows c) (desk_order_lacks run shows)
 
 -- such a turn that found no memory is counted
-pub record StoppedWith {D : Type 0} (run : D → List Access → D → Type 0) (shows : D → Shown → Type 0)
-    (c : Config) (job : Job) (order : Option Kept) (a b : Holding D) : Type 0 where
+pub record StoppedWith {D : Type 0} (run : D → List Access → D → Type 0)
+    (shows : D → Shown → Type 0) (c : Config)
+    (job : Job) (order : Option Kept) (a b : Holding D) : Type 0 where
   pub few : a.far.counts.turns < 2 ^ 40
   pub stops : StopsWith run shows c job order (once_counted a job) b
 

@@ -13,8 +13,9 @@ use Rattle.cb_core.specs.Turned.{ComesIn, ComeLacks, once_counted}
 
 -- The first call: where 2^40 turns were counted it is refused and nothing is done; else a turn of
 -- the job Read is counted, and the object is brought in where it is far.
-pub data BroughtToRead {D : Type 0} (run : D → List Access → D → Type 0) (shows : D → Shown → Type 0)
-    (c : Config) (handle : Handle) (a : Holding D) (r : Reply) (b : Holding D) : Type 0 where
+pub data BroughtToRead {D : Type 0} (run : D → List Access → D → Type 0)
+    (shows : D → Shown → Type 0) (c : Config)
+    (handle : Handle) (a : Holding D) (r : Reply) (b : Holding D) : Type 0 where
   worn : a.far.counts.turns ≡ 2 ^ 40 → r ≡ answer.Worn → b.far ≡ a.far → run a.desk [] b.desk
       → BroughtToRead run shows c handle a r b
   done : a.far.counts.turns < 2 ^ 40

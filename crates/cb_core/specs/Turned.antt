@@ -99,8 +99,8 @@ IsDeclined h at count far declined es = ((is_gone far h ≡ true) × (declined �
 
 abbrev pub Declines : {D : Type 0} → (D → List Access → D → Type 0) → (D → Shown → Type 0) → ℕ → ℕ
     → ℕ → Holding D → Option Reply → Holding D → Type 0
-Declines run shows h at count a declined b = (b.far ≡ a.far) × Operates run shows a.desk a.far b.desk b.far
-    (IsDeclined h at count a.far declined) IsStill
+Declines run shows h at count a declined b = (b.far ≡ a.far)
+    × Operates run shows a.desk a.far b.desk b.far (IsDeclined h at count a.far declined) IsStill
 
 -- an eviction
 abbrev pub Evicts : {D : Type 0} → (D → List Access → D → Type 0) → (D → Shown → Type 0) → Config
@@ -151,8 +151,8 @@ Swaps run shows h a r b = (home : Home) × (home_at a.far.homes h ≡ Some home)
     (λ far new q. SwapEffect home.set home.position far new q) a r b
 
 -- a far object is brought in, and room is won for it
-abbrev pub Brings : {D : Type 0} → (D → List Access → D → Type 0) → (D → Shown → Type 0) → Config → ℕ
-    → Holding D → Reply → Holding D → Type 0
+abbrev pub Brings : {D : Type 0} → (D → List Access → D → Type 0) → (D → Shown → Type 0) → Config
+    → ℕ → Holding D → Reply → Holding D → Type 0
 Brings run shows c h = WithRoom c.frames (Swaps run shows h) (WinsRoom run shows c) most_evictions
 
 -- a filter of an object in local memory
@@ -184,8 +184,8 @@ DoesAlone run shows c Abort a r b = Aborts run shows a r b
 DoesAlone run shows c job a r b = AtFar run (FarStep job) a r b
 
 -- the parts of the jobs at a desk
-abbrev pub desk_parts : {D : Type 0} → (D → List Access → D → Type 0) → (D → Shown → Type 0) → Config
-    → JobParts D
+abbrev pub desk_parts : {D : Type 0} → (D → List Access → D → Type 0) → (D → Shown → Type 0)
+    → Config → JobParts D
 desk_parts run shows c = record {
   frames = λ a. c.frames;
   makes = λ bytes. Makes run shows c bytes;
@@ -250,8 +250,8 @@ abbrev pub SwapLacks : {D : Type 0} → (D → List Access → D → Type 0) →
     → Type 0
 SwapLacks run h a b = run a.desk [] b.desk × IsGiven a.far b.far h
 
-abbrev pub BringLacks : {D : Type 0} → (D → List Access → D → Type 0) → (D → Shown → Type 0) → Config
-    → ℕ → Holding D → Holding D → Type 0
+abbrev pub BringLacks : {D : Type 0} → (D → List Access → D → Type 0) → (D → Shown → Type 0)
+    → Config → ℕ → Holding D → Holding D → Type 0
 BringLacks run shows c h = RoomStops (Swaps run shows h) (SwapLacks run h) (WinsRoom run shows c)
     (EvictLacks run shows) most_evictions
 
@@ -291,8 +291,8 @@ LacksAlone run shows Abort a b = ⊥
 LacksAlone run shows job a b = AtFarLacks run (FarLacks job) a b
 
 -- what the parts leave that find no memory
-abbrev pub desk_lacks : {D : Type 0} → (D → List Access → D → Type 0) → (D → Shown → Type 0) → Config
-    → PartLacks D
+abbrev pub desk_lacks : {D : Type 0} → (D → List Access → D → Type 0) → (D → Shown → Type 0)
+    → Config → PartLacks D
 desk_lacks run shows c = record {
   makes = λ bytes. MakeLacks run c bytes;
   swaps = λ h. SwapLacks run h;
