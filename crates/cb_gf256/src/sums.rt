@@ -272,7 +272,7 @@ pub fn set_sums_in(
 impl Rows {
     /// Makes the rows at `targets` sums of the rows of `rows` at `sources`: row j of the factors
     /// has the factor of each source in the row at target j. All other rows stay.
-    /// It is compiled into its callers, since a call more is seen where rows are short.
+    /// It is compiled into its callers.
     #[inline(always)]
     pub fn set_sums(
         &mut self,
