@@ -110,9 +110,9 @@ static OF_NINE_BYTES: [Row; 5] = [
     (0, 1, Act::Memory, Told::Step(Step::Word, 9)),
 ];
 
-/// What is looked at in a world in which nothing was made.
+/// What a test looks at in a world in which nothing was made.
 #[derive(Clone, Copy)]
-pub(crate) enum Look {
+pub(crate) enum Case {
     /// The place and the bytes of the second of two objects of a length.
     Second { len: usize, place: u64 },
     /// The words of an object of nine bytes.
@@ -128,67 +128,67 @@ pub(crate) enum Look {
 }
 
 /// The least and the most bytes of each class, and the place behind one slot of it.
-pub(crate) static LENGTHS: [Look; 24] = [
-    Look::Second { len: 1, place: 2 },
-    Look::Second { len: 16, place: 2 },
-    Look::Second { len: 17, place: 4 },
-    Look::Second { len: 32, place: 4 },
-    Look::Second { len: 33, place: 6 },
-    Look::Second { len: 48, place: 6 },
-    Look::Second { len: 49, place: 8 },
-    Look::Second { len: 64, place: 8 },
-    Look::Second { len: 65, place: 12 },
-    Look::Second { len: 96, place: 12 },
-    Look::Second { len: 97, place: 16 },
-    Look::Second {
+pub(crate) static LENGTHS: [Case; 24] = [
+    Case::Second { len: 1, place: 2 },
+    Case::Second { len: 16, place: 2 },
+    Case::Second { len: 17, place: 4 },
+    Case::Second { len: 32, place: 4 },
+    Case::Second { len: 33, place: 6 },
+    Case::Second { len: 48, place: 6 },
+    Case::Second { len: 49, place: 8 },
+    Case::Second { len: 64, place: 8 },
+    Case::Second { len: 65, place: 12 },
+    Case::Second { len: 96, place: 12 },
+    Case::Second { len: 97, place: 16 },
+    Case::Second {
         len: 128,
         place: 16,
     },
-    Look::Second {
+    Case::Second {
         len: 129,
         place: 24,
     },
-    Look::Second {
+    Case::Second {
         len: 192,
         place: 24,
     },
-    Look::Second {
+    Case::Second {
         len: 193,
         place: 32,
     },
-    Look::Second {
+    Case::Second {
         len: 256,
         place: 32,
     },
-    Look::Second {
+    Case::Second {
         len: 257,
         place: 48,
     },
-    Look::Second {
+    Case::Second {
         len: 384,
         place: 48,
     },
-    Look::Second {
+    Case::Second {
         len: 385,
         place: 64,
     },
-    Look::Second {
+    Case::Second {
         len: 512,
         place: 64,
     },
-    Look::Second {
+    Case::Second {
         len: 513,
         place: 96,
     },
-    Look::Second {
+    Case::Second {
         len: 768,
         place: 96,
     },
-    Look::Second {
+    Case::Second {
         len: 769,
         place: 128,
     },
-    Look::Second {
+    Case::Second {
         len: 1024,
         place: 128,
     },
@@ -226,12 +226,12 @@ fn second_is_at<A: Acts>(seats: &mut A, len: usize, place: u64) -> Result<bool, 
 }
 
 /// Whether what the seats of a world are told is as it should be, one act after another.
-pub(crate) fn is_told<A: Acts>(seats: &mut A, look: Look) -> Result<bool, NoMemory>
+pub(crate) fn is_told<A: Acts>(seats: &mut A, case: Case) -> Result<bool, NoMemory>
     requires { A.may seats.old }
 {
-    match look {
-        Look::Second { len, place } => second_is_at(seats, len, place),
-        Look::Words => are_told(seats, &OF_NINE_BYTES, &[1, 2, 3, 4, 5, 6, 7, 8, 9]),
+    match case {
+        Case::Second { len, place } => second_is_at(seats, len, place),
+        Case::Words => are_told(seats, &OF_NINE_BYTES, &[1, 2, 3, 4, 5, 6, 7, 8, 9]),
         _ => are_told(seats, &WRITES, WRITTEN),
     }
 }

@@ -5,7 +5,7 @@ ghost use Rattle.cb_core.specs.Jobs.{IsJob, NeedsNoOrder};
 ghost use Rattle.cb_world.specs.World.{IsSoundWorld};
 ghost use Rattle.cb_world_tests.specs.Worlds.{IsSmallWorld, small};
 
-use crate::acting::{LENGTHS, Look, ON_NOTHING, WRITES, WRITTEN, is_told};
+use crate::acting::{Case, LENGTHS, ON_NOTHING, WRITES, WRITTEN, is_told};
 use crate::far_core::read_behind_a_crash;
 use crate::seats::{AtSeats, are_told_in_a_run};
 use crate::told::shows;
@@ -48,40 +48,40 @@ pub(crate) fn turn_of(alloc: Global, world: &mut World, job: Job) -> Result<Repl
 }
 
 /// Whether what is looked at in a small world is as it should be.
-fn is_seen(alloc: Global, world: &mut World, look: Look) -> Result<bool, NoMemory>
+fn is_seen(alloc: Global, world: &mut World, case: Case) -> Result<bool, NoMemory>
     requires { IsSmallWorld world.old }
 {
-    match look {
-        Look::OnNothing => are_told_in_a_run(alloc, world, &ON_NOTHING, &[]),
-        Look::WritesInARun => are_told_in_a_run(alloc, world, &WRITES, WRITTEN),
-        Look::Crash => Ok(shows(&read_behind_a_crash(alloc, world)?, b"hello")),
-        _ => by_seats(alloc, world, look),
+    match case {
+        Case::OnNothing => are_told_in_a_run(alloc, world, &ON_NOTHING, &[]),
+        Case::WritesInARun => are_told_in_a_run(alloc, world, &WRITES, WRITTEN),
+        Case::Crash => Ok(shows(&read_behind_a_crash(alloc, world)?, b"hello")),
+        _ => by_seats(alloc, world, case),
     }
 }
 
 /// The same, of what its seats do one after another.
-fn by_seats(alloc: Global, world: &mut World, look: Look) -> Result<bool, NoMemory>
+fn by_seats(alloc: Global, world: &mut World, case: Case) -> Result<bool, NoMemory>
     requires { IsSoundWorld world.old }
 {
     let mut seats = AtSeats { alloc, world };
-    let holds = is_told(&mut seats, look);
+    let holds = is_told(&mut seats, case);
     let AtSeats { alloc: _, world: _ } = seats;
     holds
 }
 
 /// The same of a world of its own.
-fn holds(alloc: Global, look: Look) -> Result<bool, NoMemory> {
+fn holds(alloc: Global, case: Case) -> Result<bool, NoMemory> {
     let mut world = empty_world(alloc, SMALL)?;
-    let holds = is_seen(alloc, &mut world, look);
+    let holds = is_seen(alloc, &mut world, case);
     world.end();
     holds
 }
 
 /// The same of each of these.
-fn all_hold(alloc: Global, looks: &[Look]) -> Result<bool, NoMemory> {
+fn all_hold(alloc: Global, cases: &[Case]) -> Result<bool, NoMemory> {
     let mut all = true;
-    for look in looks {
-        all &= holds(alloc, *look)?;
+    for case in cases {
+        all &= holds(alloc, *case)?;
     }
     Ok(all)
 }
@@ -94,18 +94,18 @@ fn each_length_has_a_slot_of_its_class_and_reads_back(rt: HostRuntime) -> Result
 
 #[test]
 fn the_words_of_an_object_hold_its_bytes_and_then_zeros(rt: HostRuntime) -> Result<(), Fail> {
-    assert!(rt; matches!(holds(rt.alloc(), Look::Words), Ok(true)));
+    assert!(rt; matches!(holds(rt.alloc(), Case::Words), Ok(true)));
     Ok(())
 }
 
 #[test]
 fn an_object_is_read_behind_a_crash(rt: HostRuntime) -> Result<(), Fail> {
-    assert!(rt; matches!(holds(rt.alloc(), Look::Crash), Ok(true)));
+    assert!(rt; matches!(holds(rt.alloc(), Case::Crash), Ok(true)));
     Ok(())
 }
 
 /// Of a run on nothing, and of a write in steps beside the far lock, event by event and in one run.
-const BY_ROWS: [Look; 3] = [Look::OnNothing, Look::Writes, Look::WritesInARun];
+const BY_ROWS: [Case; 3] = [Case::OnNothing, Case::Writes, Case::WritesInARun];
 
 #[test]
 fn steps_and_runs_are_answered_row_by_row(rt: HostRuntime) -> Result<(), Fail> {
