@@ -17,4 +17,6 @@ pub mod WorkedHistories
 pub mod WorkedTimes
 pub mod WorkedHistory
 pub mod WorkedCrossing
+pub mod WorkedLanes
+mod WorkedParts
 pub mod Laws

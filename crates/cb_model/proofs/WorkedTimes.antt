@@ -15,7 +15,7 @@ use Rattle.cb_model.proofs.Stages.{up_to}
 abbrev pub b : List ℕ
 b = 98 ∷ []
 
-abbrev at : ℕ → Answer → Timed
+abbrev pub at : ℕ → Answer → Timed
 at n answer = record { time = n; answer = answer }
 
 -- lane 0 makes two objects

@@ -1,9 +1,9 @@
--- Lanes with clocks. A clock is a number of changes: as many had been made at some moment of the lane.
-use Rattle.std.specs.Prelude.{◌≡◌, ◌≢◌, ℕ, ◌≤◌, List, [], ◌∷◌, ◌++◌, length, filter}
+-- Lanes with clocks. A clock is a number of changes: that many were made by some moment.
+use Rattle.std.specs.Prelude.{◌≡◌, ◌≢◌, ℕ, ◌≤◌, List, [], ◌∷◌, ◌++◌}
 use Rattle.std.specs.List.{AllByRecursion}
 use Rattle.cb_model.specs.Legal.{IsLegal}
-use Rattle.cb_model.specs.Times.{Timed, changes_at, done_by, untimed}
-use Rattle.cb_model.specs.Shown.{HandleChange, HaveKnownNames, EachCallHolds, next_of}
+use Rattle.cb_model.specs.Times.{Timed, done_by, untimed}
+use Rattle.cb_model.specs.Shown.{HandleChange, HaveKnownNames, EachCallHolds, MakeHistory}
 use Rattle.cb_model.specs.Dated.{IsDated}
 
 -- calls that took effect one after the other, from the clock low to the clock high
@@ -39,12 +39,16 @@ pub record RunInLanes (zero : LaneRun) (lanes : List LaneRun) : Type 0 where
   pub first : RunsAlone 0 zero
   pub others : RunTogether first.high lanes
 
--- Legal answers of lanes, by lane and then by call: the lanes run so, each change of the history was
--- made by one of these calls, and each call agrees with the history at its time.
+-- all calls, by lane and then in the order of the lane
+abbrev pub all_calls : LaneRun → List LaneRun → List Timed
+all_calls zero lanes = zero.calls ++ calls_of_all lanes
+
+-- Legal answers of lanes, by lane and then by call: the lanes run so, each change of the history
+-- was made by one of these calls, and each call agrees with the history at its time.
 pub record AreDatedInLanes (first handles : ℕ) (history : List HandleChange) (zero : LaneRun)
     (lanes : List LaneRun) : Type 0 where
-  pub legal : IsLegal first handles (untimed (zero.calls ++ calls_of_all lanes))
+  pub legal : IsLegal first handles (untimed (all_calls zero lanes))
   pub run : RunInLanes zero lanes
-  pub each : (n : ℕ) → length (filter (changes_at n) (zero.calls ++ calls_of_all lanes)) ≡ length (next_of n history)
-  pub dated : EachCallHolds (IsDated handles history) [] (zero.calls ++ calls_of_all lanes)
-  pub names : HaveKnownNames (untimed (zero.calls ++ calls_of_all lanes))
+  pub each : MakeHistory history (all_calls zero lanes)
+  pub dated : EachCallHolds (IsDated handles history) [] (all_calls zero lanes)
+  pub names : HaveKnownNames (untimed (all_calls zero lanes))

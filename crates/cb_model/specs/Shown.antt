@@ -101,11 +101,16 @@ pub record HaveKnownNames (answers : List Answer) : Type 0 where
   pub once : (name : List ℕ) → length (filter (λ a. makes_name name a.request) answers) ≤ 1
   pub known : KnowNames [] answers
 
+-- Each change of the history was made by one of these calls, at its time, and there are no others.
+abbrev pub MakeHistory : List HandleChange → List Timed → Type 0
+MakeHistory history ts = (n : ℕ) → length (filter (changes_at n) ts) ≡ length (next_of n history)
+
 -- The history shows the answers at their times: each of its changes was made by one of these calls,
 -- each call is shown, the calls of a lane took effect one after the other, and those of lane 0
 -- before all others.
-pub record AreShownBy (first handles : ℕ) (history : List HandleChange) (ts : List Timed) : Type 0 where
-  pub each : (n : ℕ) → length (filter (changes_at n) ts) ≡ length (next_of n history)
+pub record AreShownBy (first handles : ℕ) (history : List HandleChange) (ts : List Timed)
+    : Type 0 where
+  pub each : MakeHistory history ts
   pub shown : AreShown first handles history [] ts
   pub in_program_order : AreInProgramOrder ts
   pub zero_first : IsZeroFirst ts

@@ -71,9 +71,9 @@ IsReplyThen first handles ts t =
     let before = untimed (changed_before t.time ts) in
     IsMapReply first handles (calls_of before) (called before t.answer)
 
--- These may be the times of calls on a map: no two changes were made at one time, each answer is the
--- map's reply after the changes before its time, the calls of a lane took effect one after the other,
--- and those of lane 0 before all others.
+-- These may be the times of calls on a map: no two changes were made at one time, each answer is
+-- the map's reply after the changes before its time, the calls of a lane took effect one after the
+-- other, and those of lane 0 before all others.
 pub record AreTimes (first handles : ℕ) (ts : List Timed) : Type 0 where
   pub one : (n : ℕ) → length (filter (changes_at n) ts) ≤ 1
   pub replies : AllByRecursion (IsReplyThen first handles ts) ts
