@@ -63,7 +63,7 @@ pub bytes_of_column : (len column : ℕ) (rows : List (List ℕ)) → HoldBytes 
 bytes_of_column len column rows bytes lengths inside p h = bytes p [] h column 0 (omega (arith, lengths p [] h))
 
 -- the sum of a block so far, and one row more
-pub block_more : (i c at len : ℕ) (rows : List (List ℕ)) (sum product block next : List ℕ) → c < 256 → i < length rows → HoldBytes rows → HaveLength len rows → at + 32 ≤ len
+pub block_more : (i c at len : ℕ) (rows : List (List ℕ)) (sum product block next : List ℕ) → c < 256 → i < length rows → HoldBytes rows → HaveLength len rows → at + 64 ≤ len
     → HasLanes sum (λ l. sum_of_last i c rows (at + l)) → HasLanes product (λ l. c ⊗ get_or sum l 0) → HasLanes block (λ l. byte_at rows (length rows - 1 - i) (at + l))
     → HasLanes next (λ l. get_or product l 0 ⊕ get_or block l 0) → HasLanes next (λ l. sum_of_last (i + 1) c rows (at + l))
 block_more i c at len rows sum product block next small within bytes lengths inside s p b n = record {

@@ -25,7 +25,7 @@ fn blocks_are_zero(r: u32, rows: &Rows, len: usize) -> bool
     requires positions { length rows.now ≤ 20 }
     requires lengths { HaveLength len rows.now }
     requires some { 0 < length rows.now }
-    ensures { IsTrue result ↔ ((column j : ℕ) → column < len / 32 * 32 → j < r
+    ensures { IsTrue result ↔ ((column j : ℕ) → column < len / 64 * 64 → j < r
         → syndrome j rows.now column ≡ 0) }
 {
     let powers = powers_of_two();
@@ -57,8 +57,8 @@ pub fn block_is_zero(r: u32, powers: &[Products; 4], rows: &Rows, at: usize, len
     requires positions { length rows.now ≤ 20 }
     requires lengths { HaveLength len rows.now }
     requires some { 0 < length rows.now }
-    requires inside { at + 32 ≤ len }
-    ensures { IsTrue result ↔ ((j l : ℕ) → j < r → l < 32 → syndrome j rows.now (at + l) ≡ 0) }
+    requires inside { at + 64 ≤ len }
+    ensures { IsTrue result ↔ ((j l : ℕ) → j < r → l < 64 → syndrome j rows.now (at + l) ≡ 0) }
 {
     for j in 0..r {
         if !is_zero_block(block_syndrome(&powers[j as usize], rows, at, len)) {
@@ -71,17 +71,17 @@ pub fn block_is_zero(r: u32, powers: &[Products; 4], rows: &Rows, at: usize, len
 /// The syndrome of a power in a block, by Horner: the sum so far times the power, and the next
 /// row, from the last row to the first.
 #[inline(always)]
-pub fn block_syndrome(factor: &Products, rows: &Rows, at: usize, len: usize) -> u8x32
+pub fn block_syndrome(factor: &Products, rows: &Rows, at: usize, len: usize) -> u8x64
     requires byte { factor.now < 256 }
     requires positions { length rows.now ≤ 20 }
     requires lengths { HaveLength len rows.now }
     requires some { 0 < length rows.now }
-    requires inside { at + 32 ≤ len }
+    requires inside { at + 64 ≤ len }
     ensures { (j : ℕ) → factor.now ≡ power 2 j
         → HasLanes result (λ l. syndrome j rows.now (at + l)) }
 {
     let count = rows.count();
-    let mut sum = u8x32::splat(0);
+    let mut sum = u8x64::splat(0);
     for i in 0..count {
         let row = rows.row(count - 1 - i);
         sum = add_blocks(factor.times_block(sum), block_at(row, at));

@@ -2,7 +2,6 @@ pub mod Writes
 pub mod Walking
 pub mod Tables
 pub mod Words
-pub mod Halves
 pub mod PairSums
 pub mod Closings
 pub mod WorkedWeights

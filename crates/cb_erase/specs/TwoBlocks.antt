@@ -1,6 +1,6 @@
-use Rattle.std.specs.Prelude.{◌≡◌, ℕ, ◌<◌, List, length, slice_index}
+use Rattle.std.specs.Prelude.{ℕ, List}
+use Rattle.cb_gf256.specs.Lanes.{HasLanes}
 
--- v has the bytes of two blocks, and byte l is f l
-pub record HasBytes (v : List ℕ) (f : ℕ → ℕ) : Type 0 where
-  pub count : length v ≡ 64
-  pub each : (l : ℕ) → l < 64 → slice_index v l ≡ f l
+-- v has the bytes of a block, and byte l is f l
+abbrev pub HasBytes : List ℕ → (ℕ → ℕ) → Type 0
+HasBytes v f = HasLanes v f

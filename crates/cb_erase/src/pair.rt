@@ -5,36 +5,30 @@ ghost use Rattle.cb_gf256.specs.Sum.{◌⊕◌};
 ghost use Rattle.cb_gf256.specs.Product.{◌⊗◌};
 ghost use Rattle.cb_erase.specs.TwoBlocks.{HasBytes};
 
-use cb_gf256::{BLOCK, Products, add_blocks, block_at, put_block};
+use cb_gf256::{Products, add_blocks, block_at, put_block};
 use std::marker::Model;
 use std::simd::prelude::*;
 
 /// How many bytes a pair has.
 pub(crate) const PAIR: usize = 64;
 
-/// A block and the one behind it.
+/// A block.
 #[derive(Clone, Copy)]
 pub(crate) struct Pair {
-    front: u8x32,
-    back: u8x32,
+    block: u8x64,
 }
 
 impl Model for Pair {
-    ghost use Rattle.std.specs.Prelude.{◌≡◌, ℕ, List, ◌++◌, length, take, drop};
-    ghost use Rattle.std.proofs.lemmas.List.{take_at, drop_at};
+    ghost use Rattle.std.specs.Prelude.{◌≡◌, ℕ, List, length};
+    ghost use Rattle.std.proofs.Common.{refl};
 
     ghost Value = { List ℕ };
 
-    ghost view = { λ p. p.front ++ p.back };
+    ghost view = { λ p. p.block };
 
-    ghost invariant = { λ p. (length p.front ≡ 32) × (length p.back ≡ 32) };
+    ghost inverse = { λ v. record { block = v } };
 
-    ghost inverse = { λ v. record { front = take 32 v; back = drop 32 v } };
-
-    ghost inverse_ok = { λ a h. λ i. record {
-      front = take_at a.front a.back 32 h.0 i;
-      back = drop_at a.front a.back 32 h.0 i;
-    } };
+    ghost inverse_ok = { λ a h. refl };
 }
 
 impl Pair {
@@ -44,8 +38,7 @@ impl Pair {
         ensures { result ≡ replicate 64 0 }
     {
         Pair {
-            front: u8x32::splat(0),
-            back: u8x32::splat(0),
+            block: u8x64::splat(0),
         }
     }
 
@@ -56,8 +49,7 @@ impl Pair {
         ensures { HasBytes result (λ l. slice_index row.now (at + l)) }
     {
         Pair {
-            front: block_at(row, at),
-            back: block_at(row, at + BLOCK),
+            block: block_at(row, at),
         }
     }
 
@@ -67,8 +59,7 @@ impl Pair {
         requires { at + 64 ≤ length row.old }
         ensures { row.new ≡ put_chunk at row.old self.now }
     {
-        put_block(row, at, self.front);
-        put_block(row, at + BLOCK, self.back);
+        put_block(row, at, self.block);
     }
 
     /// The sum of two pairs.
@@ -77,8 +68,7 @@ impl Pair {
         ensures { HasBytes result (λ l. slice_index self.now l ⊕ slice_index other.now l) }
     {
         Pair {
-            front: add_blocks(self.front, other.front),
-            back: add_blocks(self.back, other.back),
+            block: add_blocks(self.block, other.block),
         }
     }
 
@@ -88,8 +78,7 @@ impl Pair {
         ensures { HasBytes result (λ l. factor.now ⊗ slice_index self.now l) }
     {
         Pair {
-            front: factor.times_block(self.front),
-            back: factor.times_block(self.back),
+            block: factor.times_block(self.block),
         }
     }
 }

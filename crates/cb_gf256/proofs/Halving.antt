@@ -5,7 +5,7 @@ use Rattle.std.proofs.lemmas.Nat.{and_mask}
 use Rattle.std.specs.Int.{bit_at}
 use Rattle.std.proofs.lemmas.List.{ext_get_or}
 use Rattle.std.proofs.lemmas.List.FromFn.{get_or-map-range_with_len}
-use Rattle.cb_gf256.specs.Lanes.{HasLanes}
+use Rattle.cb_gf256.specs.Lanes.{AreLanes}
 use Rattle.cb_gf256.specs.Halves.{half_at, half_products, AreHalfProducts}
 use Rattle.cb_gf256.specs.declared.products.TheConstants.{HALVES}
 use Rattle.cb_gf256.specs.Sum.{◌⊕◌, sum_over}
@@ -77,7 +77,7 @@ unfolding half_products
 length-half_products c = refl
 
 -- lanes that are c times the halves are the table of c
-pub half_products_of : (c : ℕ) (lanes : List ℕ) → c < 256 → HasLanes lanes (λ l. c ⊗ get_or HALVES l 0) → AreHalfProducts c lanes
+pub half_products_of : (c : ℕ) (lanes : List ℕ) → c < 256 → AreLanes 32 lanes (λ l. c ⊗ get_or HALVES l 0) → AreHalfProducts c lanes
 half_products_of c lanes small h =
     let byte : AreHalfProducts c (half_products c) = record { byte = small; products = refl } in
     record {

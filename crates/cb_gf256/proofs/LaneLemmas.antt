@@ -1,29 +1,29 @@
--- What the operations on blocks of 32 bytes hold at each lane.
+-- What the operations on blocks of bytes hold at each lane.
 use Rattle.std.proofs.Common.{◌≡◌, ℕ, zero, suc, ◌+◌, ◌*◌, ◌/◌, ◌%◌, ◌^◌, ◌<◌, List, [], ◌∷◌, Bool, true, false, cond, eqb, length, get_or, map, replicate, refl, sym, ap, ◌∙◌, arith, w8, Fits, not, ◌↔◌, ◌≤◌, eq-eqb}
 use Rattle.std.proofs.lemmas.Bool.{eqb-true, eqb-false}
 use Rattle.std.proofs.lemmas.List.{length-map}
 use Rattle.std.proofs.lemmas.Simd.{mask_l-mod}
 use lib.Lanes.{mask_l, top}
 use Rattle.std.specs.Simd.Lanes.{zip2, sel_l, Each1}
-use Rattle.std.proofs.lemmas.Simd.{length-zip2, get_or-zip2, get_or-replicate, length-sel_l, get_or-sel_l, length-swz_l, get_or-swz_l_below, swz_l, SwzOk, SwzOk-from_below, Each1-from_get_or, Each1-get_or}
-use Rattle.cb_gf256.specs.Lanes.{HasLanes}
+use Rattle.std.proofs.lemmas.Simd.{length-replicate, length-zip2, get_or-zip2, get_or-replicate, length-sel_l, get_or-sel_l, length-swz_l, get_or-swz_l_below, swz_l, SwzOk, SwzOk-from_below, Each1-from_get_or, Each1-get_or}
+use Rattle.cb_gf256.specs.Lanes.{AreLanes, HasLanes}
 
 -- an operator on two blocks
-pub HasLanes-zip2 : (f : ℕ → ℕ → ℕ) (a b : List ℕ) → length a ≡ 32 → length b ≡ 32 → HasLanes (zip2 f a b) (λ l. f (get_or a l 0) (get_or b l 0))
-HasLanes-zip2 f a b p q = record {
+pub HasLanes-zip2 : {n : ℕ} (f : ℕ → ℕ → ℕ) (a b : List ℕ) → length a ≡ n → length b ≡ n → AreLanes n (zip2 f a b) (λ l. f (get_or a l 0) (get_or b l 0))
+HasLanes-zip2 {n} f a b p q = record {
   count = length-zip2 f a b (p ∙ sym q) ∙ p;
   each = λ k l. get_or-zip2 f a b k 0 0 0 (omega arith) (omega arith);
 }
 
 -- an operator on a block and a splat
-pub HasLanes-splat : (f : ℕ → ℕ → ℕ) (a : List ℕ) (x : ℕ) → length a ≡ 32 → HasLanes (zip2 f a (replicate 32 x)) (λ l. f (get_or a l 0) x)
-HasLanes-splat f a x p =
-    let h = HasLanes-zip2 f a (replicate 32 x) p refl in
-    record { count = h.count; each = λ k l. h.each k l ∙ ap (f (get_or a k 0)) (get_or-replicate 32 k x 0 l) }
+pub HasLanes-splat : {n : ℕ} (f : ℕ → ℕ → ℕ) (a : List ℕ) (x : ℕ) → length a ≡ n → AreLanes n (zip2 f a (replicate n x)) (λ l. f (get_or a l 0) x)
+HasLanes-splat {n} f a x p =
+    let h = HasLanes-zip2 f a (replicate n x) p (length-replicate n x) in
+    record { count = h.count; each = λ k l. h.each k l ∙ ap (f (get_or a k 0)) (get_or-replicate n k x 0 l) }
 
 -- a choice of two splats by the comparison of a splat with a block
 pub HasLanes-select : (t : ℕ → ℕ → Bool) (a : List ℕ) (x y z : ℕ) → length a ≡ 32
-    → HasLanes (sel_l (zip2 t (replicate 32 x) a) (replicate 32 y) (replicate 32 z)) (λ l. cond (t x (get_or a l 0)) y z)
+    → AreLanes 32 (sel_l (zip2 t (replicate 32 x) a) (replicate 32 y) (replicate 32 z)) (λ l. cond (t x (get_or a l 0)) y z)
 HasLanes-select t a x y z p =
     let long : length (zip2 t (replicate 32 x) a) ≡ 32 = length-zip2 t (replicate 32 x) a (sym p) in
     record {
@@ -33,15 +33,15 @@ HasLanes-select t a x y z p =
           ∙ (λ i. cond ((get_or-zip2 t (replicate 32 x) a k 0 0 false l (omega arith) ∙ ap (λ n. t n (get_or a k 0)) (get_or-replicate 32 k x 0 l)) i) (get_or-replicate 32 k y 0 l i) (get_or-replicate 32 k z 0 l i));
     }
 
-pub lane_fits : (v : List ℕ) → length v ≡ 32 → Each1 (Fits w8) v → (l : ℕ) → l < 32 → get_or v l 0 < 256
-lane_fits v long fits l h = (Each1-get_or (Fits w8) v l 0 (omega arith) fits).fits
+pub lane_fits : {n : ℕ} (v : List ℕ) → length v ≡ n → Each1 (Fits w8) v → (l : ℕ) → l < n → get_or v l 0 < 256
+lane_fits {n} v long fits l h = (Each1-get_or (Fits w8) v l 0 (omega arith) fits).fits
 
-module _ (js : List ℕ) (f : ℕ → ℕ) (h : HasLanes js f) (small : (k : ℕ) → k < 32 → f k < 16) where
+module _ (js : List ℕ) (f : ℕ → ℕ) (h : HasLanes js f) (small : (k : ℕ) → k < 64 → f k < 16) where
   -- positions below 16 may be looked up
-  pub SwzOk-halves : SwzOk w8 16 32 0 js
+  pub SwzOk-halves : SwzOk w8 16 64 0 js
   SwzOk-halves =
       let long = h.count in
-      SwzOk-from_below w8 16 2 32 0 js refl (omega arith) (Each1-from_get_or (λ j. j < 16) js 0 (λ i l. omega (arith, h.each i (omega arith), small i (omega arith))))
+      SwzOk-from_below w8 16 4 64 0 js refl (omega arith) (Each1-from_get_or (λ j. j < 16) js 0 (λ i l. omega (arith, h.each i (omega arith), small i (omega arith))))
 
   HasLanes-swz_l : (table : List ℕ) → HasLanes (swz_l w8 16 table 0 js) (λ k. get_or table (16 * (k / 16) + f k) 0)
   HasLanes-swz_l table =
@@ -83,9 +83,9 @@ none_differ (x ∷ xs) =
       λ h. omega (arith, (flag x).1 (h 0 (omega arith)), r.1 (λ l k. h (suc l) (omega arith))),
     )
 
-pub zero_of_mask : (xs : List ℕ) → length xs ≡ 32 → (eqb (mask_l (map (top 7) (zip2 differs xs (replicate 32 0))) % 2 ^ 64) 0 ≡ true) ↔ ((l : ℕ) → l < 32 → get_or xs l 0 ≡ 0)
+pub zero_of_mask : (xs : List ℕ) → length xs ≡ 64 → (eqb (mask_l (map (top 7) (zip2 differs xs (replicate 64 0))) % 2 ^ 64) 0 ≡ true) ↔ ((l : ℕ) → l < 64 → get_or xs l 0 ≡ 0)
 zero_of_mask xs long =
-    let size : length (map (top 7) (zip2 differs xs (replicate 32 0))) ≤ 64 = omega (arith, length-map (zip2 differs xs (replicate 32 0)) (top 7), length-zip2 differs xs (replicate 32 0) long) in
+    let size : length (map (top 7) (zip2 differs xs (replicate 64 0))) ≤ 64 = omega (arith, length-map (zip2 differs xs (replicate 64 0)) (top 7), length-zip2 differs xs (replicate 64 0) long) in
     let e = mask_l-mod _ 64 size ∙ ap (λ n. mask_l (map (top 7) (zip2 differs xs (replicate n 0)))) (sym long) in (
       λ t l h. (none_differ xs).0 (sym e ∙ eqb-true _ _ t) l (omega arith),
       λ z. eq-eqb _ _ (e ∙ (none_differ xs).1 (λ l h. z l (omega arith))),

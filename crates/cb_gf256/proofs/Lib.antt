@@ -20,6 +20,7 @@ pub mod Writes
 pub mod Units
 pub mod Placing
 pub mod Summing
+pub mod Closings
 pub mod Halving
 pub mod LaneLemmas
 pub mod PublicLaws

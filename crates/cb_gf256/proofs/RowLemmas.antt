@@ -101,7 +101,7 @@ front_above (x ∷ xs) (y ∷ ys) (suc i) zero l h k = absurd (omega arith)
 front_above (x ∷ xs) (y ∷ ys) (suc i) (suc n) l h k = front_above xs ys i n (omega arith) (omega arith) (omega arith)
 
 -- one block more is added
-pub summed_front_block : (xs ys now block : List ℕ) (i to : ℕ) → to ≡ i + 32 → to ≤ length xs → to ≤ length ys → now ≡ summed_front xs ys i
+pub summed_front_block : (xs ys now block : List ℕ) (i to : ℕ) → to ≡ i + 64 → to ≤ length xs → to ≤ length ys → now ≡ summed_front xs ys i
     → HasLanes block (λ l. get_or now (i + l) 0 ⊕ get_or ys (i + l) 0) → put_chunk i now block ≡ summed_front xs ys to
 summed_front_block xs ys now block i to next h k e b =
     let long : length now ≡ length xs = ap length e ∙ length-front xs ys i (omega arith) (omega arith) in

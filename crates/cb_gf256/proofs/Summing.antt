@@ -20,12 +20,12 @@ pub record BlockSums (r i at : ℕ) (table shown sums : List (List ℕ)) : Type 
 pub row_at-rows_at : (rows : List (List ℕ)) (positions : List ℕ) (i : ℕ) → i < length positions → row_at (rows_at rows positions) i ≡ row_at rows (get_or positions i 0)
 row_at-rows_at rows positions i h = get_or-map (row_at rows) positions i 0 [] h
 
-pub block_sums_none : (r at : ℕ) (table shown : List (List ℕ)) → BlockSums r 0 at table shown (replicate r (replicate 32 0))
+pub block_sums_none : (r at : ℕ) (table shown : List (List ℕ)) → BlockSums r 0 at table shown (replicate r (replicate 64 0))
 block_sums_none r at table shown = record {
-  count = length-replicate r (replicate 32 0);
+  count = length-replicate r (replicate 64 0);
   lanes = λ j h. record {
-    count = ap length (get_or-replicate r j (replicate 32 0) [] h);
-    each = λ l k. ap (λ row. get_or {A = ℕ} row l 0) (get_or-replicate r j (replicate 32 0) [] h) ∙ get_or-replicate 32 l 0 0 k;
+    count = ap length (get_or-replicate r j (replicate 64 0) [] h);
+    each = λ l k. ap (λ row. get_or {A = ℕ} row l 0) (get_or-replicate r j (replicate 64 0) [] h) ∙ get_or-replicate 64 l 0 0 k;
   };
 }
 

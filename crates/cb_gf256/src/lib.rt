@@ -2,6 +2,7 @@
 //! what a code word is.
 #![tactic(auto)]
 
+mod closing;
 mod erasures;
 mod factors;
 mod field;

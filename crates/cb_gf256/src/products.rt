@@ -1,9 +1,11 @@
 //! Products of one constant with many bytes at once.
 ghost use Rattle.std.specs.Prelude.{◌≡◌, ℕ, slice_index};
 ghost use Rattle.cb_gf256.specs.Product.{◌⊗◌};
-ghost use Rattle.cb_gf256.specs.Lanes.{HasLanes};
+ghost use Rattle.cb_gf256.specs.Lanes.{AreLanes, HasLanes};
 
-use crate::lanes::{add_blocks, at_high_halves, at_low_halves, doubled, masked, table_at};
+use crate::lanes::{
+    add_blocks, add_halves, at_high_halves, at_low_halves, doubled, masked, table_at,
+};
 use std::marker::Model;
 use std::simd::prelude::*;
 
@@ -61,7 +63,7 @@ impl Products {
 
     /// The constant times each byte of a block: two look-ups for all of them.
     #[inline(always)]
-    pub fn times_block(&self, block: u8x32) -> u8x32
+    pub fn times_block(&self, block: u8x64) -> u8x64
         ensures { HasLanes result (λ l. self.now ⊗ slice_index block l) }
     {
         let low = table_at(&self.halves, 0);
@@ -70,15 +72,15 @@ impl Products {
     }
 }
 
-/// `c` times each byte of a block: the sum of the doublings that the bits of `c` name.
+/// `c` times each byte of a list of 32: the sum of the doublings that the bits of `c` name.
 fn multiplied(c: u8, block: u8x32) -> u8x32
-    ensures { HasLanes result (λ l. c ⊗ slice_index block l) }
+    ensures { AreLanes 32 result (λ l. c ⊗ slice_index block l) }
 {
     let mut sum = u8x32::splat(0);
     let mut doubling = block;
     for bit in 0..8u32 {
         let mask = ((c >> bit) & 1) * 255;
-        sum = add_blocks(sum, masked(doubling, mask));
+        sum = add_halves(sum, masked(doubling, mask));
         doubling = doubled(doubling);
     }
     sum

@@ -25,7 +25,7 @@ fn kept_block_sums<const R: usize>(
     rows: &RowsRef<'_>,
     sources: &[u8],
     at: usize,
-) -> [u8x32; R]
+) -> [u8x64; R]
     requires size { length out.old ≡ count * len }
     requires few { (R ≤ 4) × (length sources.now ≤ 16) }
     requires height { R ≤ length factors.now }
@@ -34,15 +34,15 @@ fn kept_block_sums<const R: usize>(
     requires sources { All (λ p. p < length rows.now) sources.now }
     requires below { All (λ p. p < count) sources.now }
     requires lengths { HaveLength len rows.now }
-    requires inside { at + 32 ≤ len }
+    requires inside { at + 64 ≤ len }
     ensures lanes { (j : ℕ) → j < R
         → HasLanes (row_at result j) (λ l. combination (row_at factors.now j)
         (rows_at rows.now sources.now) (at + l)) }
-    ensures kept { Placed 32 at sources.now
+    ensures kept { Placed 64 at sources.now
         (λ i l. byte_at (rows_at rows.now sources.now) i (at + l))
         (cut_rows count len out.old) (cut_rows count len out.new) (length sources.now) }
 {
-    let mut sums = [u8x32::splat(0); R];
+    let mut sums = [u8x64::splat(0); R];
     for (i, position) in sources.iter().enumerate() {
         let block = block_at(rows.row(u32::from(*position)), at);
         put_block(out, usize::from(*position) * len + at, block);
@@ -73,7 +73,7 @@ fn restore_blocks<const R: usize>(
     requires apart { AreDisjoint sources.now targets.now }
     requires lengths { HaveLength len rows.now }
     ensures { Restored factors.now (rows_at rows.now sources.now) targets.now sources.now
-        (cut_rows count len out.old) (cut_rows count len out.new) 0 (len / 32 * 32) }
+        (cut_rows count len out.old) (cut_rows count len out.new) 0 (len / 64 * 64) }
 {
     for block in (0..len / BLOCK).rev() {
         let at = block * BLOCK;
@@ -104,7 +104,7 @@ fn restore_whole_blocks(
     requires lengths { HaveLength len rows.now }
     ensures height { length factors.now ≤ 4 }
     ensures blocks { Restored factors.now (rows_at rows.now sources.now) targets.now sources.now
-        (cut_rows count len out.old) (cut_rows count len out.new) 0 (len / 32 * 32) }
+        (cut_rows count len out.old) (cut_rows count len out.new) 0 (len / 64 * 64) }
 {
     match factors.height() {
         0 => restore_blocks::<0>(out, count, len, targets, factors, rows, sources),

@@ -31,7 +31,7 @@ pub fn axpy_row(dst: &mut [u8], c: u8, src: &[u8])
 /// Adds the whole blocks of `src`.
 fn xor_blocks(dst: &mut [u8], src: &[u8])
     requires { length dst.old ≡ length src.now }
-    ensures { dst.new ≡ summed_front dst.old src.now (length src.now / 32 * 32) }
+    ensures { dst.new ≡ summed_front dst.old src.now (length src.now / 64 * 64) }
 {
     for block in 0..src.len() / BLOCK {
         let at = block * BLOCK;
@@ -43,7 +43,7 @@ fn xor_blocks(dst: &mut [u8], src: &[u8])
 fn axpy_blocks(dst: &mut [u8], factor: &Products, src: &[u8])
     requires { length dst.old ≡ length src.now }
     ensures { dst.new ≡ summed_front dst.old (scaled_row factor.now src.now)
-        (length src.now / 32 * 32) }
+        (length src.now / 64 * 64) }
 {
     for block in 0..src.len() / BLOCK {
         let at = block * BLOCK;

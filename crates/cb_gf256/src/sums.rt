@@ -1,15 +1,17 @@
 //! Sums of rows, each times its factor: a block of all sums at a time, and the rest byte by byte.
 ghost use Rattle.std.specs.Prelude.{◌≡◌, ◌≢◌, ℕ, ◌+◌, ◌-◌, ◌/◌, ◌*◌};
-ghost use Rattle.std.specs.Prelude.{◌<◌, ◌≤◌, List, length, All, slice_index};
+ghost use Rattle.std.specs.Prelude.{◌<◌, ◌≤◌, List, length, All, slice_index, IsTrue};
 ghost use Rattle.std.specs.List.Sorted.{IsStrictlyIncreasing};
 ghost use Rattle.cb_gf256.specs.Sum.{◌⊕◌};
 ghost use Rattle.cb_gf256.specs.Product.{◌⊗◌};
 ghost use Rattle.cb_gf256.specs.Block.{cut_rows};
-ghost use Rattle.cb_gf256.specs.Rows.{row_at, rows_at, byte_at, HaveLength};
+ghost use Rattle.cb_gf256.specs.Rows.{row_at, rows_at, byte_at, HaveLength, AreRows};
 ghost use Rattle.cb_gf256.specs.Lanes.{HasLanes};
 ghost use Rattle.cb_gf256.specs.Combination.{combination, AreCombinations};
+ghost use Rattle.cb_gf256.specs.Ones.{AddToOne};
 ghost use Rattle.cb_gf256.specs.Placing.{Placed, Combined};
 
+use crate::closing::{add_to_one, closed_sums};
 use crate::factors::Factors;
 use crate::lanes::{BLOCK, add_blocks, block_at, put_block};
 use crate::rows::{Rows, RowsRef};
@@ -18,11 +20,11 @@ use std::simd::prelude::*;
 /// Adds to each of the sums a block, times its factor for place `i`.
 #[inline(always)]
 pub(crate) fn with_products<const R: usize>(
-    sums: [u8x32; R],
+    sums: [u8x64; R],
     factors: &Factors,
     i: usize,
-    block: u8x32,
-) -> [u8x32; R]
+    block: u8x64,
+) -> [u8x64; R]
     requires few { (R ≤ 4) × (i < 16) }
     requires height { R ≤ length factors.now }
     requires width { (j : ℕ) → j < R → i < length (row_at factors.now j) }
@@ -40,29 +42,58 @@ pub(crate) fn with_products<const R: usize>(
 
 /// The blocks of the first `R` sums from a place on.
 #[inline(always)]
-fn block_sums<const R: usize>(
+fn sums_by_factors<const R: usize>(
     factors: &Factors,
     rows: &RowsRef<'_>,
     sources: &[u8],
     at: usize,
     len: usize,
-) -> [u8x32; R]
+) -> [u8x64; R]
     requires few { (R ≤ 4) × (length sources.now ≤ 16) }
     requires height { R ≤ length factors.now }
     requires width { HaveLength (length sources.now) factors.now }
     requires below { All (λ p. p < length rows.now) sources.now }
     requires lengths { HaveLength len rows.now }
-    requires inside { at + 32 ≤ len }
+    requires inside { at + 64 ≤ len }
     ensures { (j : ℕ) → j < R
         → HasLanes (row_at result j) (λ l. combination (row_at factors.now j)
         (rows_at rows.now sources.now) (at + l)) }
 {
-    let mut sums = [u8x32::splat(0); R];
+    let mut sums = [u8x64::splat(0); R];
     for (i, position) in sources.iter().enumerate() {
         let block = block_at(rows.row(u32::from(*position)), at);
         sums = with_products::<R>(sums, factors, i, block);
     }
     sums
+}
+
+/// The blocks of all sums from a place on, `closed` where their factors add up to 1.
+#[inline(always)]
+fn block_sums<const R: usize, const M: usize>(
+    factors: &Factors,
+    rows: &RowsRef<'_>,
+    sources: &[u8],
+    at: usize,
+    len: usize,
+    closed: bool,
+) -> [u8x64; R]
+    requires few { (R ≤ 4) × (length sources.now ≤ 16) }
+    requires height { length factors.now ≡ R }
+    requires closed { IsTrue closed → (M + 1 ≡ R) × AddToOne (length sources.now) factors.now }
+    requires width { HaveLength (length sources.now) factors.now }
+    requires rows { AreRows rows.now }
+    requires below { All (λ p. p < length rows.now) sources.now }
+    requires lengths { HaveLength len rows.now }
+    requires inside { at + 64 ≤ len }
+    ensures { (j : ℕ) → j < R
+        → HasLanes (row_at result j) (λ l. combination (row_at factors.now j)
+        (rows_at rows.now sources.now) (at + l)) }
+{
+    if closed {
+        closed_sums::<R, M>(factors, rows, sources, at, len)
+    } else {
+        sums_by_factors::<R>(factors, rows, sources, at, len)
+    }
 }
 
 /// Puts the blocks of the first `R` sums into the rows at the targets, from a place on.
@@ -73,15 +104,15 @@ pub(crate) fn put_sums<const R: usize>(
     len: usize,
     targets: &[u8],
     at: usize,
-    sums: [u8x32; R],
+    sums: [u8x64; R],
 )
     requires size { length out.old ≡ count * len }
     requires targets { length targets.now ≡ R }
     requires ascending { IsStrictlyIncreasing targets.now }
     requires below { All (λ p. p < count) targets.now }
-    requires inside { at + 32 ≤ len }
-    requires lanes { (j : ℕ) → j < R → length (row_at sums j) ≡ 32 }
-    ensures { Placed 32 at targets.now (byte_at sums.entry) (cut_rows count len out.old)
+    requires inside { at + 64 ≤ len }
+    requires lanes { (j : ℕ) → j < R → length (row_at sums j) ≡ 64 }
+    ensures { Placed 64 at targets.now (byte_at sums.entry) (cut_rows count len out.old)
         (cut_rows count len out.new) R }
 {
     for j in 0..R {
@@ -90,7 +121,7 @@ pub(crate) fn put_sums<const R: usize>(
 }
 
 /// Makes the sums in the rows at the targets, up to the last whole block and from there down.
-fn set_blocks<const R: usize>(
+fn set_blocks<const R: usize, const M: usize>(
     out: &mut [u8],
     count: u32,
     len: usize,
@@ -98,10 +129,13 @@ fn set_blocks<const R: usize>(
     factors: &Factors,
     rows: &RowsRef<'_>,
     sources: &[u8],
+    closed: bool,
 )
     requires size { length out.old ≡ count * len }
     requires few { (R ≤ 4) × (length sources.now ≤ 16) }
     requires height { length factors.now ≡ R }
+    requires closed { IsTrue closed → (M + 1 ≡ R) × AddToOne (length sources.now) factors.now }
+    requires rows { AreRows rows.now }
     requires width { HaveLength (length sources.now) factors.now }
     requires sources { All (λ p. p < length rows.now) sources.now }
     requires targets { length targets.now ≡ R }
@@ -109,13 +143,13 @@ fn set_blocks<const R: usize>(
     requires below { All (λ p. p < count) targets.now }
     requires lengths { HaveLength len rows.now }
     ensures { Combined factors.now (rows_at rows.now sources.now) targets.now
-        (cut_rows count len out.old) (cut_rows count len out.new) 0 (len / 32 * 32) }
+        (cut_rows count len out.old) (cut_rows count len out.new) 0 (len / 64 * 64) }
 {
     // From the last to the first: a processor that compares the last twelve bits of addresses
     // alone takes a block for the one that was just written, where that one lies lower in its row.
     for block in (0..len / BLOCK).rev() {
         let at = block * BLOCK;
-        let sums = block_sums::<R>(factors, rows, sources, at, len);
+        let sums = block_sums::<R, M>(factors, rows, sources, at, len, closed);
         put_sums::<R>(out, count, len, targets, at, sums);
     }
 }
@@ -132,6 +166,7 @@ fn set_whole_blocks(
 )
     requires size { length out.old ≡ count * len }
     requires few { length sources.now ≤ 16 }
+    requires rows { AreRows rows.now }
     requires height { length targets.now ≡ length factors.now }
     requires width { HaveLength (length sources.now) factors.now }
     requires sources { All (λ p. p < length rows.now) sources.now }
@@ -140,14 +175,15 @@ fn set_whole_blocks(
     requires lengths { HaveLength len rows.now }
     ensures height { length factors.now ≤ 4 }
     ensures blocks { Combined factors.now (rows_at rows.now sources.now) targets.now
-        (cut_rows count len out.old) (cut_rows count len out.new) 0 (len / 32 * 32) }
+        (cut_rows count len out.old) (cut_rows count len out.new) 0 (len / 64 * 64) }
 {
+    let closed = add_to_one(factors, sources.len() as u32);
     match factors.height() {
-        0 => set_blocks::<0>(out, count, len, targets, factors, rows, sources),
-        1 => set_blocks::<1>(out, count, len, targets, factors, rows, sources),
-        2 => set_blocks::<2>(out, count, len, targets, factors, rows, sources),
-        3 => set_blocks::<3>(out, count, len, targets, factors, rows, sources),
-        _ => set_blocks::<4>(out, count, len, targets, factors, rows, sources),
+        0 => set_blocks::<0, 0>(out, count, len, targets, factors, rows, sources, closed),
+        1 => set_blocks::<1, 0>(out, count, len, targets, factors, rows, sources, closed),
+        2 => set_blocks::<2, 1>(out, count, len, targets, factors, rows, sources, closed),
+        3 => set_blocks::<3, 2>(out, count, len, targets, factors, rows, sources, closed),
+        _ => set_blocks::<4, 3>(out, count, len, targets, factors, rows, sources, closed),
     }
 }
 

@@ -5,3 +5,8 @@ pub mod Replies
 pub mod Map
 pub mod Called
 pub mod Legal
+pub mod Times
+pub mod Serial
+pub mod Shown
+pub mod Dated
+pub mod Lanes

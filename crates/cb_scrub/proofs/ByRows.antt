@@ -67,7 +67,7 @@ pub record AreSumsFrom (r i at : ℕ) (rows sums : List (List ℕ)) : Type 0 whe
   pub count : length sums ≡ r
   pub lanes : (j : ℕ) → j < r → HasLanes (row_at sums j) (λ l. syndrome j (drop i rows) (at + l))
 
-module _ (r at len : ℕ) (rows : List (List ℕ)) (bytes : HoldBytes rows) (lengths : HaveLength len rows) (inside : (l : ℕ) → l < 32 → at + l < len) where
+module _ (r at len : ℕ) (rows : List (List ℕ)) (bytes : HoldBytes rows) (lengths : HaveLength len rows) (inside : (l : ℕ) → l < 64 → at + l < len) where
   pub sums_begin : (i : ℕ) (block : List ℕ) → length rows ≡ i + 1 → HasLanes block (λ l. byte_at rows i (at + l)) → AreSumsFrom r i at rows (replicate r block)
   sums_begin i block count b = record {
     count = length-replicate r block;
@@ -92,7 +92,7 @@ module _ (r at len : ℕ) (rows : List (List ℕ)) (bytes : HoldBytes rows) (len
   }
 
 -- a block times the power 0 of 2 is the block
-pub raised_none : (j : ℕ) (block : List ℕ) → length block ≡ 32 → Each1 (Fits w8) block → j ≡ 0 → HasLanes block (λ l. power 2 j ⊗ get_or block l 0)
+pub raised_none : (j : ℕ) (block : List ℕ) → length block ≡ 64 → Each1 (Fits w8) block → j ≡ 0 → HasLanes block (λ l. power 2 j ⊗ get_or block l 0)
 raised_none j block long fits none = record {
   count = long;
   each = λ l h.
@@ -101,13 +101,13 @@ raised_none j block long fits none = record {
 }
 
 -- the syndromes of one power more are 0 in a block
-pub one_power_more : (n at : ℕ) (rows : List (List ℕ)) (sum : List ℕ) → AreZero n rows at (at + 32) → HasLanes sum (λ l. syndrome n rows (at + l)) → ((l : ℕ) → l < 32 → get_or sum l 0 ≡ 0) → AreZero (n + 1) rows at (at + 32)
+pub one_power_more : (n at : ℕ) (rows : List (List ℕ)) (sum : List ℕ) → AreZero n rows at (at + 64) → HasLanes sum (λ l. syndrome n rows (at + l)) → ((l : ℕ) → l < 64 → get_or sum l 0 ≡ 0) → AreZero (n + 1) rows at (at + 64)
 one_power_more n at rows sum before s zeros j column below from to =
     ⊎_elim
     (λ less. before j column less from to)
     (λ last.
     let same : n ≡ j = omega arith in
     let place : at + (column - at) ≡ column = omega arith in
-    let within : column - at < 32 = omega arith in
+    let within : column - at < 64 = omega arith in
     subst (λ c. syndrome j rows c ≡ 0) place (subst (λ m. syndrome m rows (at + (column - at)) ≡ 0) same (sym (s.each (column - at) within) ∙ zeros (column - at) within)))
     (cases_lt j n)

@@ -23,14 +23,14 @@ pub zero_more : (r from at : ℕ) (rows : List (List ℕ)) → AreZero r rows fr
 zero_more r from at rows h here j x below l m =
     ⊎_elim (λ before. h j x below l before) (λ after. let same : at ≡ x = omega arith in subst (λ column. syndrome j rows column ≡ 0) same (here j below)) (cases_lt x at)
 
-pub zero_block : (r block : ℕ) (rows : List (List ℕ)) → AreZero r rows 0 (block * 32) → ((j l : ℕ) → j < r → l < 32 → syndrome j rows (block * 32 + l) ≡ 0) → AreZero r rows 0 ((block + 1) * 32)
+pub zero_block : (r block : ℕ) (rows : List (List ℕ)) → AreZero r rows 0 (block * 64) → ((j l : ℕ) → j < r → l < 64 → syndrome j rows (block * 64 + l) ≡ 0) → AreZero r rows 0 ((block + 1) * 64)
 zero_block r block rows h here j x below l m =
     ⊎_elim
     (λ before. h j x below l before)
     (λ after.
-    let place : block * 32 + (x - block * 32) ≡ x = omega arith in
-    subst (λ column. syndrome j rows column ≡ 0) place (here j (x - block * 32) below (omega arith)))
-    (cases_lt x (block * 32))
+    let place : block * 64 + (x - block * 64) ≡ x = omega arith in
+    subst (λ column. syndrome j rows column ≡ 0) place (here j (x - block * 64) below (omega arith)))
+    (cases_lt x (block * 64))
 
 pub later_wrong : (r at len : ℕ) (rows : List (List ℕ)) (o : Option ℕ) → AreZero r rows 0 at → IfSome o (λ column. IsFirstWrong r rows at column len) → IfSome o (λ column. IsFirstWrong r rows 0 column len)
 later_wrong r at len rows None z h = h
@@ -82,7 +82,7 @@ none_told r column len sum next rows h size first s t none p one =
     sum_is_some r p column len rows h size first one
     (sym s ∙ none p one.agreeing.1.inside (t ∙ word_fits r p rows one.agreeing.0 h one.agreeing.1 1 column (omega arith) (omega arith) ∙ at_one p (syndrome 0 rows column) ∙ ap (λ x. power 2 p ⊗ x) (sym s)))
 
-fits_all : (r p column len : ℕ) (rows : List (List ℕ)) → HaveParities r rows → IsFirstWrong r rows 0 column len → FitsColumns r rows p (column / 32 * 32) len → FitsColumns r rows p 0 len
+fits_all : (r p column len : ℕ) (rows : List (List ℕ)) → HaveParities r rows → IsFirstWrong r rows 0 column len → FitsColumns r rows p (column / 64 * 64) len → FitsColumns r rows p 0 len
 fits_all r p column len rows h first fits x from to j some below =
     let one = h.some in
     ⊎_elim
@@ -94,7 +94,7 @@ fits_all r p column len rows h first fits x from to j some below =
 
 -- where the syndromes fit the position, the row there is wrong alone
 pub one_wrong : (r p column len : ℕ) (rows : List (List ℕ)) → HaveParities r rows → len ≡ length (row_at rows 0) → 2 ≤ r → p < length rows → IsFirstWrong r rows 0 column len
-    → FitsColumns r rows p (column / 32 * 32) len → IsOneWrong r rows p
+    → FitsColumns r rows p (column / 64 * 64) len → IsOneWrong r rows p
 one_wrong r p column len rows h size two inside first fits = record {
   parities = two;
   wrong = λ word. first.wrong (λ j below. word.syndromes_zero j column below (let within = first.inside in omega arith));
@@ -103,7 +103,7 @@ one_wrong r p column len rows h size two inside first fits = record {
 
 -- where they do not fit it, no one row is wrong
 pub none_fits : (r p column len sum next : ℕ) (rows : List (List ℕ)) → HaveParities r rows → len ≡ length (row_at rows 0) → IsFirstWrong r rows 0 column len → sum ≡ syndrome 0 rows column → next ≡ syndrome 1 rows column
-    → p < length rows → 0 < sum → next ≡ power 2 p ⊗ sum → (FitsColumns r rows p (column / 32 * 32) len → ⊥) → (q : ℕ) → ¬ (IsOneWrong r rows q)
+    → p < length rows → 0 < sum → next ≡ power 2 p ⊗ sum → (FitsColumns r rows p (column / 64 * 64) len → ⊥) → (q : ℕ) → ¬ (IsOneWrong r rows q)
 none_fits r p column len sum next rows h size first s t inside some e not q one =
     let two = one.parities in
     let few = h.few in

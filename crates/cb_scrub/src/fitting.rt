@@ -18,8 +18,8 @@ pub(crate) fn fits(r: u32, rows: &Rows, position: u32, block: usize, len: usize)
     requires positions { length rows.now ≤ 20 }
     requires lengths { HaveLength len rows.now }
     requires inside { position < length rows.now }
-    requires block { block ≤ len / 32 }
-    ensures { IsTrue result ↔ FitsColumns r rows.now position (block * 32) len }
+    requires block { block ≤ len / 64 }
+    ensures { IsTrue result ↔ FitsColumns r rows.now position (block * 64) len }
 {
     blocks_fit(r, rows, position, block, len)
         && columns_fit(r, rows, position, len / BLOCK * BLOCK, len)
@@ -31,8 +31,8 @@ fn blocks_fit(r: u32, rows: &Rows, position: u32, first: usize, len: usize) -> b
     requires positions { length rows.now ≤ 20 }
     requires lengths { HaveLength len rows.now }
     requires inside { position < length rows.now }
-    requires first { first ≤ len / 32 }
-    ensures { IsTrue result ↔ FitsColumns r rows.now position (first * 32) (len / 32 * 32) }
+    requires first { first ≤ len / 64 }
+    ensures { IsTrue result ↔ FitsColumns r rows.now position (first * 64) (len / 64 * 64) }
 {
     let powers = powers_of_two();
     let factors = powers_of(position);
@@ -74,8 +74,8 @@ fn block_fits(
     requires positions { length rows.now ≤ 20 }
     requires lengths { HaveLength len rows.now }
     requires some { 0 < length rows.now }
-    requires inside { at + 32 ≤ len }
-    ensures { IsTrue result ↔ FitsColumns r rows.now position at (at + 32) }
+    requires inside { at + 64 ≤ len }
+    ensures { IsTrue result ↔ FitsColumns r rows.now position at (at + 64) }
 {
     let first = power_at(powers, 0);
     let sum = block_syndrome(first, rows, at, len);
@@ -101,7 +101,7 @@ fn power_at(powers: &[Products; 4], j: usize) -> &Products
 fn power_fits(
     base: &Products,
     factor: &Products,
-    sum: u8x32,
+    sum: u8x64,
     rows: &Rows,
     at: usize,
     len: usize,
@@ -110,8 +110,8 @@ fn power_fits(
     requires positions { length rows.now ≤ 20 }
     requires lengths { HaveLength len rows.now }
     requires some { 0 < length rows.now }
-    requires inside { at + 32 ≤ len }
-    ensures { (j : ℕ) → base.now ≡ power 2 j → (IsTrue result ↔ ((l : ℕ) → l < 32
+    requires inside { at + 64 ≤ len }
+    ensures { (j : ℕ) → base.now ≡ power 2 j → (IsTrue result ↔ ((l : ℕ) → l < 64
         → syndrome j rows.now (at + l) ≡ factor.now ⊗ slice_index sum l)) }
 {
     let other = block_syndrome(base, rows, at, len);

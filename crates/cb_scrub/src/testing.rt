@@ -40,7 +40,7 @@ fn blocks_are_zero<const R: usize>(powers: &[Products; 4], rows: &RowsRef<'_>, l
     requires powers { (j : ℕ) → j < 4 → slice_index powers.now j ≡ power 2 j }
     requires lengths { HaveLength len rows.now }
     requires some { 0 < length rows.now }
-    requires long { 32 ≤ len }
+    requires long { 64 ≤ len }
     ensures { IsTrue result ↔ AreZero R rows.now 0 len }
 {
     for block in 0..len / BLOCK {
@@ -63,8 +63,8 @@ fn block_is_zero<const R: usize>(
     requires powers { (j : ℕ) → j < 4 → slice_index powers.now j ≡ power 2 j }
     requires lengths { HaveLength len rows.now }
     requires some { 0 < length rows.now }
-    requires inside { at + 32 ≤ len }
-    ensures { IsTrue result ↔ AreZero R rows.now at (at + 32) }
+    requires inside { at + 64 ≤ len }
+    ensures { IsTrue result ↔ AreZero R rows.now at (at + 64) }
 {
     let sums = block_syndromes::<R>(powers, rows, at, len);
     for j in 0..R {
@@ -83,12 +83,12 @@ fn block_syndromes<const R: usize>(
     rows: &RowsRef<'_>,
     at: usize,
     len: usize,
-) -> [u8x32; R]
+) -> [u8x64; R]
     requires few { R ≤ 4 }
     requires powers { (j : ℕ) → j < 4 → slice_index powers.now j ≡ power 2 j }
     requires lengths { HaveLength len rows.now }
     requires some { 0 < length rows.now }
-    requires inside { at + 32 ≤ len }
+    requires inside { at + 64 ≤ len }
     ensures count { length result ≡ R }
     ensures lanes { (j : ℕ) → j < R
         → HasLanes (row_at result j) (λ l. syndrome j rows.now (at + l)) }
@@ -104,7 +104,7 @@ fn block_syndromes<const R: usize>(
 
 /// Each of the sums times its power, and a block.
 #[inline(always)]
-fn with_row<const R: usize>(sums: [u8x32; R], powers: &[Products; 4], block: u8x32) -> [u8x32; R]
+fn with_row<const R: usize>(sums: [u8x64; R], powers: &[Products; 4], block: u8x64) -> [u8x64; R]
     requires few { R ≤ 4 }
     requires powers { (j : ℕ) → j < 4 → slice_index powers.now j ≡ power 2 j }
     ensures count { length result ≡ R }
@@ -120,7 +120,7 @@ fn with_row<const R: usize>(sums: [u8x32; R], powers: &[Products; 4], block: u8x
 
 /// A block times a power of 2. The power 0 costs nothing.
 #[inline(always)]
-fn raised(j: usize, powers: &[Products; 4], block: u8x32) -> u8x32
+fn raised(j: usize, powers: &[Products; 4], block: u8x64) -> u8x64
     requires few { j < 4 }
     requires powers { (j : ℕ) → j < 4 → slice_index powers.now j ≡ power 2 j }
     ensures { HasLanes result (λ l. power 2 j ⊗ slice_index block l) }

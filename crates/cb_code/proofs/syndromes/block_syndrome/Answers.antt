@@ -5,7 +5,7 @@ use Rattle.cb_code.proofs.Horner.{block_more, all_of_last}
 use Rattle.cb_code.proofs.syndromes.block_syndrome.Goals as goal
 
 pub loop-i-init : goal.loop-i-init
-loop-i-init c = record { count = refl; each = λ l h. get_or-replicate 32 l 0 0 h }
+loop-i-init c = record { count = refl; each = λ l h. get_or-replicate 64 l 0 0 h }
 
 pub loop-i-preserved : goal.loop-i-preserved
 loop-i-preserved c =

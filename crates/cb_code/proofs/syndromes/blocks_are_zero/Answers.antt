@@ -5,7 +5,7 @@ use Rattle.cb_code.proofs.syndromes.blocks_are_zero.Goals as goal
 
 pub loop-block-preserved : goal.loop-block-preserved
 loop-block-preserved c x j within below =
-    let at = c.loop-block.block * 32 in
+    let at = c.loop-block.block * 64 in
     ⊎_elim
     (λ before. c.loop-block.invariant x j before below)
     (λ after.

@@ -2,14 +2,14 @@ use Rattle.std.proofs.Common.{◌≡◌, ℕ, ◌+◌, ◌%◌, ◌^◌, leb, co
 use Rattle.std.specs.Simd.Lanes.{zip2, sel_l, top}
 use Rattle.std.proofs.lemmas.Simd.{tops_compared}
 use Rattle.cb_gf256.specs.Sum.{◌⊕◌}
-use Rattle.cb_gf256.specs.Lanes.{HasLanes}
+use Rattle.cb_gf256.specs.Lanes.{AreLanes}
 use Rattle.cb_gf256.proofs.LaneLemmas.{HasLanes-zip2, HasLanes-select, lane_fits}
 use Rattle.cb_gf256.proofs.Halving.{doubled_byte}
 use Rattle.cb_gf256.proofs.lanes.doubled.Goals as goal
 
-taken_out : (v : List ℕ) → length v ≡ 32 → HasLanes (sel_l (map (top 7) (zip2 (λ a b. cond (leb a b) 255 0) (replicate 32 128) v)) (replicate 32 29) (replicate 32 0)) (λ l. cond (leb 128 (get_or v l 0)) 29 0)
+taken_out : (v : List ℕ) → length v ≡ 32 → AreLanes 32 (sel_l (map (top 7) (zip2 (λ a b. cond (leb a b) 255 0) (replicate 32 128) v)) (replicate 32 29) (replicate 32 0)) (λ l. cond (leb 128 (get_or v l 0)) 29 0)
 taken_out v long =
-    subst (λ ms. HasLanes (sel_l ms (replicate 32 29) (replicate 32 0)) (λ l. cond (leb 128 (get_or v l 0)) 29 0))
+    subst (λ ms. AreLanes 32 (sel_l ms (replicate 32 29) (replicate 32 0)) (λ l. cond (leb 128 (get_or v l 0)) 29 0))
     (sym (tops_compared w8 leb (replicate 32 128) v)) (HasLanes-select leb v 128 29 0 long)
 
 pub returns : goal.returns

@@ -37,9 +37,9 @@ loop-bit-preserved c =
     (λ other. ap (λ x. x * 255) (is ∙ zero_bit (c.args.c / 2 ^ i) other) ∙ sym (ap (λ t. cond t 255 0) (ne_eqb bit 1 other)))
     (cases_eq bit 1) in (
       record {
-        count = c.add_blocks-sum.ensures.count;
+        count = c.add_halves-sum.ensures.count;
         each = λ l h.
-            c.add_blocks-sum.ensures.each l h
+            c.add_halves-sum.ensures.each l h
             ∙ ap (λ x. get_or c.loop-bit.sum l 0 ⊕ x) (c.masked.ensures.each l h)
             ∙ doubling_added c.args.c i (get_or block l 0) (get_or c.loop-bit.sum l 0) (get_or c.loop-bit.doubling l 0) (bit_and (c.args.c / 2 ^ i) 1 * 255)
             (c.loop-bit.invariant.0.each l h)

@@ -8,4 +8,4 @@ use Rattle.cb_gf256.proofs.recovering.kept_block_sums.Given as goal
 abbrev pub invariant-loop-i : goal.invariant-loop-i
 invariant-loop-i g l =
     BlockSums g.row.R l.i l.at l.factors (rows_at l.rows l.sources) l.sums
-    × Placed 32 l.at l.sources (λ i x. byte_at (rows_at l.rows l.sources) i (l.at + x)) (cut_rows l.count l.len l.initial.out) (cut_rows l.count l.len l.out) l.i
+    × Placed 64 l.at l.sources (λ i x. byte_at (rows_at l.rows l.sources) i (l.at + x)) (cut_rows l.count l.len l.initial.out) (cut_rows l.count l.len l.out) l.i

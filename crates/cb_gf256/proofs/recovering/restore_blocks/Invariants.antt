@@ -6,4 +6,4 @@ use Rattle.cb_gf256.proofs.recovering.restore_blocks.Given as goal
 
 abbrev pub invariant-loop-block : goal.invariant-loop-block
 invariant-loop-block g l =
-    Restored l.factors (rows_at l.rows l.sources) l.targets l.sources (cut_rows l.count l.len l.initial.out) (cut_rows l.count l.len l.out) (l.block * 32) (l.len / 32 * 32)
+    Restored l.factors (rows_at l.rows l.sources) l.targets l.sources (cut_rows l.count l.len l.initial.out) (cut_rows l.count l.len l.out) (l.block * 64) (l.len / 64 * 64)

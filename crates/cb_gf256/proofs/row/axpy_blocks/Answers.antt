@@ -7,13 +7,13 @@ use Rattle.cb_gf256.proofs.row.axpy_blocks.Goals as goal
 
 pub loop-block-preserved : goal.loop-block-preserved
 loop-block-preserved c =
-    let at = c.loop-block.block * 32 in
+    let at = c.loop-block.block * 64 in
     let src = c.args.src.now in
     let factor = c.args.factor.now in
-    let within : (c.loop-block.block + 1) * 32 ≤ length src = omega arith in
+    let within : (c.loop-block.block + 1) * 64 ≤ length src = omega arith in
     let scaled_length : length (scaled_row factor src) ≡ length src = length-scaled_row factor src in
     c.put_block.ensures
-    ∙ summed_front_block c.args.dst.now (scaled_row factor src) c.loop-block.dst c.add_blocks.result at ((c.loop-block.block + 1) * 32) (omega arith) (omega arith) (omega arith) c.loop-block.invariant
+    ∙ summed_front_block c.args.dst.now (scaled_row factor src) c.loop-block.dst c.add_blocks.result at ((c.loop-block.block + 1) * 64) (omega arith) (omega arith) (omega arith) c.loop-block.invariant
     (record {
       count = c.add_blocks.ensures.count;
       each = λ l h.

@@ -6,7 +6,7 @@ use Rattle.cb_gf256.proofs.RowLemmas.{summed_front_more, summed_front_all, lengt
 use Rattle.cb_gf256.proofs.row.axpy_row.Goals as goal
 
 pub loop-i-init : goal.loop-i-init
-loop-i-init c = c.axpy_blocks.ensures ∙ ap (λ x. summed_front c.args.dst.now (scaled_row x c.args.src.now) (length c.args.src.now / 32 * 32)) c.of-factor.ensures
+loop-i-init c = c.axpy_blocks.ensures ∙ ap (λ x. summed_front c.args.dst.now (scaled_row x c.args.src.now) (length c.args.src.now / 64 * 64)) c.of-factor.ensures
 
 pub loop-i-preserved : goal.loop-i-preserved
 loop-i-preserved c =

@@ -35,7 +35,7 @@ pub returns-then-not-power_fits : goal.returns-then-not-power_fits
 returns-then-not-power_fits c =
     let j = c.loop-j.j in
     let few = c.requires.few in
-    refuted c.power_fits.result (FitsColumns c.args.r c.args.rows.now c.args.position c.args.at (c.args.at + 32))
+    refuted c.power_fits.result (FitsColumns c.args.r c.args.rows.now c.args.position c.args.at (c.args.at + 64))
     (λ fits.
     (c.power_fits.ensures j (c.power_at-base.ensures ∙ c.requires.powers j (omega arith))).1 (λ l k.
     fits (c.args.at + l) (omega arith) (omega arith) j (omega arith) (omega arith)

@@ -1,7 +1,7 @@
 use Rattle.std.proofs.Common.{◌≡◌, ◌+◌, [], length, ap, ◌∙◌, arith}
 use Rattle.cb_gf256.specs.Rows.{row_at, rows_at}
 use Rattle.cb_gf256.proofs.Summing.{block_sums_none, block_sums_more, shown_block, all_summed}
-use Rattle.cb_gf256.proofs.sums.block_sums.Goals as goal
+use Rattle.cb_gf256.proofs.sums.sums_by_factors.Goals as goal
 
 pub loop-i-init : goal.loop-i-init
 loop-i-init g c = block_sums_none g.row.R c.args.at c.args.factors.now (rows_at c.args.rows.now c.args.sources.now)
