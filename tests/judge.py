@@ -4,6 +4,7 @@ import re
 from collections import defaultdict
 
 from model import run
+from one_order import judge_serial
 
 NAMED = ("make", "read", "write", "free", "pin", "peek", "unpin", "filter")
 SCOPE = 16
@@ -536,7 +537,8 @@ def judge_alone(script, lines, say):
 
 
 def judge(script, told):
-    """The breaches of an output, by its lines; none where it is one that threads may print for the script."""
+    """The breaches of an output, by its lines; none where it is one that threads may print for the script. Where no other
+    rule is broken, an order of all lines is looked for that explains them."""
     say = Breaches()
     lines = answered(script, told, say)
     if lines:
@@ -551,4 +553,6 @@ def judge(script, told):
         if script.is_roomy():
             judge_roomy(script, lines, say)
         judge_alone(script, lines, say)
+        if not say.found:
+            judge_serial(script, lines, say)
     return [text for _, text in sorted(say.found, key=lambda one: one[0])]
