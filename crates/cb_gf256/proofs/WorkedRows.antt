@@ -1,5 +1,5 @@
 -- Rows, their sums and tables of factors at worked values: what meets each definition, and for each part what breaks it alone.
-use Rattle.std.proofs.Common.{◌≡◌, ℕ, zero, suc, ◌*◌, ◌<◌, List, [], ◌∷◌, length, get_or, replicate, refl, arith}
+use Rattle.std.proofs.Common.{◌≡◌, ℕ, zero, suc, ◌*◌, ◌<◌, List, [], ◌∷◌, get_or, replicate, refl, arith}
 use Rattle.std.proofs.lemmas.Simd.{get_or-replicate}
 use Rattle.cb_gf256.specs.Sum.{sum_over}
 use Rattle.cb_gf256.specs.Product.{◌⊗◌}

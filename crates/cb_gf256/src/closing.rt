@@ -42,12 +42,13 @@ pub(crate) fn closed_sums<const R: usize, const M: usize>(
         plain = add_blocks(plain, block);
         sums = with_products::<M>(sums, factors, i, block);
     }
-    with_last::<R, M>(sums, plain)
+    with_last_sum::<R, M>(sums, plain)
 }
 
-/// The first `M` sums, and the last one, which is the sum of all of them and of the plain sum.
+/// The blocks of the first `M` sums by a closed table, and of the last one, which is the sum of all
+/// of them and of the plain sum of the rows.
 #[inline(always)]
-fn with_last<const R: usize, const M: usize>(sums: [u8x64; M], plain: u8x64) -> [u8x64; R]
+pub fn with_last_sum<const R: usize, const M: usize>(sums: [u8x64; M], plain: u8x64) -> [u8x64; R]
     requires few { R ≤ 4 }
     requires last { M + 1 ≡ R }
     ensures count { length result ≡ R }
