@@ -9,7 +9,7 @@ use crate::buffers::{same_rows, size_of_rows};
 use crate::status::{Status, refused_shape};
 use cb_code::{coefficients, encode_borrowed};
 use cb_gf256::{NoMemory, RowsRef};
-use cb_scrub::is_word;
+use cb_scrub::is_code_word;
 use std::alloc::Global;
 
 /// Tells whether `k + r` rows of `len` bytes, data rows and then parities, are a code word: sets
@@ -83,7 +83,7 @@ fn syndromes_are_zero(k: u32, r: u32, len: u32, rows: &[u8]) -> bool
     ensures { IsTrue result ↔ IsCodeWord k r (cut_rows (k + r) len rows.now) }
 {
     let given = RowsRef::of(k + r, len, rows);
-    is_word(r, &given)
+    is_code_word(r, &given)
 }
 
 /// The same by parities made anew: whether the last `r` rows are those of the others.

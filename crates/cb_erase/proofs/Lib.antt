@@ -2,7 +2,7 @@ pub mod Writes
 pub mod Walking
 pub mod Tables
 pub mod Words
-pub mod PairSums
+pub mod BlockSums
 pub mod Closings
 pub mod WorkedWeights
 pub mod WorkedClosing

@@ -1,11 +1,8 @@
--- Closing rows and pairs of blocks at worked values: what meets each definition, and for each part what breaks it alone.
-use Rattle.std.proofs.Common.{◌≡◌, ℕ, zero, suc, List, [], ◌∷◌, get_or, replicate, refl, arith}
-use Rattle.std.proofs.lemmas.Simd.{get_or-replicate}
-use Rattle.cb_gf256.specs.Sum.{◌⊕◌}
+-- Closing rows at worked values: what meets each definition, and for each part what breaks it alone.
+use Rattle.std.proofs.Common.{◌≡◌, ℕ, zero, suc, List, [], ◌∷◌, refl, arith}
 use Rattle.cb_gf256.specs.Product.{◌⊗◌}
 use Rattle.cb_gf256.specs.Combination.{combination}
-use Rattle.cb_erase.specs.Closing.{sum_by, plain_sum, Closes}
-use Rattle.cb_erase.specs.TwoBlocks.{HasBytes}
+use Rattle.cb_erase.specs.Closing.{closing_sum, Closes}
 
 -- one row, whose byte is 05; by the factor 02 its sum is 0A, so the closing sum is 0F, by the factor 03
 abbrev rows : List (List ℕ)
@@ -18,7 +15,7 @@ three_times_five : combination (0x03 ∷ []) rows 0 ≡ 0x0F
 unfolding ◌⊗◌
 three_times_five = refl
 
-closed_five : plain_sum 1 rows 0 ⊕ (0 ⊕ sum_by 1 table rows 0 0) ≡ 0x0F
+closed_five : closing_sum 1 1 table rows 0 ≡ 0x0F
 unfolding ◌⊗◌
 closed_five = refl
 
@@ -42,16 +39,3 @@ twice_five = refl
 
 pub no_closing_by_another_sum : Closes 1 1 1 table rows ((0x02 ∷ []) ∷ (0x02 ∷ []) ∷ []) → ⊥
 no_closing_by_another_sum h = absurd (omega (arith, h.closing 0 (omega arith), twice_five, closed_five))
-
--- ---- the bytes of two blocks
-pub sevens : HasBytes (replicate 64 7) (λ l. 7)
-sevens = record { count = refl; each = λ l h. get_or-replicate 64 l seven 0 h }
-  where
-    seven : ℕ
-    seven = 7
-
-pub no_bytes_of_63 : HasBytes (replicate 63 7) (λ l. get_or (replicate 63 7) l 0) → ⊥
-no_bytes_of_63 h = absurd (omega (arith, h.count))
-
-pub no_other_bytes : HasBytes (replicate 64 7) (λ l. l) → ⊥
-no_other_bytes h = absurd (omega (arith, h.each 8 (omega arith)))

@@ -1,3 +1,2 @@
 pub mod Weights
-pub mod TwoBlocks
 pub mod Closing

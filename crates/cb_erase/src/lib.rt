@@ -3,7 +3,6 @@
 
 mod laws;
 mod lost;
-mod pair;
 mod restoring;
 mod solving;
 mod table;

@@ -1,142 +1,106 @@
-//! Lost rows restored beside copies of the present ones, a pair of blocks at a time. All rows of a
-//! code word add up to 0, so the last lost row takes no factors: it is the sum of all others.
+//! Lost rows restored beside copies of the present ones, a block at a time. All rows of a code word
+//! add up to 0, so the last lost row takes no factors: it is the sum of all others.
 ghost use Rattle.std.specs.Prelude.{◌≡◌, ℕ, ◌+◌, ◌*◌, ◌-◌, ◌/◌, ◌%◌, ◌<◌, ◌≤◌};
 ghost use Rattle.std.specs.Prelude.{List, length, All, slice_index};
 ghost use Rattle.std.specs.List.Sorted.{IsStrictlyIncreasing};
-ghost use Rattle.cb_gf256.specs.Sum.{◌⊕◌, sum_over};
+ghost use Rattle.cb_gf256.specs.Sum.{◌⊕◌};
 ghost use Rattle.cb_gf256.specs.Product.{◌⊗◌};
 ghost use Rattle.cb_gf256.specs.Rows.{row_at, rows_at, byte_at, HaveLength, AreRows};
+ghost use Rattle.cb_gf256.specs.Lanes.{HasLanes};
 ghost use Rattle.cb_gf256.specs.Combination.{AreCombinations};
 ghost use Rattle.cb_gf256.specs.Corner.{corner};
 ghost use Rattle.cb_gf256.specs.InRange.{IsInRange};
 ghost use Rattle.cb_gf256.specs.Lagrange.{AreFactors};
 ghost use Rattle.cb_gf256.specs.Split.{Splits};
 ghost use Rattle.cb_gf256.specs.Placing.{Placed, Restored, AreDisjoint};
-ghost use Rattle.cb_erase.specs.TwoBlocks.{HasBytes};
-ghost use Rattle.cb_erase.specs.Closing.{sum_by, plain_sum, Closes};
+ghost use Rattle.cb_erase.specs.Closing.{sum_by, closing_sum, Closes};
 
-use crate::pair::{PAIR, Pair};
-use cb_gf256::{Factors, Products, Rows, RowsRef};
+use cb_gf256::{
+    BLOCK, Factors, Products, Rows, RowsRef, add_blocks, block_at, put_block, with_last_sum,
+};
+use std::simd::prelude::*;
 
-/// Up to three sums of rows, each times its factor, and the plain sum of those rows, all of one
-/// pair of blocks.
-#[derive(Clone, Copy)]
-struct Sums {
-    by_factors: [Pair; 3],
-    plain: Pair,
-}
-
-/// Adds a row's pair to the plain sum and, times the row's factors at place `i`, to the first `M`
-/// others.
+/// Adds to each of the sums a block, times its factor at place `i`.
 #[inline(always)]
-fn with_pair<const M: usize>(
-    sums: Sums,
+fn with_products<const M: usize>(
+    sums: [u8x64; M],
     products: &[[Products; 16]; 3],
     i: usize,
-    pair: Pair,
-) -> Sums
+    block: u8x64,
+) -> [u8x64; M]
     requires few { (M ≤ 3) × (i < 16) }
-    requires count { length sums.by_factors ≡ 3 }
+    requires height { length products.now ≡ 3 }
     requires width { HaveLength 16 products.now }
-    ensures count { length result.by_factors ≡ 3 }
-    ensures by_factors { (j : ℕ) → j < M → HasBytes (row_at result.by_factors j)
-        (λ l. byte_at sums.by_factors j l ⊕
-        (byte_at products.now j i ⊗ slice_index pair l)) }
-    ensures plain { HasBytes result.plain
-        (λ l. slice_index sums.plain l ⊕ slice_index pair l) }
+    ensures count { length result ≡ M }
+    ensures lanes { (j : ℕ) → j < M → HasLanes (row_at result j)
+        (λ l. byte_at sums.entry j l ⊕ (byte_at products.now j i ⊗ slice_index block l)) }
 {
     let mut more = sums;
-    more.plain = sums.plain.plus(&pair);
     for j in 0..M {
-        more.by_factors[j] = more.by_factors[j].plus(&pair.times(&products[j][i]));
+        more[j] = add_blocks(more[j], products[j][i].times_block(block));
     }
     more
 }
 
-/// The sums of the rows at the sources over a pair of blocks from a place on. Each pair that is
-/// read is put into the row at its own position.
+/// The sums of the rows at the sources over a block from a place on: `M` of them by their factors,
+/// and the last one, which closes them. Each block that is read is put into the row at its own
+/// position.
 #[inline(always)]
-fn kept_sums<const M: usize>(
+fn kept_sums<const R: usize, const M: usize>(
     out: &mut Rows,
     products: &[[Products; 16]; 3],
     rows: &RowsRef<'_>,
     sources: &[u8],
     at: usize,
     len: usize,
-) -> Sums
-    requires few { (M ≤ 3) × (length sources.now ≤ 16) }
+) -> [u8x64; R]
+    requires few { (R ≤ 4) × (length sources.now ≤ 16) }
+    requires last { M + 1 ≡ R }
     requires width { HaveLength 16 products.now }
     requires ascending { IsStrictlyIncreasing sources.now }
     requires sources { All (λ p. p < length rows.now) sources.now }
     requires below { All (λ p. p < length out.old) sources.now }
     requires lengths { HaveLength len rows.now × HaveLength len out.old }
     requires inside { at + 64 ≤ len }
-    ensures count { length result.by_factors ≡ 3 }
-    ensures by_factors { (j : ℕ) → j < M → HasBytes (row_at result.by_factors j)
+    ensures by_factors { (j : ℕ) → j < M → HasLanes (row_at result j)
         (λ l. sum_by (length sources.now) products.now (rows_at rows.now sources.now) j (at + l)) }
-    ensures plain { HasBytes result.plain
-        (λ l. plain_sum (length sources.now) (rows_at rows.now sources.now) (at + l)) }
+    ensures last { HasLanes (row_at result M)
+        (λ l. closing_sum M (length sources.now) products.now (rows_at rows.now sources.now)
+        (at + l)) }
     ensures kept { Placed 64 at sources.now
         (λ i l. byte_at (rows_at rows.now sources.now) i (at + l))
         out.old out.new (length sources.now) }
 {
-    let mut sums = Sums {
-        by_factors: [Pair::zero(); 3],
-        plain: Pair::zero(),
-    };
+    let mut sums = [u8x64::splat(0); M];
+    let mut plain = u8x64::splat(0);
     for (i, position) in sources.iter().enumerate() {
         let row = u32::from(*position);
-        let pair = Pair::at(rows.row(row), at);
-        pair.put(out.row_mut(row), at);
-        sums = with_pair::<M>(sums, products, i, pair);
+        let block = block_at(rows.row(row), at);
+        put_block(out.row_mut(row), at, block);
+        plain = add_blocks(plain, block);
+        sums = with_products::<M>(sums, products, i, block);
     }
-    sums
+    with_last_sum::<R, M>(sums, plain)
 }
 
-/// The sum of the first `M` sums and of the plain one.
+/// Puts the blocks of the sums into the rows at the targets, from a place on.
 #[inline(always)]
-fn closing<const M: usize>(sums: &Sums) -> Pair
-    requires few { (M ≤ 3) × (length sums.now.by_factors ≡ 3) }
-    requires plain { length sums.now.plain ≡ 64 }
-    ensures { HasBytes result (λ l. slice_index sums.now.plain l ⊕
-        sum_over M (λ j. byte_at sums.now.by_factors j l)) }
-{
-    let mut sum = sums.plain;
-    for j in 0..M {
-        sum = sum.plus(&sums.by_factors[j]);
-    }
-    sum
-}
-
-/// Puts the first `M` sums into the rows at the targets, from a place on, and what closes them
-/// into the row at the last target.
-#[inline(always)]
-fn put_sums<const M: usize>(out: &mut Rows, targets: &[u8], at: usize, sums: &Sums, len: usize)
-    requires few { (M ≤ 3) × (length sums.now.by_factors ≡ 3) }
-    requires by_factors { (j : ℕ) → j < M → length (row_at sums.now.by_factors j) ≡ 64 }
-    requires plain { length sums.now.plain ≡ 64 }
-    requires targets { length targets.now ≡ M + 1 }
+fn put_sums<const R: usize>(out: &mut Rows, targets: &[u8], at: usize, sums: [u8x64; R], len: usize)
+    requires lanes { (j : ℕ) → j < R → length (row_at sums j) ≡ 64 }
+    requires targets { length targets.now ≡ R }
     requires ascending { IsStrictlyIncreasing targets.now }
     requires below { All (λ p. p < length out.old) targets.now }
     requires lengths { HaveLength len out.old }
     requires inside { at + 64 ≤ len }
-    ensures count { length out.new ≡ length out.old }
-    ensures lengths { HaveLength len out.new }
-    ensures put { (v : ℕ → ℕ → ℕ)
-        → ((j l : ℕ) → j < M → l < 64 → byte_at sums.now.by_factors j l ≡ v j l)
-        → ((l : ℕ) → l < 64 → slice_index sums.now.plain l ⊕
-        sum_over M (λ j. byte_at sums.now.by_factors j l) ≡ v M l)
-        → Placed 64 at targets.now v out.old out.new (M + 1) }
+    ensures { Placed 64 at targets.now (byte_at sums.entry) out.old out.new R }
 {
-    for j in 0..M {
-        sums.by_factors[j].put(out.row_mut(u32::from(targets[j])), at);
+    for j in 0..R {
+        put_block(out.row_mut(u32::from(targets[j])), at, sums[j]);
     }
-    let last = closing::<M>(sums);
-    last.put(out.row_mut(u32::from(targets[M])), at);
 }
 
 /// Makes the copies and the restored rows, from the last columns to the first.
-fn restore_pairs<const M: usize>(
+fn restore_blocks<const R: usize, const M: usize>(
     out: &mut Rows,
     targets: &[u8],
     products: &[[Products; 16]; 3],
@@ -144,10 +108,11 @@ fn restore_pairs<const M: usize>(
     sources: &[u8],
     len: usize,
 )
-    requires few { (M ≤ 3) × (length sources.now ≤ 16) }
+    requires few { (R ≤ 4) × (length sources.now ≤ 16) }
+    requires last { M + 1 ≡ R }
     requires width { HaveLength 16 products.now }
     requires sources { All (λ p. p < length rows.now) sources.now }
-    requires targets { length targets.now ≡ M + 1 }
+    requires targets { length targets.now ≡ R }
     requires ascending { IsStrictlyIncreasing sources.now × IsStrictlyIncreasing targets.now }
     requires below { All (λ p. p < length out.old) sources.now
         × All (λ p. p < length out.old) targets.now }
@@ -160,10 +125,10 @@ fn restore_pairs<const M: usize>(
 {
     // Downwards: a processor that compares the last twelve bits of addresses alone takes a block
     // for the one that was just written, where that one lies lower in its row.
-    for pair in (0..len / PAIR).rev() {
-        let at = pair * PAIR;
-        let sums = kept_sums::<M>(out, products, rows, sources, at, len);
-        put_sums::<M>(out, targets, at, &sums, len);
+    for block in (0..len / BLOCK).rev() {
+        let at = block * BLOCK;
+        let sums = kept_sums::<R, M>(out, products, rows, sources, at, len);
+        put_sums::<R>(out, targets, at, sums, len);
     }
 }
 
@@ -178,7 +143,7 @@ fn set_products(products: &mut [Products; 16], row: &[u8; 16], k: usize)
     }
 }
 
-/// Makes the copies and the restored rows of whole pairs of blocks, by a table that has the
+/// Makes the copies and the restored rows of whole blocks, by a table that has the
 /// factors of each source in the row at each target.
 fn restore_whole(
     out: &mut Rows,
@@ -210,10 +175,10 @@ fn restore_whole(
         set_products(&mut products[j], &table[j], sources.len());
     }
     match m {
-        0 => restore_pairs::<0>(out, targets, &products, rows, sources, len),
-        1 => restore_pairs::<1>(out, targets, &products, rows, sources, len),
-        2 => restore_pairs::<2>(out, targets, &products, rows, sources, len),
-        _ => restore_pairs::<3>(out, targets, &products, rows, sources, len),
+        0 => restore_blocks::<1, 0>(out, targets, &products, rows, sources, len),
+        1 => restore_blocks::<2, 1>(out, targets, &products, rows, sources, len),
+        2 => restore_blocks::<3, 2>(out, targets, &products, rows, sources, len),
+        _ => restore_blocks::<4, 3>(out, targets, &products, rows, sources, len),
     }
 }
 
@@ -247,7 +212,7 @@ pub(crate) fn restore(
         ≡ row_at rows.now (slice_index sources.now i) }
 {
     let len = rows.row_len() as usize;
-    if len % PAIR == 0 {
+    if len % BLOCK == 0 {
         restore_whole(out, targets, table, rows, sources, len);
     } else {
         let factors = Factors::of_table(table, sources.len() as u32, targets.len() as u32);

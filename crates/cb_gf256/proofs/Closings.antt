@@ -1,4 +1,4 @@
--- The last of the sums whose factors add up to 1.
+-- The last of the sums by a closed table.
 use Rattle.std.proofs.Common.{◌≡◌, ℕ, ◌+◌, ◌<◌, List, [], length, get_or, set, sym, ap, ap₂, subst, ◌∙◌, arith, add-one, ⊎_elim}
 use Rattle.std.proofs.lemmas.Bool.{cases_lt}
 use Rattle.std.proofs.lemmas.List.{get_or-set_same, get_or-set_other, length-set}
@@ -8,15 +8,32 @@ use Rattle.cb_gf256.specs.Product.{◌⊗◌}
 use Rattle.cb_gf256.specs.Rows.{row_at, byte_at}
 use Rattle.cb_gf256.specs.Lanes.{HasLanes}
 use Rattle.cb_gf256.specs.Combination.{combination}
-use Rattle.cb_gf256.specs.Ones.{AddToOne}
+use Rattle.cb_gf256.specs.Corner.{corner, HasCorner}
+use Rattle.cb_gf256.specs.Closed.{IsClosed}
 use Rattle.cb_gf256.proofs.Summing.{BlockSums, all_summed}
 use Rattle.cb_gf256.proofs.Linear.{sum_over-same}
 use Rattle.cb_gf256.proofs.SumLaws.{sum_over-product, sum_over-swap}
 use Rattle.cb_gf256.proofs.PowerLaws.{one-product}
+use Rattle.cb_gf256.proofs.CornerLemmas.{length-corner, row_of_corner, byte_at-corner}
 
 -- one place more at which f is 1
 pub one_more : (i : ℕ) (f : ℕ → ℕ) (s : ℕ) → ((m : ℕ) → m < i → f m ≡ 1) → s ≡ f i → s ≡ 1 → (m : ℕ) → m < i + 1 → f m ≡ 1
 one_more i f s before e one m h = ⊎_elim (before m) (λ past. ap f (omega arith) ∙ sym e ∙ one) (cases_lt m i)
+
+-- at each of the first k places the factors of all rows add up to 1
+abbrev pub AddToOne : ℕ → List (List ℕ) → Type 0
+AddToOne k table = (i : ℕ) → i < k → sum_over (length table) (λ j. byte_at table j i) ≡ 1
+
+-- the first k factors of the first n rows are closed where they add up to 1
+pub closed_corner : (k n : ℕ) (table : List (List ℕ)) → HasCorner k n table → 0 < n → ((i : ℕ) → i < k → sum_over n (λ j. byte_at table j i) ≡ 1) → IsClosed (corner k n table)
+closed_corner k n table h some ones =
+    let count : length (corner k n table) ≡ n = length-corner k n table (omega (arith, h.height, h.rows)) in record {
+      some = omega (arith, count, some);
+      ones = λ i l.
+          let place : i < k = row_of_corner k n table 0 i (omega (arith, count, some)) l in
+          subst (λ m. sum_over m (λ j. byte_at (corner k n table) j i) ≡ 1) (sym count)
+          (sum_over-same n (λ j. byte_at (corner k n table) j i) (λ j. byte_at table j i) (λ j q. byte_at-corner k n table j i (omega (arith, count, q)) place) ∙ ones i place);
+    }
 
 -- the sum of the first n rows at a column
 abbrev pub plain_sum : ℕ → List (List ℕ) → ℕ → ℕ

@@ -1,5 +1,6 @@
 -- Rows, their sums and tables of factors at worked values: what meets each definition, and for each part what breaks it alone.
-use Rattle.std.proofs.Common.{◌≡◌, ℕ, zero, suc, ◌*◌, ◌<◌, List, [], ◌∷◌, get_or, refl, arith}
+use Rattle.std.proofs.Common.{◌≡◌, ℕ, zero, suc, ◌*◌, ◌<◌, List, [], ◌∷◌, get_or, replicate, refl, arith}
+use Rattle.std.proofs.lemmas.Simd.{get_or-replicate}
 use Rattle.cb_gf256.specs.Sum.{sum_over}
 use Rattle.cb_gf256.specs.Product.{◌⊗◌}
 use Rattle.cb_gf256.specs.Power.{power}
@@ -7,6 +8,8 @@ use Rattle.cb_gf256.specs.Row.{row_sum, scaled_row}
 use Rattle.cb_gf256.specs.Rows.{row_at, rows_at, byte_at, HaveLength, AreRows}
 use Rattle.cb_gf256.specs.Block.{cut_rows, with_row}
 use Rattle.cb_gf256.specs.Corner.{corner}
+use Rattle.cb_gf256.specs.Lanes.{HasLanes}
+use Rattle.cb_gf256.specs.Closed.{IsClosed}
 use Rattle.cb_gf256.specs.Combination.{combination, AreCombinations}
 use Rattle.cb_gf256.specs.CodeWord.{IsCodeWord, syndrome}
 use Rattle.cb_gf256.specs.InRange.{IsInRange}
@@ -167,3 +170,32 @@ own_difference = refl
 
 pub no_other_factor : IsLagrangeFactor 2 lost_two_three 0 0 0xC9 → ⊥
 no_other_factor h = absurd (omega (arith, h.quotient, others_quotient, own_difference))
+
+-- ---- a closed table: 1 + 0 and 2 + 3 are 1
+abbrev closed_table : List (List ℕ)
+closed_table = (1 ∷ 2 ∷ []) ∷ (0 ∷ 3 ∷ []) ∷ []
+
+ones_there : (i : ℕ) → i < 2 → sum_over 2 (λ j. byte_at closed_table j i) ≡ 1
+ones_there zero h = refl
+ones_there (suc zero) h = refl
+ones_there (suc (suc i)) h = absurd (omega arith)
+
+pub is_closed_table : IsClosed closed_table
+is_closed_table = record { some = omega arith; ones = ones_there }
+
+pub no_table_without_rows : IsClosed [] → ⊥
+no_table_without_rows h = absurd (omega (arith, h.some))
+
+-- 2 + 2 is 0
+pub no_table_of_other_ones : IsClosed ((1 ∷ 2 ∷ []) ∷ (0 ∷ 2 ∷ []) ∷ []) → ⊥
+no_table_of_other_ones h = absurd (omega (arith, h.ones 1 (omega arith)))
+
+-- ---- a block of sevens
+pub sevens : HasLanes (replicate 64 7) (λ l. 7)
+sevens = record { count = refl; each = λ l h. get_or-replicate 64 l 7 0 h }
+
+pub no_block_of_63 : HasLanes (replicate 63 7) (λ l. get_or (replicate 63 7) l 0) → ⊥
+no_block_of_63 h = absurd (omega (arith, h.count))
+
+pub no_other_lanes : HasLanes (replicate 64 7) (λ l. l) → ⊥
+no_other_lanes h = absurd (omega (arith, h.each 0 (omega arith)))

@@ -16,4 +16,4 @@ pub mod Lends
 pub mod Halves
 pub mod Lanes
 pub mod Placing
-pub mod Ones
+pub mod Closed

@@ -1,45 +1,17 @@
-//! Sums whose factors add up to 1 at each place: the last sum takes no factors, since it is the sum
-//! of all rows and of all other sums.
-ghost use Rattle.std.specs.Prelude.{◌≡◌, ℕ, ◌+◌, ◌<◌, ◌≤◌, length, All, slice_index, IsTrue};
+//! Sums by a closed table: the factors add up to 1 at each place, so the last sum takes none of
+//! them, since it is the sum of all rows and of all other sums.
+ghost use Rattle.std.specs.Prelude.{◌≡◌, ℕ, ◌+◌, ◌<◌, ◌≤◌, length, All, slice_index};
 ghost use Rattle.cb_gf256.specs.Sum.{◌⊕◌, sum_over};
 ghost use Rattle.cb_gf256.specs.Rows.{row_at, rows_at, byte_at, HaveLength, AreRows};
 ghost use Rattle.cb_gf256.specs.Lanes.{HasLanes};
 ghost use Rattle.cb_gf256.specs.Combination.{combination};
-ghost use Rattle.cb_gf256.specs.Ones.{AddToOne};
+ghost use Rattle.cb_gf256.specs.Closed.{IsClosed};
 
 use crate::factors::Factors;
 use crate::lanes::{add_blocks, block_at};
 use crate::rows::RowsRef;
 use crate::sums::with_products;
 use std::simd::prelude::*;
-
-/// Whether there are sums, and their factors add up to 1 at each of the first `k` places.
-pub(crate) fn add_to_one(factors: &Factors, k: u32) -> bool
-    requires width { HaveLength k factors.now }
-    ensures { IsTrue result → (0 < length factors.now) × AddToOne k factors.now }
-{
-    if factors.height() == 0 {
-        return false;
-    }
-    for i in 0..k {
-        if sum_of_factors(factors, i) != 1 {
-            return false;
-        }
-    }
-    true
-}
-
-/// The sum of the factors of all rows at a place.
-fn sum_of_factors(factors: &Factors, i: u32) -> u8
-    requires width { (j : ℕ) → j < length factors.now → i < length (row_at factors.now j) }
-    ensures { result ≡ sum_over (length factors.now) (λ j. byte_at factors.now j i) }
-{
-    let mut sum = 0;
-    for j in 0..factors.height() {
-        sum ^= factors.at(j, i);
-    }
-    sum
-}
 
 /// The blocks of all `R` sums from a place on, where all but the last are `M`.
 #[inline(always)]
@@ -53,7 +25,7 @@ pub(crate) fn closed_sums<const R: usize, const M: usize>(
     requires few { (R ≤ 4) × (length sources.now ≤ 16) }
     requires last { M + 1 ≡ R }
     requires height { length factors.now ≡ R }
-    requires ones { AddToOne (length sources.now) factors.now }
+    requires closed { IsClosed factors.now }
     requires width { HaveLength (length sources.now) factors.now }
     requires rows { AreRows rows.now }
     requires below { All (λ p. p < length rows.now) sources.now }
@@ -70,12 +42,13 @@ pub(crate) fn closed_sums<const R: usize, const M: usize>(
         plain = add_blocks(plain, block);
         sums = with_products::<M>(sums, factors, i, block);
     }
-    closed::<R, M>(sums, plain)
+    with_last_sum::<R, M>(sums, plain)
 }
 
-/// The first `M` sums, and the sum of all of them and of the plain sum.
+/// The blocks of the first `M` sums by a closed table, and of the last one, which is the sum of all
+/// of them and of the plain sum of the rows.
 #[inline(always)]
-fn closed<const R: usize, const M: usize>(sums: [u8x64; M], plain: u8x64) -> [u8x64; R]
+pub fn with_last_sum<const R: usize, const M: usize>(sums: [u8x64; M], plain: u8x64) -> [u8x64; R]
     requires few { R ≤ 4 }
     requires last { M + 1 ≡ R }
     ensures count { length result ≡ R }

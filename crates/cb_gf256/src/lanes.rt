@@ -46,7 +46,7 @@ pub fn add_blocks(a: u8x64, b: u8x64) -> u8x64
     a ^ b
 }
 
-/// The sum of two lists of 32 bytes.
+/// The sum of two lists of 32 bytes, as many as a byte's halves have values.
 #[inline(always)]
 pub(crate) fn add_halves(a: u8x32, b: u8x32) -> u8x32
     ensures { AreLanes 32 result (λ l. slice_index a l ⊕ slice_index b l) }
@@ -56,21 +56,21 @@ pub(crate) fn add_halves(a: u8x32, b: u8x32) -> u8x32
 
 /// The bits of each byte that the mask has.
 #[inline(always)]
-pub(crate) fn masked(block: u8x32, mask: u8) -> u8x32
-    ensures { AreLanes 32 result (λ l. bit_and (slice_index block l) mask) }
+pub(crate) fn masked(bytes: u8x32, mask: u8) -> u8x32
+    ensures { AreLanes 32 result (λ l. bit_and (slice_index bytes l) mask) }
 {
-    block & u8x32::splat(mask)
+    bytes & u8x32::splat(mask)
 }
 
 /// Each byte times 2: shifted, and with 1D added where the shift takes a bit out.
 #[inline(always)]
-pub(crate) fn doubled(block: u8x32) -> u8x32
-    ensures { AreLanes 32 result (λ l. 2 ⊗ slice_index block l) }
+pub(crate) fn doubled(bytes: u8x32) -> u8x32
+    ensures { AreLanes 32 result (λ l. 2 ⊗ slice_index bytes l) }
 {
-    let taken_out = block
+    let taken_out = bytes
         .simd_ge(u8x32::splat(0x80))
         .select(u8x32::splat(0x1D), u8x32::splat(0));
-    (block + block) ^ taken_out
+    (bytes + bytes) ^ taken_out
 }
 
 /// The table's entries at the low halves of the bytes.
@@ -89,6 +89,7 @@ pub(crate) fn at_high_halves(table: u8x16, block: u8x64) -> u8x64
     spread(table).swizzle_dyn_within::<16>(block >> u8x64::splat(4))
 }
 
+/// The table four times over, so that each lane can look up in sixteen bytes near it.
 #[inline(always)]
 fn spread(table: u8x16) -> u8x64
     ensures { HasLanes result (λ l. slice_index table (l % 16)) }

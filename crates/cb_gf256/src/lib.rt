@@ -17,6 +17,7 @@ mod rows;
 mod sums;
 mod tables;
 
+pub use closing::with_last_sum;
 pub use erasures::{code_laws, corner_laws, polynomial_laws, restoring_laws, split_laws};
 pub use factors::Factors;
 pub use field::{add, inv, mul, pow};

@@ -73,11 +73,11 @@ impl Products {
 }
 
 /// `c` times each byte of a list of 32: the sum of the doublings that the bits of `c` name.
-fn multiplied(c: u8, block: u8x32) -> u8x32
-    ensures { AreLanes 32 result (λ l. c ⊗ slice_index block l) }
+fn multiplied(c: u8, bytes: u8x32) -> u8x32
+    ensures { AreLanes 32 result (λ l. c ⊗ slice_index bytes l) }
 {
     let mut sum = u8x32::splat(0);
-    let mut doubling = block;
+    let mut doubling = bytes;
     for bit in 0..8u32 {
         let mask = ((c >> bit) & 1) * 255;
         sum = add_halves(sum, masked(doubling, mask));

@@ -1,6 +1,6 @@
 //! Sums of rows, each times its factor: a block of all sums at a time, and the rest byte by byte.
 ghost use Rattle.std.specs.Prelude.{◌≡◌, ◌≢◌, ℕ, ◌+◌, ◌-◌, ◌/◌, ◌*◌};
-ghost use Rattle.std.specs.Prelude.{◌<◌, ◌≤◌, List, length, All, slice_index, IsTrue};
+ghost use Rattle.std.specs.Prelude.{◌<◌, ◌≤◌, List, length, All, slice_index};
 ghost use Rattle.std.specs.List.Sorted.{IsStrictlyIncreasing};
 ghost use Rattle.cb_gf256.specs.Sum.{◌⊕◌};
 ghost use Rattle.cb_gf256.specs.Product.{◌⊗◌};
@@ -8,10 +8,9 @@ ghost use Rattle.cb_gf256.specs.Block.{cut_rows};
 ghost use Rattle.cb_gf256.specs.Rows.{row_at, rows_at, byte_at, HaveLength, AreRows};
 ghost use Rattle.cb_gf256.specs.Lanes.{HasLanes};
 ghost use Rattle.cb_gf256.specs.Combination.{combination, AreCombinations};
-ghost use Rattle.cb_gf256.specs.Ones.{AddToOne};
 ghost use Rattle.cb_gf256.specs.Placing.{Placed, Combined};
 
-use crate::closing::{add_to_one, closed_sums};
+use crate::closing::closed_sums;
 use crate::factors::Factors;
 use crate::lanes::{BLOCK, add_blocks, block_at, put_block};
 use crate::rows::{Rows, RowsRef};
@@ -67,7 +66,7 @@ fn sums_by_factors<const R: usize>(
     sums
 }
 
-/// The blocks of all sums from a place on, `closed` where their factors add up to 1.
+/// The blocks of all sums from a place on. Where the table is closed, `M` of them take factors.
 #[inline(always)]
 fn block_sums<const R: usize, const M: usize>(
     factors: &Factors,
@@ -75,11 +74,10 @@ fn block_sums<const R: usize, const M: usize>(
     sources: &[u8],
     at: usize,
     len: usize,
-    closed: bool,
 ) -> [u8x64; R]
     requires few { (R ≤ 4) × (length sources.now ≤ 16) }
     requires height { length factors.now ≡ R }
-    requires closed { IsTrue closed → (M + 1 ≡ R) × AddToOne (length sources.now) factors.now }
+    requires last { M ≡ R - 1 }
     requires width { HaveLength (length sources.now) factors.now }
     requires rows { AreRows rows.now }
     requires below { All (λ p. p < length rows.now) sources.now }
@@ -89,7 +87,7 @@ fn block_sums<const R: usize, const M: usize>(
         → HasLanes (row_at result j) (λ l. combination (row_at factors.now j)
         (rows_at rows.now sources.now) (at + l)) }
 {
-    if closed {
+    if factors.is_closed() {
         closed_sums::<R, M>(factors, rows, sources, at, len)
     } else {
         sums_by_factors::<R>(factors, rows, sources, at, len)
@@ -129,12 +127,11 @@ fn set_blocks<const R: usize, const M: usize>(
     factors: &Factors,
     rows: &RowsRef<'_>,
     sources: &[u8],
-    closed: bool,
 )
     requires size { length out.old ≡ count * len }
     requires few { (R ≤ 4) × (length sources.now ≤ 16) }
     requires height { length factors.now ≡ R }
-    requires closed { IsTrue closed → (M + 1 ≡ R) × AddToOne (length sources.now) factors.now }
+    requires last { M ≡ R - 1 }
     requires rows { AreRows rows.now }
     requires width { HaveLength (length sources.now) factors.now }
     requires sources { All (λ p. p < length rows.now) sources.now }
@@ -149,7 +146,7 @@ fn set_blocks<const R: usize, const M: usize>(
     // alone takes a block for the one that was just written, where that one lies lower in its row.
     for block in (0..len / BLOCK).rev() {
         let at = block * BLOCK;
-        let sums = block_sums::<R, M>(factors, rows, sources, at, len, closed);
+        let sums = block_sums::<R, M>(factors, rows, sources, at, len);
         put_sums::<R>(out, count, len, targets, at, sums);
     }
 }
@@ -177,13 +174,12 @@ fn set_whole_blocks(
     ensures blocks { Combined factors.now (rows_at rows.now sources.now) targets.now
         (cut_rows count len out.old) (cut_rows count len out.new) 0 (len / 64 * 64) }
 {
-    let closed = add_to_one(factors, sources.len() as u32);
     match factors.height() {
-        0 => set_blocks::<0, 0>(out, count, len, targets, factors, rows, sources, closed),
-        1 => set_blocks::<1, 0>(out, count, len, targets, factors, rows, sources, closed),
-        2 => set_blocks::<2, 1>(out, count, len, targets, factors, rows, sources, closed),
-        3 => set_blocks::<3, 2>(out, count, len, targets, factors, rows, sources, closed),
-        _ => set_blocks::<4, 3>(out, count, len, targets, factors, rows, sources, closed),
+        0 => set_blocks::<0, 0>(out, count, len, targets, factors, rows, sources),
+        1 => set_blocks::<1, 0>(out, count, len, targets, factors, rows, sources),
+        2 => set_blocks::<2, 1>(out, count, len, targets, factors, rows, sources),
+        3 => set_blocks::<3, 2>(out, count, len, targets, factors, rows, sources),
+        _ => set_blocks::<4, 3>(out, count, len, targets, factors, rows, sources),
     }
 }
 

@@ -1,6 +1,6 @@
 ghost use Rattle.std.specs.Prelude.{◌≡◌, length};
 ghost use Rattle.cb_gf256.specs.Rows.{row_at};
-ghost use Rattle.cb_orders.specs.Done.{IsDecoded, IsEncoded};
+ghost use Rattle.cb_orders.specs.Done.{IsDecoded, IsEncoded, IsOfWord};
 
 use cb_gf256::Rows;
 use cb_types::{DecodeOrder, EncodeOrder};
@@ -67,13 +67,14 @@ pub struct DecodeDone {
 impl Model for DecodeDone {
     ghost use Rattle.std.specs.Prelude.{◌≡◌, length};
     ghost use Rattle.cb_gf256.specs.Rows.{row_at};
-    ghost use Rattle.cb_orders.specs.Done.{DecodeDoneState, IsDecoded};
+    ghost use Rattle.cb_orders.specs.Done.{DecodeDoneState, IsDecoded, IsOfWord};
 
     ghost Value = { DecodeDoneState };
 
     ghost view = { λ d. record { order = d.order; row = row_at d.made 0 } };
 
-    ghost invariant = { λ d. (length d.made ≡ 1) × IsDecoded d.order (row_at d.made 0) };
+    ghost invariant = { λ d. (length d.made ≡ 1) × IsDecoded d.order (row_at d.made 0)
+        × IsOfWord d.order (row_at d.made 0) };
 }
 
 impl DecodeDone {
@@ -81,6 +82,7 @@ impl DecodeDone {
     pub(crate) fn of(order: DecodeOrder, made: Rows) -> DecodeDone
         requires count { length made ≡ 1 }
         requires row { IsDecoded order (row_at made 0) }
+        requires word { IsOfWord order (row_at made 0) }
         ensures { result ≡ record { order = order; row = row_at made 0 } }
     {
         DecodeDone { order, made }
@@ -93,10 +95,11 @@ impl DecodeDone {
         &self.order
     }
 
-    /// The row at the order's position.
+    /// The row at the order's position, of the one code word that agrees with the order's rows.
     pub fn row(&self) -> &[u8]
         ensures row { result.now ≡ self.now.row }
         ensures done { IsDecoded self.now.order result.now }
+        ensures word { IsOfWord self.now.order result.now }
     {
         self.made.row(0)
     }

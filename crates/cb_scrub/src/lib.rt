@@ -12,4 +12,4 @@ mod testing;
 pub use examining::examine;
 pub use found::Found;
 pub use mending::mend;
-pub use testing::is_word;
+pub use testing::is_code_word;

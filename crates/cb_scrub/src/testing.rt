@@ -16,7 +16,7 @@ use std::simd::prelude::*;
 
 /// Whether rows that somebody else has, of which the last `r` are the parities, are a code word:
 /// all syndromes of the powers below `r` are 0. It wants no table of the code and no memory.
-pub fn is_word(r: u32, rows: &RowsRef<'_>) -> bool
+pub fn is_code_word(r: u32, rows: &RowsRef<'_>) -> bool
     requires { IsInRange (length rows.now - r) r }
     ensures { IsTrue result ↔ IsCodeWord (length rows.now - r) r rows.now }
 {

@@ -30,7 +30,7 @@ returns-in-0 c =
     let targets = c.args.targets.now in
     let k = length sources in
     let last : length targets ≡ 0 + 1 = omega (arith, c.requires.in_range.parities_least, c.requires.in_range.parities_most) in
-    c.restore_pairs.ensures (corner k (length targets) table)
+    c.restore_blocks.ensures (corner k (length targets) table)
     (corner_closes k (length targets) 0 c.args.len (λ i. get_or sources i 0) (λ e. get_or targets e 0) table c.loop-j.products (rows_at rows sources) last c.requires.in_range c.requires.split c.requires.factors
     c.told-table c.requires.width (λ j i l h. c.loop-j.invariant.2 j i (omega (arith, last)) h)
     (length-map sources (row_at rows)) (AreRows-rows_at rows sources c.requires.sources c.requires.rows) (HaveLength-rows_at c.args.len rows sources c.requires.sources c.requires.lengths.0))
@@ -43,7 +43,7 @@ returns-in-1 c =
     let targets = c.args.targets.now in
     let k = length sources in
     let last : length targets ≡ 1 + 1 = omega (arith, c.requires.in_range.parities_least, c.requires.in_range.parities_most) in
-    c.restore_pairs-in-1.ensures (corner k (length targets) table)
+    c.restore_blocks-in-1.ensures (corner k (length targets) table)
     (corner_closes k (length targets) 1 c.args.len (λ i. get_or sources i 0) (λ e. get_or targets e 0) table c.loop-j.products (rows_at rows sources) last c.requires.in_range c.requires.split c.requires.factors
     c.told-table c.requires.width (λ j i l h. c.loop-j.invariant.2 j i (omega (arith, last)) h)
     (length-map sources (row_at rows)) (AreRows-rows_at rows sources c.requires.sources c.requires.rows) (HaveLength-rows_at c.args.len rows sources c.requires.sources c.requires.lengths.0))
@@ -56,7 +56,7 @@ returns-in-2 c =
     let targets = c.args.targets.now in
     let k = length sources in
     let last : length targets ≡ 2 + 1 = omega (arith, c.requires.in_range.parities_least, c.requires.in_range.parities_most) in
-    c.restore_pairs-in-2.ensures (corner k (length targets) table)
+    c.restore_blocks-in-2.ensures (corner k (length targets) table)
     (corner_closes k (length targets) 2 c.args.len (λ i. get_or sources i 0) (λ e. get_or targets e 0) table c.loop-j.products (rows_at rows sources) last c.requires.in_range c.requires.split c.requires.factors
     c.told-table c.requires.width (λ j i l h. c.loop-j.invariant.2 j i (omega (arith, last)) h)
     (length-map sources (row_at rows)) (AreRows-rows_at rows sources c.requires.sources c.requires.rows) (HaveLength-rows_at c.args.len rows sources c.requires.sources c.requires.lengths.0))
@@ -69,7 +69,7 @@ returns-in_default c =
     let targets = c.args.targets.now in
     let k = length sources in
     let last : length targets ≡ 3 + 1 = omega (arith, c.requires.in_range.parities_least, c.requires.in_range.parities_most) in
-    c.restore_pairs-in_default.ensures (corner k (length targets) table)
+    c.restore_blocks-in_default.ensures (corner k (length targets) table)
     (corner_closes k (length targets) 3 c.args.len (λ i. get_or sources i 0) (λ e. get_or targets e 0) table c.loop-j.products (rows_at rows sources) last c.requires.in_range c.requires.split c.requires.factors
     c.told-table c.requires.width (λ j i l h. c.loop-j.invariant.2 j i (omega (arith, last)) h)
     (length-map sources (row_at rows)) (AreRows-rows_at rows sources c.requires.sources c.requires.rows) (HaveLength-rows_at c.args.len rows sources c.requires.sources c.requires.lengths.0))

@@ -39,5 +39,5 @@ returns g c j h =
     let inside : p < length rows = c.requires.below m 0 within in
     subst (λ row. get_or row (at + l) 0 < 256) (sym (row_at-rows_at rows sources m within))
     (HoldBytes-byte_at rows c.requires.rows.bytes p (at + l) inside (omega (arith, c.requires.lengths p [] inside, c.requires.inside))) in
-    closed_lanes g.row.M i at c.args.factors.now shown c.loop-i.sums c.closed.result c.loop-i.plain (c.requires.height ∙ sym c.requires.last)
-    (λ m k. c.requires.ones m (omega arith)) (λ m k. c.requires.width m [] (omega (arith, c.requires.height, c.requires.last)) ∙ all) bytes c.loop-i.invariant.0 c.loop-i.invariant.1 c.closed.ensures.first c.closed.ensures.last j (omega (arith, c.requires.last))
+    closed_lanes g.row.M i at c.args.factors.now shown c.loop-i.sums c.with_last_sum.result c.loop-i.plain (c.requires.height ∙ sym c.requires.last)
+    (λ m k. c.requires.closed.ones m (omega (arith, c.requires.width 0 [] c.requires.closed.some))) (λ m k. c.requires.width m [] (omega (arith, c.requires.height, c.requires.last)) ∙ all) bytes c.loop-i.invariant.0 c.loop-i.invariant.1 c.with_last_sum.ensures.first c.with_last_sum.ensures.last j (omega (arith, c.requires.last))

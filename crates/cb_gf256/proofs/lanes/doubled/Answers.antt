@@ -14,13 +14,13 @@ taken_out v long =
 
 pub returns : goal.returns
 returns c =
-    let v = c.args.block in
-    let long = c.fits-block.0 in
+    let v = c.args.bytes in
+    let long = c.fits-bytes.0 in
     let out = taken_out v long in
     let twice = HasLanes-zip2 (λ a b. (a + b) % 2 ^ 8) v v long long in
     let both = HasLanes-zip2 (λ a b. a ⊕ b) _ _ twice.count out.count in
     record {
       count = both.count;
       each = λ k l.
-          both.each k l ∙ ap₂ ◌⊕◌ (twice.each k l) (out.each k l) ∙ doubled_byte (get_or v k 0) (lane_fits v long c.fits-block.1 k l);
+          both.each k l ∙ ap₂ ◌⊕◌ (twice.each k l) (out.each k l) ∙ doubled_byte (get_or v k 0) (lane_fits v long c.fits-bytes.1 k l);
     }

@@ -3,4 +3,4 @@ use Rattle.cb_gf256.proofs.LaneLemmas.{HasLanes-splat}
 use Rattle.cb_gf256.proofs.lanes.masked.Goals as goal
 
 pub returns : goal.returns
-returns c = HasLanes-splat bit_and c.args.block c.args.mask c.fits-block.0
+returns c = HasLanes-splat bit_and c.args.bytes c.args.mask c.fits-bytes.0

@@ -17,17 +17,17 @@ zero_bit x other = omega (arith, other)
 
 pub loop-bit-init : goal.loop-bit-init
 loop-bit-init c =
-    let block = c.args.block in (
-      record { count = refl; each = λ l h. get_or-replicate 32 l 0 0 h ∙ sym (zero-product (get_or block l 0)) },
+    let bytes = c.args.bytes in (
+      record { count = refl; each = λ l h. get_or-replicate 32 l 0 0 h ∙ sym (zero-product (get_or bytes l 0)) },
       record {
-        count = c.fits-block.0;
-        each = λ l h. sym (ap (λ p. p ⊗ get_or block l 0) (power-zero 2) ∙ one-product (get_or block l 0) (lane_fits block c.fits-block.0 c.fits-block.1 l h));
+        count = c.fits-bytes.0;
+        each = λ l h. sym (ap (λ p. p ⊗ get_or bytes l 0) (power-zero 2) ∙ one-product (get_or bytes l 0) (lane_fits bytes c.fits-bytes.0 c.fits-bytes.1 l h));
       },
     )
 
 pub loop-bit-preserved : goal.loop-bit-preserved
 loop-bit-preserved c =
-    let block = c.args.block in
+    let bytes = c.args.bytes in
     let i = c.loop-bit.bit in
     let bit = bit_at c.args.c i in
     let is : bit_and (c.args.c / 2 ^ i) 1 ≡ bit = and_mask (c.args.c / 2 ^ i) 1 in
@@ -41,27 +41,27 @@ loop-bit-preserved c =
         each = λ l h.
             c.add_halves-sum.ensures.each l h
             ∙ ap (λ x. get_or c.loop-bit.sum l 0 ⊕ x) (c.masked.ensures.each l h)
-            ∙ doubling_added c.args.c i (get_or block l 0) (get_or c.loop-bit.sum l 0) (get_or c.loop-bit.doubling l 0) (bit_and (c.args.c / 2 ^ i) 1 * 255)
+            ∙ doubling_added c.args.c i (get_or bytes l 0) (get_or c.loop-bit.sum l 0) (get_or c.loop-bit.doubling l 0) (bit_and (c.args.c / 2 ^ i) 1 * 255)
             (c.loop-bit.invariant.0.each l h)
-            (omega (arith, c.loop-bit.invariant.1.each l h, product-lt (power 2 i) (get_or block l 0) (power-lt 2 i (omega arith)) (lane_fits block c.fits-block.0 c.fits-block.1 l h)))
+            (omega (arith, c.loop-bit.invariant.1.each l h, product-lt (power 2 i) (get_or bytes l 0) (power-lt 2 i (omega arith)) (lane_fits bytes c.fits-bytes.0 c.fits-bytes.1 l h)))
             (c.loop-bit.invariant.1.each l h) mask_is;
       },
       record {
         count = c.doubled-doubling.ensures.count;
         each = λ l h.
             c.doubled-doubling.ensures.each l h ∙ ap (λ x. 2 ⊗ x) (c.loop-bit.invariant.1.each l h)
-            ∙ doubled_more i (get_or block l 0) (lane_fits block c.fits-block.0 c.fits-block.1 l h);
+            ∙ doubled_more i (get_or bytes l 0) (lane_fits bytes c.fits-bytes.0 c.fits-bytes.1 l h);
       },
     )
 
 pub returns : goal.returns
 returns c =
-    let block = c.args.block in
+    let bytes = c.args.bytes in
     let all : c.loop-bit.bit ≡ 8 = omega arith in
     record {
       count = c.loop-bit.invariant.0.count;
       each = λ l h.
           c.loop-bit.invariant.0.each l h
-          ∙ ap (λ n. sum_over n (named_power c.args.c) ⊗ get_or block l 0) all
-          ∙ ap (λ x. x ⊗ get_or block l 0) (named_powers c.args.c c.ranges.c.fits);
+          ∙ ap (λ n. sum_over n (named_power c.args.c) ⊗ get_or bytes l 0) all
+          ∙ ap (λ x. x ⊗ get_or bytes l 0) (named_powers c.args.c c.ranges.c.fits);
     }

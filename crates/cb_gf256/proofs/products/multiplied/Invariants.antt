@@ -8,5 +8,5 @@ use Rattle.cb_gf256.proofs.products.multiplied.Given as goal
 
 abbrev pub invariant-loop-bit : goal.invariant-loop-bit
 invariant-loop-bit l =
-    AreLanes 32 l.sum (λ x. sum_over l.bit (named_power l.c) ⊗ slice_index l.fn.block x)
-    × AreLanes 32 l.doubling (λ x. power 2 l.bit ⊗ slice_index l.fn.block x)
+    AreLanes 32 l.sum (λ x. sum_over l.bit (named_power l.c) ⊗ slice_index l.fn.bytes x)
+    × AreLanes 32 l.doubling (λ x. power 2 l.bit ⊗ slice_index l.fn.bytes x)

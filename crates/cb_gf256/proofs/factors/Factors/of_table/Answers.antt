@@ -18,13 +18,24 @@ loop-j-preserved c =
           (λ x p y q. c.loop-j.invariant.2 x y p q) (λ y q. made.factors y q) m h i k,
     )
 
-pub invariant_of-result : goal.invariant_of-result
-invariant_of-result c = record {
+pub are_closed-closed-requires : goal.are_closed-closed-requires
+are_closed-closed-requires c = record {
   width = c.requires.places;
   height = c.requires.rows;
   rows = c.loop-j.invariant.0;
   places = c.loop-j.invariant.1;
 }
+
+pub invariant_of-result : goal.invariant_of-result
+invariant_of-result c = (
+  record {
+    width = c.requires.places;
+    height = c.requires.rows;
+    rows = c.loop-j.invariant.0;
+    places = c.loop-j.invariant.1;
+  },
+  c.are_closed-closed.ensures,
+)
 
 pub returns : goal.returns
 returns c =

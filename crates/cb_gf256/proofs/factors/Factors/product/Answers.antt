@@ -12,6 +12,6 @@ returns c =
     let in_table : j < length (corner f.width f.height f.products) = subst (λ t. j < length t) (sym c.self.view_is) c.requires.row in
     let in_row : i < length (row_at (corner f.width f.height f.products) j) = subst (λ t. i < length (row_at t j)) (sym c.self.view_is) c.requires.place in
     let small = row_of_corner f.width f.height f.products j i in_table in_row in
-    at_default (row_at f.products j) i c.index-self-j.result 0 (omega (arith, c.self.told, c.self.invariant.width))
+    at_default (row_at f.products j) i c.index-self-j.result 0 (omega (arith, c.self.told, c.self.invariant.0.width))
     ∙ sym (byte_at-corner f.width f.height f.products j i in_table small)
     ∙ ap (λ t. byte_at t j i) c.self.view_is

@@ -1,6 +1,6 @@
 use Rattle.std.proofs.Common.{◌∙◌, arith}
 use Rattle.cb_gf256.proofs.Closings.{closed_more}
-use Rattle.cb_gf256.proofs.closing.closed.Goals as goal
+use Rattle.cb_gf256.proofs.closing.with_last_sum.Goals as goal
 
 pub loop-j-preserved : goal.loop-j-preserved
 loop-j-preserved g c =
