@@ -1,4 +1,4 @@
-ghost use Rattle.std.specs.Prelude.{◌≡◌, ◌<◌, ◌≤◌, ◌+◌, ◌-◌, ◌^◌, min, length, take, None, IfSome, IfNone};
+ghost use Rattle.std.specs.Prelude.{◌≡◌, ◌<◌, ◌≤◌, ◌+◌, ◌-◌, ◌^◌, min, length, take, IfSome, IfNone};
 ghost use Rattle.std.specs.Io.KnownBytes.{Appends, Consumes, Keeps, IsAtEnd};
 ghost use Rattle.cb_types.specs.Faults.{Rose};
 ghost use Rattle.cb_types.specs.Source.{IfGot, OnTakeFailed};
@@ -8,8 +8,9 @@ use crate::sink::{Sent, Sink};
 use crate::source::{Source, Took};
 use std::io::{ErrorKind, Read, Write};
 
-/// A source over a reader of std. It tells nothing of the bytes: what a file, a pipe or a terminal
-/// gives is trusted. A read that the system interrupted is tried again.
+/// A source over a reader of std. It tells the bytes that are left where its reader does: a slice
+/// tells them, and what a file, a pipe or a terminal gives is trusted. A read that the system
+/// interrupted is tried again.
 #[derive(Drop)]
 pub struct StdSource<R> {
     reader: R,
@@ -33,24 +34,20 @@ impl<R: Read> StdSource<R> {
 }
 
 impl<R: Read> Source for StdSource<R> {
-    ghost left = { λ _. None };
+    ghost left = { λ s. R.remaining s.reader };
 
     ghost faults = { λ s. s.faults };
 
     fn take(&mut self, buf: &mut [u8]) -> Took
         requires { 0 < length buf.old }
         ensures room { IfGot result (λ n. n ≤ length buf.new) }
-        ensures bytes { IfGot result (λ n. Consumes None None (take n buf.new)) }
-        ensures end { IfGot result (λ n. n ≡ 0 → IsAtEnd None) }
+        ensures bytes { IfGot result (λ n. Consumes (R.remaining self.old.reader) (R.remaining self.new.reader) (take n buf.new)) }
+        ensures end { IfGot result (λ n. n ≡ 0 → IsAtEnd (R.remaining self.new.reader)) }
         ensures no_fault { IfGot result (λ _. self.new.faults ≡ self.old.faults) }
         ensures fault { OnTakeFailed result (Rose self.old.faults self.new.faults) }
-        ensures kept { OnTakeFailed result (Keeps None None) }
+        ensures kept { OnTakeFailed result (Keeps (R.remaining self.old.reader) (R.remaining self.new.reader)) }
 
         ensures fault_counted { OnTakeFailed result (self.new.faults ≡ min (self.old.faults + 1) (2 ^ 64 - 1)) }
-        // It is the reader's bytes that are given, where the reader tells them, and none is dropped.
-        ensures reader { IfGot result (λ n. Consumes (R.remaining self.old.reader) (R.remaining self.new.reader) (take n buf.new)) }
-        ensures reader_end { IfGot result (λ n. n ≡ 0 → IsAtEnd (R.remaining self.new.reader)) }
-        ensures reader_kept { OnTakeFailed result (Keeps (R.remaining self.old.reader) (R.remaining self.new.reader)) }
     {
         match read_retrying(&mut self.reader, buf) {
             Some(count) => Took::Got(count),
@@ -62,8 +59,9 @@ impl<R: Read> Source for StdSource<R> {
     }
 }
 
-/// A sink over a writer of std. It tells nothing of the bytes: what a file, a pipe or a terminal
-/// makes of them is trusted. A write that the system interrupted is tried again.
+/// A sink over a writer of std. It tells the bytes that it holds where its writer does: a `Vec`
+/// tells them, and what a file, a pipe or a terminal makes of them is trusted. A write that the
+/// system interrupted is tried again.
 #[derive(Drop)]
 pub struct StdSink<W> {
     writer: W,
@@ -94,7 +92,7 @@ impl<W: Write> StdSink<W> {
 }
 
 impl<W: Write> Sink for StdSink<W> {
-    ghost held = { λ _. None };
+    ghost held = { λ s. W.contents s.writer };
 
     ghost faults = { λ s. s.faults };
 
@@ -103,15 +101,12 @@ impl<W: Write> Sink for StdSink<W> {
         requires { 0 < length bytes.now }
         ensures some { IfSent result (λ n. 1 ≤ n) }
         ensures room { IfSent result (λ n. n ≤ length bytes.now) }
-        ensures bytes { IfSent result (λ n. Appends None None (take n bytes.now)) }
+        ensures bytes { IfSent result (λ n. Appends (W.contents self.old.writer) (W.contents self.new.writer) (take n bytes.now)) }
         ensures no_fault { IfSent result (λ _. self.new.faults ≡ self.old.faults) }
         ensures fault { OnPutFailed result (Rose self.old.faults self.new.faults) }
-        ensures kept { OnPutFailed result (Keeps None None) }
+        ensures kept { OnPutFailed result (Keeps (W.contents self.old.writer) (W.contents self.new.writer)) }
 
         ensures fault_counted { OnPutFailed result (self.new.faults ≡ min (self.old.faults + 1) (2 ^ 64 - 1)) }
-        // It is these bytes that the writer gets, where the writer tells what it holds, and no others.
-        ensures writer { IfSent result (λ n. Appends (W.contents self.old.writer) (W.contents self.new.writer) (take n bytes.now)) }
-        ensures writer_kept { OnPutFailed result (Keeps (W.contents self.old.writer) (W.contents self.new.writer)) }
     {
         match write_retrying(&mut self.writer, bytes) {
             Some(count) => Sent::Sent(count),
