@@ -12,6 +12,8 @@ mod ScopesTold
 mod OneToOne
 mod OfLane
 mod LanesAlone
+mod OwnTexts
+mod WorkedTwoTexts
 mod WorkedOwnLines
 mod AnswersRise
 mod UsedLanes

@@ -7,4 +7,5 @@ pub mod Scripts
 pub mod Modes
 pub mod Outcome
 pub mod Telling
+pub mod TwoTexts
 pub mod Calm

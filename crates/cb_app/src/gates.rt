@@ -1,10 +1,12 @@
-//! Tests of threads, by gates that hold a lane or note what they are told. A program can't be
-//! called from a crate of tests, so they stand here.
+//! Tests of threads, by gates that hold a lane or note what they are told, and of the program over
+//! bytes in memory. A program can't be called from a crate of tests, so they stand here.
 
+use crate::ending::Ending;
+use crate::over::carbink_over;
 use crate::threads::run_threads;
 use cb_cli::answers_text;
 use cb_script::{Mode, read_script};
-use cb_types::{Bytes, Gate, Lane, NoMemory};
+use cb_types::{Bytes, Gate, Lane, NoMemory, StdSink, StdSource};
 use std::alloc::Global;
 use std::array;
 use std::sync::Wait;
@@ -130,6 +132,29 @@ fn is_noted<R: Threads + Wait + Sync>(rt: &R, alloc: Global) -> Result<bool, NoM
     Ok(gate.are(&NOTES))
 }
 
+/// A script, and what `seq` tells of it.
+const SHORT: &[u8] = b"carbink 1 k=2 r=2 nodes=6 frames=8 room=64 handles=16 turns=0\n\
+0 make a 0a\n0 read a\n";
+const SHORT_TEXT: &[u8] = b"0 make a v1\n0 read a v1 0a\n";
+
+/// Whether the program, over a slice and a `Vec`, tells what `seq` is to tell.
+fn over_bytes<R: Threads + Wait + Sync>(rt: &R, alloc: Global) -> Result<bool, NoMemory> {
+    let mut words = Vec::new(alloc);
+    words.push(format!(in alloc; "seq")?)?;
+    let mut source = StdSource::new(SHORT);
+    let mut sink = StdSink::new(Vec::new(alloc));
+    let mut end = Ending::new(alloc);
+    let status = carbink_over(
+        rt,
+        alloc,
+        words.as_slice(),
+        &mut source,
+        &mut sink,
+        &mut end,
+    );
+    Ok(status == 0 && sink.into_writer().as_slice() == SHORT_TEXT)
+}
+
 #[test]
 fn a_lane_is_answered_while_another_one_is_held(rt: HostRuntime) -> Result<(), Fail> {
     assert!(rt; matches!(goes_on(&rt, rt.alloc()), Ok(true)));
@@ -139,5 +164,11 @@ fn a_lane_is_answered_while_another_one_is_held(rt: HostRuntime) -> Result<(), F
 #[test]
 fn the_gate_is_told_of_each_line_and_each_turn_once(rt: HostRuntime) -> Result<(), Fail> {
     assert!(rt; matches!(is_noted(&rt, rt.alloc()), Ok(true)));
+    Ok(())
+}
+
+#[test]
+fn a_script_in_memory_is_answered_into_memory(rt: HostRuntime) -> Result<(), Fail> {
+    assert!(rt; matches!(over_bytes(&rt, rt.alloc()), Ok(true)));
     Ok(())
 }

@@ -10,17 +10,18 @@ pub mod ending;
 #[cfg(test)]
 mod gates;
 mod mapping;
+pub mod over;
 pub mod run;
 pub mod threads;
 pub mod top;
 
 use cb_types::{StdSink, StdSource};
 use ending::Ending;
+use over::carbink_over;
 use std::io::ErrorKind;
 use std::process::ExitCode;
 use std::rt::Env;
 use std::{env, io, mem};
-use top::carbink_run;
 
 /// The words after the program's name.
 fn argument_words<R: Env + AllocGlobal>(rt: &R) -> io::Result<Vec<String>> {
@@ -50,7 +51,7 @@ fn main(rt: HostRuntime) -> ExitCode {
     let mut source = StdSource::new(rt.stdin());
     let mut sink = StdSink::new(rt.stdout());
     let mut end = Ending::new(alloc);
-    let status = carbink_run(
+    let status = carbink_over(
         &rt,
         alloc,
         words.as_slice(),

@@ -7,6 +7,7 @@ ghost use Rattle.cb_shared.specs.Passes.{IsPassOf, IsRuntimeBegun, record_of};
 ghost use Rattle.cb_app.specs.ByLane.{by_lane, of_lane};
 ghost use Rattle.cb_app.specs.Crew.{IsLaneTold, IsTextWritten, StandIn, names_in, work_in};
 ghost use Rattle.cb_app.specs.Threaded.{AreLosses, IsRun};
+ghost use Rattle.cb_app.specs.TwoTexts.{TellsAsSeq};
 ghost use Rattle.cb_lanes.specs.Bodies.{KnowsNames};
 ghost use Rattle.cb_lanes.specs.Lost.{losses_of};
 ghost use Rattle.cb_text.specs.Line.{text_of};
@@ -53,6 +54,8 @@ pub fn run_threads<R: Threads + Wait + Sync, G: Gate>(
     requires script { IsScript s.now }
     requires mode { AreInMode scripts.Threads s.now.lines }
     ensures run { IfOk result (IsRun s.now) }
+    // What one thread answers to the script is told by the same text of each lane's own lines.
+    ensures alike { IfOk result (TellsAsSeq s.now) }
     ensures text { IfOk result (λ end. end.text ≡ text_of end.answers) }
 {
     let (shared, pass) = Shared::new(alloc, s.config)?;

@@ -8,6 +8,7 @@ ghost use Rattle.cb_cli.specs.Words.{AskFor, Name, NameNone};
 ghost use Rattle.cb_cli.specs.declared.words.Command.{Command};
 ghost use Rattle.cb_cli.specs.declared.words.Plan.{Plan};
 ghost use Rattle.cb_app.specs.Modes.{Accepts, Refuses};
+ghost use Rattle.cb_app.specs.TwoTexts.{ThreadsTellAlike};
 ghost use Rattle.cb_app.specs.Outcome.{TellsScript, TellsSummary, AreWordsRefused, RefusesScript, IsDue};
 
 use crate::ending::Ending;
@@ -91,6 +92,8 @@ pub fn carbink_run<R: Threads + Wait + Sync, S: Source, K: Sink>(
     // there is memory.
     ensures draws { (plan : Plan) → AskFor words.now plan
         → (src.new ≡ src.old) × ((result ≡ 0) ⊎ (4 ≤ result)) }
+    // On a roomy script without steps `threads` tells of each lane's own lines what `seq` tells.
+    ensures alike { ThreadsTellAlike }
 {
     status(run(rt, alloc, words, src, out, end))
 }

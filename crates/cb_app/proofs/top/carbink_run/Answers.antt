@@ -2,6 +2,7 @@ use Rattle.std.proofs.Common.{Ok, Err, sym, ◌∙◌}
 use Rattle.cb_cli.specs.declared.outcome.Due.TheVariants.{Done, WordsRefused, ScriptRefused}
 use Rattle.cb_cli.specs.declared.outcome.Failure.TheVariants.{Read, Write, NoMemory}
 use Rattle.cb_cli.proofs.Laws.{same_outcome, status_of-le}
+use Rattle.cb_app.proofs.OwnTexts.{texts_alike}
 use Rattle.cb_app.proofs.Tops.{ends_at, rose_at_read, rose_at_write, stays_but_read, stays_but_write, words_status, drawn_status, due_status}
 use Rattle.cb_app.proofs.top.carbink_run.Goals as goal
 
@@ -105,3 +106,6 @@ pub returns-clause-draws : goal.returns-clause-draws
 returns-clause-draws g c = λ plan asks.
     let drawn = c.run.ensures.draws plan asks in
     (drawn.0, drawn_status c.run.result c.status.result c.status.ensures drawn.1 drawn.2)
+
+pub returns-clause-alike : goal.returns-clause-alike
+returns-clause-alike g c = texts_alike
