@@ -110,10 +110,10 @@ module _ (lines : List Line) (lane : ℕ) (s : LaneState) (l : Line) (a b : Repl
     (x : is_own lines lane (answer_to l l.request a) ≡ true → AloneSays s l.request a)
     (y : is_own lines lane (answer_to l l.request b) ≡ true → AloneSays s l.request b)
     (p : IsReplyOf l.request a) (q : IsReplyOf l.request b) where
-  own : Bool
+  abbrev own : Bool
   own = nat_eq l.lane.n lane && is_maker_of lines lane (own_name l.request)
 
-  left : Bool
+  abbrev left : Bool
   left = nat_eq l.lane.n lane && is_leave l.request
 
   both_own : own ≡ true → AreSame s l.request a b
@@ -151,11 +151,11 @@ module _ (lines : List Line) (lane : ℕ) (s : LaneState) (l : Line) (a b : Repl
       ∙ sym (text_if own b (filter (is_own lines lane) ys))
 
 -- ---- lists of answers to the same lines
-head_of : (d : Line) → List Line → Line
+abbrev head_of : (d : Line) → List Line → Line
 head_of d [] = d
 head_of d (l ∷ ls) = l
 
-tail_of : List Line → List Line
+abbrev tail_of : List Line → List Line
 tail_of [] = []
 tail_of (l ∷ ls) = ls
 
@@ -191,6 +191,10 @@ text_alike lines lane s (a ∷ xs) (b ∷ ys) same p q x y =
 
 -- ---- the answers to one lane
 
+-- the text of answers, with this one in front where it is told
+abbrev own_if : Answer → Bool → List Answer → List ℕ
+own_if a m xs = text_of (if m then a ∷ xs else xs)
+
 module _ (lines : List Line) (lane : ℕ) where
   off_own : (a : Answer) → nat_eq a.lane.n lane ≡ false → is_own lines lane a ≡ false
   off_own a e = ap (λ (m : Bool). m && is_maker_of lines lane (own_name a.request)) e
@@ -204,39 +208,44 @@ module _ (lines : List Line) (lane : ℕ) where
       → KeepAlone lines lane s (to_lane lane xs)
   lane_keeps s [] x = tt
   lane_keeps s (a ∷ xs) x = by (nat_eq a.lane.n lane) refl
+      (lane_keeps (alone_more lines lane s a) xs x.1)
     where
       by : (m : Bool) → nat_eq a.lane.n lane ≡ m
+          → KeepAlone lines lane (alone_more lines lane s a) (to_lane lane xs)
           → KeepAlone lines lane s (if m then a ∷ to_lane lane xs else to_lane lane xs)
-      by true e = (x.0, lane_keeps (alone_more lines lane s a) xs x.1)
-      by false e = lane_keeps s xs
-          (subst (λ (t : LaneState). KeepAlone lines lane t xs) (off_more s a e) x.1)
+      by true e rest = (x.0, rest)
+      by false e rest = subst (λ (t : LaneState). KeepAlone lines lane t (to_lane lane xs))
+          (off_more s a e) rest
 
   lane_replies : (xs : List Answer) → AllByRecursion HasLineReply xs
       → AllByRecursion HasLineReply (to_lane lane xs)
   lane_replies [] all = tt
-  lane_replies (a ∷ xs) all = by (nat_eq a.lane.n lane)
+  lane_replies (a ∷ xs) all = by (nat_eq a.lane.n lane) (lane_replies xs all.1)
     where
-      by : (m : Bool) → AllByRecursion HasLineReply
-          (if m then a ∷ to_lane lane xs else to_lane lane xs)
-      by true = (all.0, lane_replies xs all.1)
-      by false = lane_replies xs all.1
+      by : (m : Bool) → AllByRecursion HasLineReply (to_lane lane xs)
+          → AllByRecursion HasLineReply (if m then a ∷ to_lane lane xs else to_lane lane xs)
+      by true rest = (all.0, rest)
+      by false rest = rest
 
   lane_text : (xs : List Answer) → own_text lines lane xs ≡ own_text lines lane (to_lane lane xs)
   lane_text [] = refl
-  lane_text (a ∷ xs) = by (nat_eq a.lane.n lane) refl
+  lane_text (a ∷ xs) =
+      by (nat_eq a.lane.n lane) refl (both (is_own lines lane a) (lane_text xs)) (lane_text xs)
     where
-      own_if : Bool → List Answer → List ℕ
-      own_if m zs = text_of (if m then a ∷ filter (is_own lines lane) zs
-          else filter (is_own lines lane) zs)
+      both : (m : Bool) → own_text lines lane xs ≡ own_text lines lane (to_lane lane xs)
+          → own_if a m (filter (is_own lines lane) xs)
+          ≡ own_if a m (filter (is_own lines lane) (to_lane lane xs))
+      both true rest = ap (λ (t : List ℕ). answer_line a.lane a.request a.reply ++ t) rest
+      both false rest = rest
 
-      rest : (m : Bool) → own_if m xs ≡ own_if m (to_lane lane xs)
-      rest true = ap (λ (t : List ℕ). answer_line a.lane a.request a.reply ++ t) (lane_text xs)
-      rest false = lane_text xs
-
-      by : (m : Bool) → nat_eq a.lane.n lane ≡ m → own_text lines lane (a ∷ xs)
+      by : (m : Bool) → nat_eq a.lane.n lane ≡ m
+          → own_text lines lane (a ∷ xs) ≡ own_text lines lane (a ∷ to_lane lane xs)
+          → own_text lines lane xs ≡ own_text lines lane (to_lane lane xs)
+          → own_text lines lane (a ∷ xs)
           ≡ own_text lines lane (if m then a ∷ to_lane lane xs else to_lane lane xs)
-      by true e = rest (is_own lines lane a)
-      by false e = ap (λ (m : Bool). own_if m xs) (off_own a e) ∙ lane_text xs
+      by true e here rest = here
+      by false e here rest =
+          ap (λ (m : Bool). own_if a m (filter (is_own lines lane) xs)) (off_own a e) ∙ rest
 
 -- ---- the law
 pub texts_alike : (script : Script) (many : ThreadsEnd) → IsScript script → IsRun script many

@@ -1,12 +1,13 @@
 -- Turns that are added to a record, one behind the other.
 use Rattle.std.proofs.Common.{◌≡◌, ℕ, ◌+◌, List, [], ◌∷◌, ◌++◌, Option, refl, sym, ap, ◌∙◌}
-use Rattle.std.proofs.Common.{append_assoc, arith}
+use Rattle.std.proofs.Common.{append_assoc, arith, subst}
 use Rattle.std.proofs.lemmas.List.{map-append}
+use Rattle.cb_types.specs.declared.config.Config.{Config}
 use Rattle.cb_types.specs.declared.order.Kept.{Kept}
 use Rattle.cb_rule.specs.declared.turn.Turn.{Turn}
 use Rattle.cb_rule.specs.declared.view.View.{View}
 use Rattle.cb_record.specs.Parts.{grown, keeps_after}
-use Rattle.cb_workers.specs.Bodies.{AddsTurns, turns_alone}
+use Rattle.cb_workers.specs.Bodies.{AddsTurns, AreCalls, turns_alone}
 use Rattle.cb_record.specs.Deeds.{Deed, deed}
 
 no_pin : (n : ℕ) → n ≡ n + 0
@@ -27,20 +28,29 @@ grown_twice v earlier later = λ i. record (grown (turns_alone earlier) v) {
   order = kept_twice later earlier v.order i;
 }
 
+-- calls, and calls behind them
+calls_twice : (c : Config) → (ds es : List Deed) → (v w u : View) → AreCalls c ds v w
+    → AreCalls c es w u → AreCalls c (es ++ ds) v u
+calls_twice c ds [] v w u some more = subst (λ (x : View). AreCalls c ds v x) (sym more) some
+calls_twice c ds (e ∷ es) v w u some (x, more, call) =
+    (x, calls_twice c ds es v w x some more, call)
+
 -- some, and some behind them
-pub both_added : (ds es : List Deed) → (v w u : View) → AddsTurns ds v w → AddsTurns es w u
-    → AddsTurns (es ++ ds) v u
-both_added ds es v w u d e = record {
+pub both_added : (c : Config) → (ds es : List Deed) → (v w u : View) → AddsTurns c ds v w
+    → AddsTurns c es w u → AddsTurns c (es ++ ds) v u
+both_added c ds es v w u d e = record {
   turns = e.turns ++ d.turns;
   are = map-append deed e.turns d.turns ∙ (λ i. e.are i ++ d.are i);
   grows = e.grows ∙ ap (λ x. grown (turns_alone e.turns) x) d.grows
       ∙ grown_twice v d.turns e.turns;
+  calls = calls_twice c ds es v w u d.calls e.calls;
 }
 
 -- no turn
-pub none_added : (v : View) → AddsTurns [] v v
-none_added v = record {
+pub none_added : (c : Config) → (v : View) → AddsTurns c [] v v
+none_added c v = record {
   turns = [];
   are = refl;
   grows = λ i. record v { ever = no_pin v.ever i };
+  calls = refl;
 }

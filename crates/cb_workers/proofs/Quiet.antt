@@ -53,12 +53,14 @@ freed_none work none (Ok answer.Freed) = none
 freed_none work none r = refl
 
 pub adds_turn : (c : Config) → (work : Job) → (r : Result Reply NoMemory) → (v w : View)
-    → IsOwed c.handles work → TurnBy c work r v w → AddsTurns (one_deed work (answer_of r)) v w
+    → IsOwed c.handles work → TurnBy c work r v w
+    → AddsTurns c (one_deed work (answer_of r)) v w
 adds_turn c work r v w owed (d, adds, grows) = record {
   turns = adds.turn ∷ [];
   are = λ i. record { job = adds.job_is i; reply = adds.reply_is i } ∷ [];
   grows = grows ∙ ap (λ made. with_own made (grown d v)) (q.made (answer_of r))
       ∙ ap (λ part. grown part v) alone;
+  calls = (v, refl, r, refl, d, adds, grows);
 }
   where
     q : IsQuietWork work

@@ -6,6 +6,7 @@ use Rattle.std.proofs.lemmas.Bool.{false≢true}
 use Rattle.std.proofs.lemmas.List.{map-append}
 use Rattle.std.proofs.lemmas.Option.{none-some}
 use Rattle.cb_member.specs.declared.no_memory.NoMemory.{NoMemory}
+use Rattle.cb_types.specs.declared.config.Config.{Config}
 use Rattle.cb_types.specs.declared.config.Field.TheVariants.{Handles}
 use Rattle.cb_types.specs.declared.job.Job.{Job}
 use Rattle.cb_types.specs.declared.job.Job.TheVariants as job
@@ -22,7 +23,7 @@ use Rattle.cb_shared.specs.Turning.{answer_of}
 use Rattle.cb_workers.specs.Rules.{after_batch, after_done, after_pair, end_of, first_job, next_job}
 use Rattle.cb_workers.specs.Rules.{owner, visited}
 use Rattle.cb_workers.specs.Work.{AnsweredTurn, IsOnly, deed_of, deeds_of, job_behind, lack_of}
-use Rattle.cb_workers.specs.Bodies.{AddsTurns, Cuts, EndsBegun, HandsOver, HasMade, HasOrder, IsEnd}
+use Rattle.cb_workers.specs.Bodies.{AddsTurns, AreCalls, Cuts, EndsBegun, HandsOver, HasMade, HasOrder, IsEnd}
 use Rattle.cb_workers.specs.Bodies.{IsOwed, IsStopped, IsWorked, Lacks, Steps, one_deed}
 use Rattle.cb_workers.specs.Bodies.{turns_alone}
 use Rattle.cb_workers.specs.declared.worker.Worker.{Worker}
@@ -71,14 +72,14 @@ behind_owed : (handles : ℕ) → (w : Worker) → (done : List AnsweredTurn) �
 behind_owed handles w [] some = first_owed handles w some
 behind_owed handles w (a ∷ earlier) some = next_owed handles w a.job a.reply some
 
-pub due_owed : (handles : ℕ) → (w : Worker) → (n : ℕ) → (due : Job) → (v u : View) → 0 < handles
-    → HasMade handles w n due v u → IsOwed handles due
-due_owed handles w n due v u some made =
-    subst (λ j. IsOwed handles j) (sym made.due_is) (behind_owed handles w made.done some)
+pub due_owed : (c : Config) → (w : Worker) → (n : ℕ) → (due : Job) → (v u : View) → 0 < c.handles
+    → HasMade c w n due v u → IsOwed c.handles due
+due_owed c w n due v u some made =
+    subst (λ j. IsOwed c.handles j) (sym made.due_is) (behind_owed c.handles w made.done some)
 
-pub due_own : (handles : ℕ) → (w : Worker) → (n : ℕ) → (due : Job) → (v u : View)
-    → HasMade handles w n due v u → owner due ≡ Some w
-due_own handles w n due v u made = ap (λ j. owner j) made.due_is ∙ behind_of handles w made.done
+pub due_own : (c : Config) → (w : Worker) → (n : ℕ) → (due : Job) → (v u : View)
+    → HasMade c w n due v u → owner due ≡ Some w
+due_own c w n due v u made = ap (λ j. owner j) made.due_is ∙ behind_of c.handles w made.done
 
 -- ---- the order of an install
 done_order : (done : Job) → (order : Option EncodeOrder) → (v : View)
@@ -129,53 +130,54 @@ next_order handles worker.Compact done r order v own hands = pair_order r order 
 next_order handles worker.Rebuild done r order v own hands = tt
 
 -- an install for which there was none made no turn
-pub install_lacked : (due : Job) → (r : Result Reply NoMemory) → (p q : Pass) → due ≡ job.Install
-    → OnErr r (q ≡ p) → OnErr r (AddsTurns (lack_of due) p.seat.me.0 q.seat.me.0)
-install_lacked due (Ok reply) p q is same = tt
-install_lacked due (Err e) p q is same =
-    subst (λ (x : Pass). AddsTurns (lack_of due) p.seat.me.0 x.seat.me.0) (sym same)
-    (subst (λ (j : Job). AddsTurns (lack_of j) p.seat.me.0 p.seat.me.0) (sym is)
-    (none_added p.seat.me.0))
+pub install_lacked : (c : Config) → (due : Job) → (r : Result Reply NoMemory) → (p q : Pass)
+    → due ≡ job.Install → OnErr r (q ≡ p) → OnErr r (AddsTurns c (lack_of due) p.seat.me.0 q.seat.me.0)
+install_lacked c due (Ok reply) p q is same = tt
+install_lacked c due (Err e) p q is same =
+    subst (λ (x : Pass). AddsTurns c (lack_of due) p.seat.me.0 x.seat.me.0) (sym same)
+    (subst (λ (j : Job). AddsTurns c (lack_of j) p.seat.me.0 p.seat.me.0) (sym is)
+    (none_added c p.seat.me.0))
 
 -- ---- a loop over the turns
 
 -- no turn was made yet
-pub none_made : (handles : ℕ) → (w : Worker) → (due : Job) → (v : View) → due ≡ first_job w
-    → HasMade handles w 0 due v v
-none_made handles w due v first = record {
+pub none_made : (c : Config) → (w : Worker) → (due : Job) → (v : View) → due ≡ first_job w
+    → HasMade c w 0 due v v
+none_made c w due v first = record {
   done = [];
   number = refl;
   are_due = tt;
   due_is = first;
-  adds = none_added v;
+  adds = none_added c v;
 }
 
 pub one_made : (handles : ℕ) → (w : Worker) → (n : ℕ) → (due new : Job) → (v u t : View)
-    → HasMade handles w n due v u → Steps handles w due new u t → HasMade handles w (n + 1) new v t
-one_made handles w n due new v u t made (reply, next, adds) = record {
+    → HasMade c w n due v u → Steps c w due new u t → HasMade c w (n + 1) new v t
+one_made c w n due new v u t made (reply, next, adds) = record {
   done = record { job = due; reply = reply } ∷ made.done;
   number = let e : length made.done ≡ n = made.number in omega (arith, e);
   are_due = (made.due_is, made.are_due);
   due_is = next;
-  adds = both_added (deeds_of made.done) (one_deed due (Some reply)) v u t made.adds adds;
+  adds = both_added c (deeds_of made.done) (one_deed due (Some reply)) v u t made.adds adds;
 }
 
-pub one_lacked : (handles : ℕ) → (w : Worker) → (n turns : ℕ) → (due new : Job) → (v u t : View)
-    → n < turns → HasMade handles w n due v u → Lacks due new u t → Cuts handles w turns new v t
-one_lacked handles w n turns due new v u t few made (same, adds) = record {
+pub one_lacked : (c : Config) → (w : Worker) → (n turns : ℕ) → (due new : Job) → (v u t : View)
+    → n < turns → HasMade c w n due v u → Lacks c due new u t → Cuts c w turns new v t
+one_lacked c w n turns due new v u t few made (same, adds) = record {
   done = made.done;
   fewer = subst (λ k. k < turns) (sym made.number) few;
   are_due = made.are_due;
   due_is = same ∙ made.due_is;
-  adds = subst (λ j. AddsTurns (lack_of j ++ deeds_of made.done) v t) (sym same)
-      (both_added (deeds_of made.done) (lack_of due) v u t made.adds adds);
+  adds = subst (λ j. AddsTurns c (lack_of j ++ deeds_of made.done) v t) (sym same)
+      (both_added c (deeds_of made.done) (lack_of due) v u t made.adds adds);
 }
 
 -- ---- the end
-pub all_worked : (handles : ℕ) → (w : Worker) → (turns : ℕ) → (due : Job) → (v u t : View)
-    → HasMade handles w turns due v u → EndsBegun due u t
-    → (d : Part) × IsWorked handles w turns d × Grows v d t
-all_worked handles w turns due v u t made (ending, only, adds) = (
+pub all_worked : (c : Config) → (w : Worker) → (turns : ℕ) → (due : Job) → (v u t : View)
+    → HasMade c w turns due v u → EndsBegun c due u t
+    → (d : Part) × IsWorked c.handles w turns d × Grows v d t
+    × AreCalls c (map deed d.turns) v t
+all_worked c w turns due v u t made (ending, only, adds) = (
   turns_alone all.turns,
   record {
     done = made.done;
@@ -189,15 +191,17 @@ all_worked handles w turns due v u t made (ending, only, adds) = (
     alone = refl;
   },
   all.grows,
+  subst (λ ds. AreCalls c ds v t) (sym all.are) all.calls,
 )
   where
-    all : AddsTurns (deeds_of ending ++ deeds_of made.done) v t
-    all = both_added (deeds_of made.done) (deeds_of ending) v u t made.adds adds
+    all : AddsTurns c (deeds_of ending ++ deeds_of made.done) v t
+    all = both_added c (deeds_of made.done) (deeds_of ending) v u t made.adds adds
 
-pub all_stopped : (handles : ℕ) → (w : Worker) → (turns : ℕ) → (due : Job) → (v u t : View)
-    → Cuts handles w turns due v u → EndsBegun due u t
-    → (d : Part) × IsStopped handles w turns d × Grows v d t
-all_stopped handles w turns due v u t cut (ending, only, adds) = (
+pub all_stopped : (c : Config) → (w : Worker) → (turns : ℕ) → (due : Job) → (v u t : View)
+    → Cuts c w turns due v u → EndsBegun c due u t
+    → (d : Part) × IsStopped c.handles w turns d × Grows v d t
+    × AreCalls c (map deed d.turns) v t
+all_stopped c w turns due v u t cut (ending, only, adds) = (
   turns_alone all.turns,
   record {
     done = cut.done;
@@ -212,26 +216,27 @@ all_stopped handles w turns due v u t cut (ending, only, adds) = (
     alone = refl;
   },
   all.grows,
+  subst (λ ds. AreCalls c ds v t) (sym all.are) all.calls,
 )
   where
-    all : AddsTurns (deeds_of ending ++ (lack_of due ++ deeds_of cut.done)) v t
-    all = both_added (lack_of due ++ deeds_of cut.done) (deeds_of ending) v u t cut.adds adds
+    all : AddsTurns c (deeds_of ending ++ (lack_of due ++ deeds_of cut.done)) v t
+    all = both_added c (lack_of due ++ deeds_of cut.done) (deeds_of ending) v u t cut.adds adds
 
 -- ---- one end
 
-pub one_ended : (due last : Job) → (reply : Reply) → (v u : View) → end_of due ≡ Some last
-    → AddsTurns (one_deed last (Some reply)) v u → EndsBegun due v u
-one_ended due last reply v u some adds = (
+pub one_ended : (c : Config) → (due last : Job) → (reply : Reply) → (v u : View)
+    → end_of due ≡ Some last → AddsTurns c (one_deed last (Some reply)) v u → EndsBegun c due v u
+one_ended c due last reply v u some adds = (
   record { job = last; reply = reply } ∷ [],
   subst (λ o. IsOnly o (record { job = last; reply = reply } ∷ [])) (sym some) (reply, refl),
   adds,
 )
 
-pub none_ended : (due : Job) → (v : View) → end_of due ≡ None → EndsBegun due v v
-none_ended due v none = (
+pub none_ended : (c : Config) → (due : Job) → (v : View) → end_of due ≡ None → EndsBegun c due v v
+none_ended c due v none = (
   [],
   subst (λ o. IsOnly o []) (sym none) refl,
-  none_added v,
+  none_added c v,
 )
 
 -- a job that ends something is an abort or a parting
@@ -249,11 +254,11 @@ is_end job.Merge last e = subst IsSomeEnd e tt
 is_end job.Part last e = subst IsSomeEnd e tt
 is_end due last e = absurd (none-some last e)
 
-pub end_answered : (due last : Job) → (r : Result Reply NoMemory) → (v u : View)
+pub end_answered : (c : Config) → (due last : Job) → (r : Result Reply NoMemory) → (v u : View)
     → end_of due ≡ Some last → (IsEnd last → IsOk r)
-    → AddsTurns (one_deed last (answer_of r)) v u → EndsBegun due v u
-end_answered due last (Ok reply) v u some ok adds = one_ended due last reply v u some adds
-end_answered due last (Err e) v u some ok adds = absurd (false≢true (ok (is_end due last some)))
+    → AddsTurns c (one_deed last (answer_of r)) v u → EndsBegun c due v u
+end_answered c due last (Ok reply) v u some ok adds = one_ended c due last reply v u some adds
+end_answered c due last (Err e) v u some ok adds = absurd (false≢true (ok (is_end due last some)))
 
 -- ---- one pass of one runtime
 pub some_handles : (s : Shared) → (p : Pass) → IsPassOf s p → 0 < s.config.handles

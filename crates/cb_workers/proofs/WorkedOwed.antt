@@ -1,6 +1,7 @@
 -- Worked jobs of workers: whose each job is, which are owed and which end a batch or a pair; and a
 -- work that was cut short, with one part broken alone.
 use Rattle.std.proofs.Common.{◌≡◌, ℕ, [], ◌∷◌, length, None, Some, refl, sym, ap, ◌∙◌, subst, arith}
+use Rattle.cb_types.specs.declared.config.Config.{Config}
 use Rattle.cb_types.specs.declared.job.Job.{Job}
 use Rattle.cb_types.specs.declared.job.Job.TheVariants as job
 use Rattle.cb_types.specs.declared.reply.Reply.TheVariants as answer
@@ -86,8 +87,8 @@ stopped_and_written s far e w =
     let same : 1 ≡ 0 = ap (λ (d : Part). length d.written) w.alone in omega (arith, same)
 
 -- the turn before the one that found no memory was not due
-shipped_first : (n : ℕ) (due : Job) (v u : View) (c : Cuts 8 worker.Evict n due v u)
+shipped_first : (g : Config) (n : ℕ) (due : Job) (v u : View) (c : Cuts g worker.Evict n due v u)
     → (a : AnsweredTurn) → a.job ≡ job.Ship → c.done ≡ a ∷ [] → ⊥
-shipped_first n due v u c a ships one =
-    let are = subst (AreDue 8 worker.Evict) one c.are_due in
+shipped_first g n due v u c a ships one =
+    let are = subst (AreDue g.handles worker.Evict) one c.are_due in
     let e : 8 ≡ 19 = ap job_index (sym ships ∙ are.0) in omega (arith, e)

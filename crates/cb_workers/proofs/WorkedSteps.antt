@@ -3,21 +3,23 @@
 use Rattle.std.proofs.Common.{◌≡◌, ℕ, suc, ◌+◌, ◌<◌, List, [], ◌∷◌, ◌++◌, length, map, Option, None}
 use Rattle.std.proofs.Common.{Some, refl, sym, ap, ◌∙◌, subst, lit<, arith}
 use Rattle.std.proofs.lemmas.List.{length-append, length-map}
+use Rattle.cb_types.specs.declared.config.Config.{Config}
 use Rattle.cb_types.specs.declared.job.Job.{Job}
 use Rattle.cb_types.specs.declared.job.Job.TheVariants as job
 use Rattle.cb_types.specs.declared.reply.Reply.{Reply}
 use Rattle.cb_types.specs.declared.reply.Reply.TheVariants as answer
 use Rattle.cb_types.specs.Jobs.{job_index}
+use Rattle.cb_world.specs.declared.entry.Entry.{Entry}
 use Rattle.cb_world.specs.declared.shown.Shown.{Shown}
 use Rattle.cb_world.specs.FarState.{FarState}
 use Rattle.cb_rule.specs.declared.turn.Turn.{Turn}
 use Rattle.cb_rule.specs.declared.view.View.{View}
 use Rattle.cb_record.specs.Deeds.{Deed, deed}
-use Rattle.cb_record.specs.Parts.{Grows, grown, nothing_more}
+use Rattle.cb_record.specs.Parts.{Grows, Part, grown, nothing_more}
 use Rattle.cb_shared.specs.declared.pass.Pass.{Pass}
 use Rattle.cb_shared.specs.declared.runtime.Shared.{Shared}
 use Rattle.cb_shared.specs.Passes.{IsPassOf}
-use Rattle.cb_workers.specs.Bodies.{AddsTurns, Cuts, EndsBegun, HasMade, IsStopped, IsWorked, Lacks}
+use Rattle.cb_workers.specs.Bodies.{AddsTurns, AreCalls, Cuts, EndsBegun, HasMade, IsStopped, IsWorked, Lacks}
 use Rattle.cb_workers.specs.Bodies.{Steps, WorkerStops, WorkerWorks, one_deed, turns_alone}
 use Rattle.cb_workers.specs.Rules.{after_visit, next_visit, visit, visited}
 use Rattle.cb_workers.specs.Work.{AnsweredTurn, AreDue, IsOnly, deed_of, deeds_of, job_behind}
@@ -61,8 +63,8 @@ a_turn_without_a_job o =
 
 -- ---- a record that grew by turns alone
 -- by so many as are told
-count_added : (ds : List Deed) (ts : List Turn) (v : View)
-    → AddsTurns ds v (grown (turns_alone ts) v) → length ds ≡ length ts
+count_added : {c : Config} (ds : List Deed) (ts : List Turn) (v : View)
+    → AddsTurns c ds v (grown (turns_alone ts) v) → length ds ≡ length ts
 count_added ds ts v x =
     let told : length (map deed x.turns) ≡ length ds = ap (λ (es : List Deed). length es) x.are in
     let all : length (ts ++ v.turns) ≡ length (x.turns ++ v.turns) =
@@ -82,8 +84,8 @@ deed_in d [] = d
 deed_in d (e ∷ es) = e
 
 -- and where it is one, it is that
-one_added : (d : Deed) (t : Turn) (v : View)
-    → AddsTurns (d ∷ []) v (grown (turns_alone (t ∷ [])) v) → deed t ≡ d
+one_added : {c : Config} (d : Deed) (t : Turn) (v : View)
+    → AddsTurns c (d ∷ []) v (grown (turns_alone (t ∷ [])) v) → deed t ≡ d
 one_added d t v x = go x.turns x.are (ap (λ (w : View). w.turns) x.grows)
   where
     go : (ts : List Turn) → map deed ts ≡ d ∷ [] → t ∷ v.turns ≡ ts ++ v.turns → deed t ≡ d
@@ -104,7 +106,7 @@ answered (Some r) = 1
 abbrev has_reply : Deed → ℕ
 has_reply d = answered d.reply
 
-module _ (s : Shown) (far : FarState) (v : View) where
+module _ (c : Config) (s : Shown) (far : FarState) (v : View) where
   abbrev did : Job → Reply → Turn
   did work reply = turn s far work (Some reply)
 
@@ -117,148 +119,174 @@ module _ (s : Shown) (far : FarState) (v : View) where
   abbrev begins : Turn
   begins = did job.Gather batch
 
-  adds_one : AddsTurns (one_deed job.Gather (Some batch)) v (with_turns (begins ∷ []))
-  adds_one = record { turns = begins ∷ []; are = refl; grows = refl }
+  -- the turn is one that `turn` makes
+  abbrev Gathers : Type 0
+  Gathers = AreCalls c (one_deed job.Gather (Some batch)) v (with_turns (begins ∷ []))
 
-  adds_none : AddsTurns [] v (with_turns [])
-  adds_none = record { turns = []; are = refl; grows = refl }
+  adds_one : Gathers → AddsTurns c (one_deed job.Gather (Some batch)) v (with_turns (begins ∷ []))
+  adds_one calls = record { turns = begins ∷ []; are = refl; grows = refl; calls = calls }
 
-  adds_another : AddsTurns (one_deed job.Gather (Some batch)) v
+  adds_none : AddsTurns c [] v (with_turns [])
+  adds_none = record { turns = []; are = refl; grows = refl; calls = λ i. record v { ever = no_more i } }
+    where
+      no_more : v.ever + 0 ≡ v.ever
+      no_more = omega arith
+
+  -- it is not, where it notes no entry and the record has one
+  adds_no_call : (e : Entry) → v.written ≡ e ∷ []
+      → AddsTurns c (one_deed job.Gather (Some batch)) v (with_turns (begins ∷ [])) → ⊥
+  adds_no_call e some x = by x.calls
+    where
+      by : Gathers → ⊥
+      by (u, same, r, is, d, adds, grows) =
+          let begun_is : begins ∷ v.turns ≡ adds.turn ∷ u.turns =
+          ap (λ (w : View). w.turns) grows ∙ ap (λ (p : Part). p.turns ++ u.turns) adds.part in
+          let had : [] ≡ v.written = ap (λ (ts : List Turn). (turn_in begins ts).had) begun_is
+          ∙ adds.notes.had ∙ ap (λ (w : View). w.written) same in
+          let e : 0 ≡ 1 = ap (λ (es : List Entry). length es) (had ∙ some) in omega (arith, e)
+
+  adds_another : AddsTurns c (one_deed job.Gather (Some batch)) v
       (with_turns (did job.Ship batch ∷ [])) → ⊥
   adds_another x = let e : 8 ≡ 19 = ap of_job (one_added _ _ v x) in omega (arith, e)
 
-  adds_nothing : AddsTurns (one_deed job.Gather (Some batch)) v (with_turns []) → ⊥
+  adds_nothing : AddsTurns c (one_deed job.Gather (Some batch)) v (with_turns []) → ⊥
   adds_nothing x = let e : 1 ≡ 0 = count_added _ [] v x in omega (arith, e)
 
   -- and a pin
-  adds_more : AddsTurns (one_deed job.Gather (Some batch)) v
+  adds_more : AddsTurns c (one_deed job.Gather (Some batch)) v
       (record (with_turns (begins ∷ [])) { ever = v.ever + 1 }) → ⊥
   adds_more x = let e : v.ever + 1 ≡ v.ever + 0 = ap (λ (w : View). w.ever) x.grows in
       omega (arith, e)
 
   -- ---- a turn, behind which another one is due
-  steps : Steps 8 worker.Evict job.Gather job.Install v (with_turns (begins ∷ []))
-  steps = (batch, refl, adds_one)
+  steps : Gathers → Steps c worker.Evict job.Gather job.Install v (with_turns (begins ∷ []))
+  steps calls = (batch, refl, adds_one calls)
 
-  steps_to_another : (u : View) → Steps 8 worker.Rebuild job.Rebuild job.Gather v u → ⊥
+  steps_to_another : (u : View) → Steps c worker.Rebuild job.Rebuild job.Gather v u → ⊥
   steps_to_another u x = let e : 19 ≡ 16 = ap job_index x.1 in omega (arith, e)
 
-  steps_without : Steps 8 worker.Rebuild job.Rebuild job.Rebuild v (with_turns []) → ⊥
+  steps_without : Steps c worker.Rebuild job.Rebuild job.Rebuild v (with_turns []) → ⊥
   steps_without x = let e : 1 ≡ 0 = count_added _ [] v x.2 in omega (arith, e)
 
   -- ---- a turn that found no memory
   abbrev lacks_begin : Turn
   lacks_begin = turn s far job.Gather None
 
-  lacks : Lacks job.Gather job.Gather v (with_turns (lacks_begin ∷ []))
-  lacks = (refl, record { turns = lacks_begin ∷ []; are = refl; grows = refl })
+  abbrev Lacking : Type 0
+  Lacking = AreCalls c (one_deed job.Gather None) v (with_turns (lacks_begin ∷ []))
+
+  lacks : Lacking → Lacks c job.Gather job.Gather v (with_turns (lacks_begin ∷ []))
+  lacks calls =
+      (refl, record { turns = lacks_begin ∷ []; are = refl; grows = refl; calls = calls })
 
   -- nothing is left where there was none to run the order of an install
-  lacks_before : Lacks job.Install job.Install v (with_turns [])
+  lacks_before : Lacks c job.Install job.Install v (with_turns [])
   lacks_before = (refl, adds_none)
 
-  lacks_an_install : Lacks job.Install job.Install v (with_turns (turn s far job.Install None ∷ []))
+  lacks_an_install : Lacks c job.Install job.Install v (with_turns (turn s far job.Install None ∷ []))
       → ⊥
   lacks_an_install x =
       let e : 0 ≡ 1 = count_added _ (turn s far job.Install None ∷ []) v x.1 in omega (arith, e)
 
-  lacks_and_goes_on : (u : View) → Lacks job.Gather job.Ship v u → ⊥
+  lacks_and_goes_on : (u : View) → Lacks c job.Gather job.Ship v u → ⊥
   lacks_and_goes_on u x = let e : 8 ≡ 19 = ap job_index x.0 in omega (arith, e)
 
-  lacks_nothing : Lacks job.Gather job.Gather v (with_turns (begins ∷ [])) → ⊥
+  lacks_nothing : Lacks c job.Gather job.Gather v (with_turns (begins ∷ [])) → ⊥
   lacks_nothing x = let e : 1 ≡ 0 = ap has_reply (one_added _ _ v x.1) in omega (arith, e)
 
   -- ---- the end of what was begun
-  ends : EndsBegun job.Ship v (with_turns (did job.Abort answer.Done ∷ []))
-  ends = (
+  ends : AreCalls c (one_deed job.Abort (Some answer.Done)) v
+      (with_turns (did job.Abort answer.Done ∷ []))
+      → EndsBegun c job.Ship v (with_turns (did job.Abort answer.Done ∷ []))
+  ends calls = (
     aborted ∷ [],
     one_abort,
-    record { turns = did job.Abort answer.Done ∷ []; are = refl; grows = refl },
+    record { turns = did job.Abort answer.Done ∷ []; are = refl; grows = refl; calls = calls },
   )
 
-  ends_nothing : EndsBegun job.Gather v (with_turns [])
+  ends_nothing : EndsBegun c job.Gather v (with_turns [])
   ends_nothing = ([], refl, adds_none)
 
-  left_open : EndsBegun job.Ship v (with_turns []) → ⊥
+  left_open : EndsBegun c job.Ship v (with_turns []) → ⊥
   left_open x = let one : length x.0 ≡ 1 = ap (λ (xs : List AnsweredTurn). length xs) x.1.1 in
       let none : length (deeds_of x.0) ≡ 0 = count_added _ [] v x.2 in
       omega (arith, one, none, length-map x.0 deed_of)
 
-  ends_without_need : EndsBegun job.Gather v (with_turns (did job.Abort answer.Done ∷ [])) → ⊥
+  ends_without_need : EndsBegun c job.Gather v (with_turns (did job.Abort answer.Done ∷ [])) → ⊥
   ends_without_need x = let none : length x.0 ≡ 0 =
       ap (λ (xs : List AnsweredTurn). length xs) x.1 in
       let one : length (deeds_of x.0) ≡ 1 = count_added _ (did job.Abort answer.Done ∷ []) v x.2 in
       omega (arith, one, none, length-map x.0 deed_of)
 
-  ends_by_a_commit : EndsBegun job.Ship v (with_turns (did job.Commit answer.Done ∷ [])) → ⊥
-  ends_by_a_commit x = let adds = subst (λ (xs : List AnsweredTurn). AddsTurns (deeds_of xs) v
+  ends_by_a_commit : EndsBegun c job.Ship v (with_turns (did job.Commit answer.Done ∷ [])) → ⊥
+  ends_by_a_commit x = let adds = subst (λ (xs : List AnsweredTurn). AddsTurns c (deeds_of xs) v
       (with_turns (did job.Commit answer.Done ∷ []))) x.1.1 x.2 in
       let e : 9 ≡ 10 = ap of_job (one_added _ _ v adds) in omega (arith, e)
 
   -- ---- so many turns
-  has_made : HasMade 8 worker.Evict 1 job.Install v (with_turns (begins ∷ []))
-  has_made = record {
+  has_made : Gathers → HasMade c worker.Evict 1 job.Install v (with_turns (begins ∷ []))
+  has_made calls = record {
     done = begun ∷ [];
     number = refl;
     are_due = (refl, tt);
     due_is = refl;
-    adds = adds_one;
+    adds = adds_one calls;
   }
 
-  made_too_few : (due : Job) → HasMade 8 worker.Evict 2 due v (with_turns (begins ∷ [])) → ⊥
+  made_too_few : (due : Job) → HasMade c worker.Evict 2 due v (with_turns (begins ∷ [])) → ⊥
   made_too_few due h = let two = h.number in
       let one : length (deeds_of h.done) ≡ 1 = count_added _ (begins ∷ []) v h.adds in
       omega (arith, two, one, length-map h.done deed_of)
 
   -- the worker that rebuilds has one job
-  rebuilds_alone : (done : List AnsweredTurn) → job_behind 8 worker.Rebuild done ≡ job.Rebuild
+  rebuilds_alone : (done : List AnsweredTurn) → job_behind c.handles worker.Rebuild done ≡ job.Rebuild
   rebuilds_alone [] = refl
   rebuilds_alone (a ∷ earlier) = refl
 
-  made_and_due_another : (n : ℕ) (u : View) → HasMade 8 worker.Rebuild n job.Gather v u → ⊥
+  made_and_due_another : (n : ℕ) (u : View) → HasMade c worker.Rebuild n job.Gather v u → ⊥
   made_and_due_another n u h = let e : 19 ≡ 16 =
       ap job_index (h.due_is ∙ rebuilds_alone h.done) in omega (arith, e)
 
   -- the first turn was not due
-  shipped_first : (due : Job) → HasMade 8 worker.Evict 1 due v
+  shipped_first : (due : Job) → HasMade c worker.Evict 1 due v
       (with_turns (did job.Ship (answer.Shipped 0) ∷ [])) → ⊥
   shipped_first due h = go h.done h.number h.are_due h.adds
     where
-      go : (done : List AnsweredTurn) → length done ≡ 1 → AreDue 8 worker.Evict done
-          → AddsTurns (deeds_of done) v (with_turns (did job.Ship (answer.Shipped 0) ∷ [])) → ⊥
+      go : (done : List AnsweredTurn) → length done ≡ 1 → AreDue c.handles worker.Evict done
+          → AddsTurns c (deeds_of done) v (with_turns (did job.Ship (answer.Shipped 0) ∷ [])) → ⊥
       go [] one are adds = omega (arith, one)
       go (a ∷ []) one are adds = let e : 8 ≡ 19 =
           ap of_job (one_added _ _ v adds) ∙ ap job_index are.0 in omega (arith, e)
       go (a ∷ b ∷ earlier) one are adds = omega (arith, one)
 
   -- what is due, and no turn more
-  made_another : (due : Job) → HasMade 8 worker.Evict 0 due v (with_turns (begins ∷ [])) → ⊥
+  made_another : (due : Job) → HasMade c worker.Evict 0 due v (with_turns (begins ∷ [])) → ⊥
   made_another due h = let none = h.number in
       let one : length (deeds_of h.done) ≡ 1 = count_added _ (begins ∷ []) v h.adds in
       omega (arith, none, one, length-map h.done deed_of)
 
   -- ---- fewer turns, behind which one found no memory
-  cuts : Cuts 8 worker.Evict 1 job.Gather v (with_turns (lacks_begin ∷ []))
-  cuts = record {
+  cuts : Lacking → Cuts c worker.Evict 1 job.Gather v (with_turns (lacks_begin ∷ []))
+  cuts calls = record {
     done = [];
     fewer = lit< tt;
     are_due = tt;
     due_is = refl;
-    adds = record { turns = lacks_begin ∷ []; are = refl; grows = refl };
+    adds = record { turns = lacks_begin ∷ []; are = refl; grows = refl; calls = calls };
   }
 
-  cuts_no_turn : (u : View) → Cuts 8 worker.Evict 0 job.Gather v u → ⊥
+  cuts_no_turn : (u : View) → Cuts c worker.Evict 0 job.Gather v u → ⊥
   cuts_no_turn u x = let few = x.fewer in omega (arith, few)
 
-  cuts_another : (n : ℕ) (u : View) → Cuts 8 worker.Rebuild n job.Gather v u → ⊥
+  cuts_another : (n : ℕ) (u : View) → Cuts c worker.Rebuild n job.Gather v u → ⊥
   cuts_another n u x = let e : 19 ≡ 16 =
       ap job_index (x.due_is ∙ rebuilds_alone x.done) in omega (arith, e)
 
-  cuts_with_memory : Cuts 8 worker.Evict 1 job.Gather v (with_turns (begins ∷ [])) → ⊥
+  cuts_with_memory : Cuts c worker.Evict 1 job.Gather v (with_turns (begins ∷ [])) → ⊥
   cuts_with_memory x = go x.done x.fewer x.adds
     where
       go : (done : List AnsweredTurn) → length done < 1
-          → AddsTurns (lack_of job.Gather ++ deeds_of done) v (with_turns (begins ∷ [])) → ⊥
+          → AddsTurns c (lack_of job.Gather ++ deeds_of done) v (with_turns (begins ∷ [])) → ⊥
       go [] few adds = let e : 1 ≡ 0 = ap has_reply (one_added _ _ v adds) in omega (arith, e)
       go (a ∷ earlier) few adds = omega (arith, few)
 
@@ -266,14 +294,16 @@ module _ (s : Shown) (far : FarState) (v : View) where
 module _ (s : Shared) (p q : Pass) (known : Shown) (far : FarState) where
   pass_works : IsPassOf s q → s.config.handles ≡ 8
       → Grows p.seat.me.0 (turns_alone (two_turns known far)) q.seat.me.0
+      → AreCalls s.config (map deed (two_turns known far)) p.seat.me.0 q.seat.me.0
       → WorkerWorks s worker.Evict 1 p q
-  pass_works of eight grows = (
+  pass_works of eight grows calls = (
     of,
     (
       turns_alone (two_turns known far),
       subst (λ (n : ℕ). IsWorked n worker.Evict 1 (turns_alone (two_turns known far)))
           (sym eight) (works known far),
       grows,
+      calls,
     ),
   )
 
@@ -285,7 +315,7 @@ module _ (s : Shared) (p q : Pass) (known : Shown) (far : FarState) where
   works_not as_before w =
       let d = w.1.0 in let k = w.1.1 in
       let same : length p.seat.me.0.turns ≡ length (d.turns ++ p.seat.me.0.turns) =
-      ap (λ (u : View). length u.turns) (sym as_before ∙ w.1.2) in
+      ap (λ (u : View). length u.turns) (sym as_before ∙ w.1.2.0) in
       let one : length k.done ≡ 1 = k.work.number in
       let are : length (map deed d.turns) ≡ length (deeds_of (k.ending ++ k.done)) =
       ap (λ (xs : List Deed). length xs) k.work.are in
@@ -302,14 +332,16 @@ module _ (s : Shared) (p q : Pass) (known : Shown) (far : FarState) where
 
   pass_stops : IsPassOf s q → s.config.handles ≡ 8
       → Grows p.seat.me.0 (turns_alone (cut_turns known far)) q.seat.me.0
+      → AreCalls s.config (map deed (cut_turns known far)) p.seat.me.0 q.seat.me.0
       → WorkerStops s worker.Evict 3 p q
-  pass_stops of eight grows = (
+  pass_stops of eight grows calls = (
     of,
     (
       turns_alone (cut_turns known far),
       subst (λ (n : ℕ). IsStopped n worker.Evict 3 (turns_alone (cut_turns known far))) (sym eight)
           (stopped known far),
       grows,
+      calls,
     ),
   )
 
@@ -320,7 +352,7 @@ module _ (s : Shared) (p q : Pass) (known : Shown) (far : FarState) where
   stops_not as_before w =
       let d = w.1.0 in let k = w.1.1 in
       let same : length p.seat.me.0.turns ≡ length (d.turns ++ p.seat.me.0.turns) =
-      ap (λ (u : View). length u.turns) (sym as_before ∙ w.1.2) in
+      ap (λ (u : View). length u.turns) (sym as_before ∙ w.1.2.0) in
       let none : length d.turns ≡ 0 =
       omega (arith, same, length-append d.turns p.seat.me.0.turns) in
       nothing_left _ k.ending k.done k.work.ends (sym (bare d.turns none) ∙ k.work.are)

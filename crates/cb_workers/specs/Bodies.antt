@@ -1,5 +1,7 @@
 -- What the body of a worker adds to the record of its pass.
-use Rattle.std.specs.Prelude.{◌≡◌, ℕ, ◌<◌, List, [], ◌∷◌, ◌++◌, length, map, Option, Some}
+use Rattle.std.specs.Prelude.{◌≡◌, ℕ, ◌<◌, List, [], ◌∷◌, ◌++◌, length, map, Option, Some, Result}
+use Rattle.cb_member.specs.declared.no_memory.NoMemory.{NoMemory}
+use Rattle.cb_types.specs.declared.config.Config.{Config}
 use Rattle.cb_types.specs.declared.handle.SetId.{SetId}
 use Rattle.cb_types.specs.declared.job.Job.{Job}
 use Rattle.cb_types.specs.declared.job.Job.TheVariants as job
@@ -14,6 +16,7 @@ use Rattle.cb_shared.specs.declared.pass.Pass.{Pass}
 use Rattle.cb_shared.specs.declared.runtime.Shared.{Shared}
 use Rattle.cb_record.specs.Parts.{Grows, Part, nothing_more}
 use Rattle.cb_shared.specs.Passes.{IsPassOf}
+use Rattle.cb_shared.specs.Turning.{TurnBy, answer_of}
 use Rattle.cb_workers.specs.Rules.{end_of, next_job, owner}
 use Rattle.cb_record.specs.Deeds.{Deed, deed}
 use Rattle.cb_workers.specs.Work.{AnsweredTurn, AreDue, IsCutShort, IsOnly, IsWork, deeds_of}
@@ -25,6 +28,16 @@ use Rattle.cb_workers.specs.declared.worker.Worker.TheVariants as worker
 -- beside those of the turns
 abbrev pub turns_alone : List Turn → Part
 turns_alone turns = record nothing_more { turns = turns }
+
+-- a call of `turn` with this job, so answered: all that it says of the record before it and behind
+-- it
+abbrev pub IsCall : Config → Deed → View → View → Type 0
+IsCall c d v w = (r : Result Reply NoMemory) × (d.reply ≡ answer_of r) × TurnBy c d.job r v w
+
+-- such calls, the newest first, each on the record that the one before it left
+abbrev pub AreCalls : Config → List Deed → View → View → Type 0
+AreCalls c [] v w = w ≡ v
+AreCalls c (d ∷ earlier) v w = (u : View) × AreCalls c earlier v u × IsCall c d u w
 
 -- the work of a worker, as a part of the record of its pass
 pub record IsWorked (handles : ℕ) (w : Worker) (turns : ℕ) (d : Part) : Type 0 where
@@ -43,11 +56,13 @@ pub record IsStopped (handles : ℕ) (w : Worker) (turns : ℕ) (d : Part) : Typ
 -- the pass is one of the runtime, and its record grew by such work
 abbrev pub WorkerWorks : Shared → Worker → ℕ → Pass → Pass → Type 0
 WorkerWorks s w turns p q = IsPassOf s q × ((d : Part) × IsWorked s.config.handles w turns d
-    × Grows p.seat.me.0 d q.seat.me.0)
+    × Grows p.seat.me.0 d q.seat.me.0
+    × AreCalls s.config (map deed d.turns) p.seat.me.0 q.seat.me.0)
 
 abbrev pub WorkerStops : Shared → Worker → ℕ → Pass → Pass → Type 0
 WorkerStops s w turns p q = IsPassOf s q × ((d : Part) × IsStopped s.config.handles w turns d
-    × Grows p.seat.me.0 d q.seat.me.0)
+    × Grows p.seat.me.0 d q.seat.me.0
+    × AreCalls s.config (map deed d.turns) p.seat.me.0 q.seat.me.0)
 
 -- ---- parts of the work
 -- a worker's turn may have such a job
@@ -71,44 +86,45 @@ IsEnd job.Abort = Unit {0}
 IsEnd job.Part = Unit {0}
 IsEnd other = ⊥
 
--- the record grew by turns alone, with these jobs and replies
-pub record AddsTurns (deeds : List Deed) (v w : View) : Type 0 where
+-- the record grew by turns alone, with these jobs and replies, each by a call of `turn`
+pub record AddsTurns (c : Config) (deeds : List Deed) (v w : View) : Type 0 where
   pub turns : List Turn
   pub are : map deed turns ≡ deeds
   pub grows : Grows v (turns_alone turns) w
+  pub calls : AreCalls c deeds v w
 
 abbrev pub one_deed : Job → Option Reply → List Deed
 one_deed job reply = record { job = job; reply = reply } ∷ []
 
 -- a turn with the job that was due, behind which another one is due
-abbrev pub Steps : ℕ → Worker → Job → Job → View → View → Type 0
-Steps handles w old new v u = (reply : Reply) × (new ≡ next_job handles w old reply)
-    × AddsTurns (one_deed old (Some reply)) v u
+abbrev pub Steps : Config → Worker → Job → Job → View → View → Type 0
+Steps c w old new v u = (reply : Reply) × (new ≡ next_job c.handles w old reply)
+    × AddsTurns c (one_deed old (Some reply)) v u
 
 -- there was no memory for the job that is due
-abbrev pub Lacks : Job → Job → View → View → Type 0
-Lacks old new v u = (new ≡ old) × AddsTurns (lack_of old) v u
+abbrev pub Lacks : Config → Job → Job → View → View → Type 0
+Lacks c old new v u = (new ≡ old) × AddsTurns c (lack_of old) v u
 
 -- what was begun is ended, where this job would go on with it
-abbrev pub EndsBegun : Job → View → View → Type 0
-EndsBegun due v u = (ending : List AnsweredTurn) × IsOnly (end_of due) ending
-    × AddsTurns (deeds_of ending) v u
+abbrev pub EndsBegun : Config → Job → View → View → Type 0
+EndsBegun c due v u = (ending : List AnsweredTurn) × IsOnly (end_of due) ending
+    × AddsTurns c (deeds_of ending) v u
 
 -- so many turns were made, and this job is due
-pub record HasMade (handles : ℕ) (w : Worker) (n : ℕ) (due : Job) (v u : View) : Type 0 where
+pub record HasMade (c : Config) (w : Worker) (n : ℕ) (due : Job) (v u : View) : Type 0 where
   pub done : List AnsweredTurn
   pub number : length done ≡ n
-  pub are_due : AreDue handles w done
-  pub due_is : due ≡ job_behind handles w done
-  pub adds : AddsTurns (deeds_of done) v u
+  pub are_due : AreDue c.handles w done
+  pub due_is : due ≡ job_behind c.handles w done
+  pub adds : AddsTurns c (deeds_of done) v u
 
 -- fewer turns were made, and there was no memory for the job that is due
-pub record Cuts (handles : ℕ) (w : Worker) (n : ℕ) (due : Job) (v u : View) : Type 0 where
+pub record Cuts (c : Config) (w : Worker) (n : ℕ) (due : Job) (v u : View) : Type 0 where
   pub done : List AnsweredTurn
   pub fewer : length done < n
-  pub are_due : AreDue handles w done
-  pub due_is : due ≡ job_behind handles w done
-  pub adds : AddsTurns (lack_of due ++ deeds_of done) v u
+  pub are_due : AreDue c.handles w done
+  pub due_is : due ≡ job_behind c.handles w done
+  pub adds : AddsTurns c (lack_of due ++ deeds_of done) v u
 
 -- ---- the order of a batch
 -- an order is at hand that can be run, and the record keeps it

@@ -75,9 +75,9 @@ fn make_turns<R: Wait, G: Gate>(
     requires of { IsPassOf shared.now pass.old }
     requires first { due.old ≡ first_job worker }
     ensures of { IsPassOf shared.now pass.new }
-    ensures made { IfOk result (λ _. HasMade shared.now.config.handles worker turns due.new
+    ensures made { IfOk result (λ _. HasMade shared.now.config worker turns due.new
         pass.old.seat.me.0 pass.new.seat.me.0) }
-    ensures cut { OnErr result (Cuts shared.now.config.handles worker turns due.new
+    ensures cut { OnErr result (Cuts shared.now.config worker turns due.new
         pass.old.seat.me.0 pass.new.seat.me.0) }
 {
     let mut order = None;
@@ -105,9 +105,9 @@ fn step<R: Wait>(
     requires order { HasOrder due.old order.old pass.old.seat.me.0 }
     ensures of { IsPassOf shared.now pass.new }
     ensures order { IfOk result (λ _. HasOrder due.new order.new pass.new.seat.me.0) }
-    ensures steps { IfOk result (λ _. Steps shared.now.config.handles worker due.old due.new
+    ensures steps { IfOk result (λ _. Steps shared.now.config worker due.old due.new
         pass.old.seat.me.0 pass.new.seat.me.0) }
-    ensures lacks { OnErr result (Lacks due.old due.new pass.old.seat.me.0
+    ensures lacks { OnErr result (Lacks shared.now.config due.old due.new pass.old.seat.me.0
         pass.new.seat.me.0) }
 {
     let reply = due_turn(rt, alloc, shared, pass, due, order)?;
@@ -128,9 +128,9 @@ fn due_turn<R: Wait>(
     requires owed { IsOwed shared.now.config.handles due.now }
     requires order { HasOrder due.now order.old pass.old.seat.me.0 }
     ensures of { IsPassOf shared.now pass.new }
-    ensures adds { IfOk result (λ reply. AddsTurns (one_deed due.now (Some reply))
+    ensures adds { IfOk result (λ reply. AddsTurns shared.now.config (one_deed due.now (Some reply))
         pass.old.seat.me.0 pass.new.seat.me.0) }
-    ensures lacks { OnErr result (AddsTurns (lack_of due.now) pass.old.seat.me.0
+    ensures lacks { OnErr result (AddsTurns shared.now.config (lack_of due.now) pass.old.seat.me.0
         pass.new.seat.me.0) }
     ensures hands { IfOk result (λ reply. HandsOver due.now reply order.new pass.new.seat.me.0) }
 {
@@ -173,7 +173,7 @@ fn install_parities<R: Wait>(
     requires of { IsPassOf shared.now pass.old }
     requires order { IsAtHand order.old pass.old.seat.me.0 }
     ensures of { IsPassOf shared.now pass.new }
-    ensures adds { IfOk result (λ reply. AddsTurns (one_deed jobs.Install (Some reply))
+    ensures adds { IfOk result (λ reply. AddsTurns shared.now.config (one_deed jobs.Install (Some reply))
         pass.old.seat.me.0 pass.new.seat.me.0) }
     ensures same { OnErr result (pass.new ≡ pass.old) }
     ensures begins { IfOk result TellsNoBatch }
@@ -192,7 +192,7 @@ fn install_parities<R: Wait>(
 fn end_work<R: Wait>(rt: &R, alloc: Global, shared: &Shared, pass: &mut Pass, due: &Job) -> bool
     requires of { IsPassOf shared.now pass.old }
     ensures of { IsPassOf shared.now pass.new }
-    ensures ends { EndsBegun due.now pass.old.seat.me.0 pass.new.seat.me.0 }
+    ensures ends { EndsBegun shared.now.config due.now pass.old.seat.me.0 pass.new.seat.me.0 }
     ensures told { result ≡ is_some (end_of due.now) }
 {
     if let Some(job) = end_of(due) {
@@ -214,7 +214,7 @@ fn one_turn<R: Wait>(
     requires owed { IsOwed shared.now.config.handles job.now }
     requires alone { NeedsNoOrder job.now }
     ensures of { IsPassOf shared.now pass.new }
-    ensures adds { AddsTurns (one_deed job.now (answer_of result)) pass.old.seat.me.0
+    ensures adds { AddsTurns shared.now.config (one_deed job.now (answer_of result)) pass.old.seat.me.0
         pass.new.seat.me.0 }
     ensures begins { IfOk result (λ reply. owner job.now ≡ Some worker.Evict
         → TellsNoBatch reply) }

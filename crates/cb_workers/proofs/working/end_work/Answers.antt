@@ -12,9 +12,9 @@ one_turn-reply-requires-clause-alone g c = end_alone c.in-Some.job
     (is_end c.args.due.now c.in-Some.job (sym c.end_of.ensures ∙ c.in-Some.is))
 
 pub returns-in-Some-clause-ends : goal.returns-in-Some-clause-ends
-returns-in-Some-clause-ends g c = end_answered c.args.due.now c.in-Some.job c.one_turn-reply.result
+returns-in-Some-clause-ends g c = end_answered c.args.shared.now.config c.args.due.now c.in-Some.job c.one_turn-reply.result
     _ _ (sym c.end_of.ensures ∙ c.in-Some.is) c.one_turn-reply.ensures.memory
     c.one_turn-reply.ensures.adds
 
 pub returns-clause-ends : goal.returns-clause-ends
-returns-clause-ends g c = none_ended c.args.due.now _ (sym c.end_of.ensures ∙ c.in_default.is)
+returns-clause-ends g c = none_ended c.args.shared.now.config c.args.due.now _ (sym c.end_of.ensures ∙ c.in_default.is)
