@@ -20,6 +20,7 @@ mod UsedLanes
 mod Records
 mod WorkDone
 mod Crews
+mod CrewTaken
 mod WorkedLanes
 mod WorkedMapped
 mod WorkedThreads

@@ -38,6 +38,7 @@ use Rattle.cb_app.specs.ByLane.{by_lane}
 use Rattle.cb_app.specs.Calm.{IsCalmTo}
 use Rattle.cb_workers.specs.declared.worker.Worker.{Worker}
 use Rattle.cb_app.specs.Crew.{IsLaneTold, NeverFall, work_in}
+use Rattle.cb_app.specs.CrewTurns.{HasCrew}
 use Rattle.cb_app.specs.OwnLines.{AreAllOf, KeepAloneWith}
 use Rattle.cb_app.specs.Threaded.{AreLosses, IsRun}
 use Rattle.cb_app.specs.declared.threads.ThreadsEnd.{ThreadsEnd}
@@ -67,9 +68,10 @@ pub is_run : (script : Script) (end : ThreadsEnd) → AreInMode modes.Threads sc
     → NeverFall [] end.answers → AreScoped [] end.answers
     → KeepAloneWith script.config.nodes [] end.answers
     → AreLosses end.losses end.answers
-    → ((w : Worker) → script.config.turns ≤ work_in w (sealed_record end.seal)) → IsRun script end
+    → ((w : Worker) → script.config.turns ≤ work_in w (sealed_record end.seal))
+    → HasCrew script.config (sealed_record end.seal) end.answers → IsRun script end
 is_run script end mode few are lines replies last seal closed backs suits rises scopes alone losses
-    work =
+    work crew =
     let c = script.config in
     let ok : IsAccepted c = subst IsAccepted closed.settings closed.sound.config in
     let v = sealed_record end.seal in
@@ -119,6 +121,7 @@ is_run script end mode few are lines replies last seal closed backs suits rises 
           (none_lacks script.lines lane end.answers (calm_lack_none end.answers (calm roomy under)))
           (until lane own);
       workers = counts_workers 1 c ok v far.counts.turns far closed.turns c.turns work;
+      crew = crew;
     }
 
 module _ (script : Script) (mode : AreInMode modes.Threads script.lines) (shared : Shared)
@@ -126,7 +129,8 @@ module _ (script : Script) (mode : AreInMode modes.Threads script.lines) (shared
     (begun : IsRuntimeBegun 1 script.config shared pass) (told : LaneEnd)
     (few : length script.lines ≤ 20000) (are : AreLines script.config.nodes [] script.lines)
     (is_told : IsLaneTold shared [] (by_lane script.lines) told)
-    (work : (w : Worker) → shared.config.turns ≤ work_in w (record_of told.pass)) where
+    (work : (w : Worker) → shared.config.turns ≤ work_in w (record_of told.pass))
+    (crew : HasCrew shared.config (record_of told.pass) told.answers) where
   -- the record of the pass that closed
   abbrev closing : View
   closing = unpinned_all (record_of told.pass)
@@ -138,6 +142,16 @@ module _ (script : Script) (mode : AreInMode modes.Threads script.lines) (shared
       → IsClosed Did 1 script.config closing w
   configured w closed = subst (λ (c : Config). IsClosed Did 1 c closing w) begun.config
       (subst (λ (n : ℕ). IsClosed Did n shared.config closing w) begun.first_is closed)
+
+  -- no pin is among the turns
+  closing_crew : HasCrew shared.config closing told.answers
+  closing_crew = record {
+    lines = crew.lines;
+    made = crew.made;
+    turns = crew.turns;
+    works = crew.works;
+    backs = crew.backs;
+  }
 
   ran : (end : ThreadsEnd) → end.answers ≡ told.answers
       → IsClosedBy shared told.pass end.world end.seal → AreLosses end.losses told.answers
@@ -163,6 +177,9 @@ module _ (script : Script) (mode : AreInMode modes.Threads script.lines) (shared
       (subst (λ (l : List Answer). AreLosses end.losses l) (sym answers) losses)
       (λ w. subst (λ (v : View). script.config.turns ≤ work_in w v) (sym same)
       (subst (λ (c : Config). c.turns ≤ work_in w closing) begun.config (work w)))
+      (subst (HasCrew script.config (sealed_record end.seal)) (sym answers)
+      (subst (λ (v : View). HasCrew script.config v told.answers) (sym same)
+      (subst (λ (c : Config). HasCrew c closing told.answers) begun.config closing_crew)))
 
   -- unless there was no memory
   pub if_ran : (r : Result ThreadsEnd NoMemory) → IfOk r (λ end. end.answers ≡ told.answers)

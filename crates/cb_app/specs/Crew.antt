@@ -35,6 +35,7 @@ use Rattle.cb_lanes.specs.Suits.{AreSuited}
 use Rattle.cb_workers.specs.Rules.{lane_of}
 use Rattle.cb_workers.specs.declared.worker.Worker.{Worker as Worker'}
 use Rattle.cb_app.specs.ByLane.{AreLanesApart, flat, lanes_up_to, of_lane}
+use Rattle.cb_app.specs.CrewTurns.{LeavesWork}
 use Rattle.cb_app.specs.OwnLines.{KeepAloneWith}
 use Rattle.cb_app.specs.declared.crew.Body.{Body}
 use Rattle.cb_app.specs.declared.crew.Body.TheVariants.{Lane, Worker}
@@ -175,6 +176,7 @@ TaskRuns s lines names t e = (e.body ≡ t.body)
     → IsEnded s lines given e)
     × ((w : Worker') → AreMade w t e)
     × HasText e
+    × LeavesWork s.config.handles t.body e
 
 -- One pass more was split off, for this body.
 pub record IsDealtOne (s : Shared) (body : Body) (v : View) (old new : List Task) : Type 0 where

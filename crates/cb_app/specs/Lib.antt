@@ -1,6 +1,7 @@
 pub mod ByLane
 pub mod OwnLines
 pub mod Crew
+pub mod CrewTurns
 pub mod Threaded
 pub mod Mapped
 pub mod Scripts

@@ -23,6 +23,7 @@ use Rattle.cb_lanes.specs.Lost.{losses_of}
 use Rattle.cb_lanes.specs.Scopes.{KeepScopes}
 use Rattle.cb_app.specs.ByLane.{by_lane}
 use Rattle.cb_app.specs.Calm.{IsCalmTo}
+use Rattle.cb_app.specs.CrewTurns.{HasCrew}
 use Rattle.cb_app.specs.Telling.{AreEpochs, CountsWorkers, TellsLost, TellsRoom, TellsWorn}
 use Rattle.cb_app.specs.declared.ending.Ending.{Ending}
 use Rattle.cb_app.specs.declared.threads.ThreadsEnd.{ThreadsEnd}
@@ -80,8 +81,10 @@ pub record IsRun (script : Script) (end : ThreadsEnd) : Type 0 where
       → AllByRecursion (λ a. IsCalmTo a.request a.reply) end.answers
   pub alone : IsRoomy script → end.world.far.counts.turns < 2 ^ 40 → (lane : ℕ)
       → HasOwnLines script.lines lane → KeepAlone script.lines lane fresh_lane end.answers
-  -- the workers made as many turns as are configured
+  -- as many turns as are configured were counted of each worker's jobs
   pub workers : CountsWorkers script.config.turns end.world.far
+  -- and so many each worker made itself, beside those by which the lines are backed
+  pub crew : HasCrew script.config (sealed_record end.seal) end.answers
 
 -- the ending of a script that threads answered
 pub record IsThreaded (script : Script) (end : Ending) : Type 0 where

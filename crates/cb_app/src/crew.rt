@@ -1,5 +1,5 @@
 //! The bodies of lanes and workers, each in a thread of its own.
-ghost use Rattle.std.specs.Prelude.{◌≡◌, ◌<◌, ◌≤◌, ◌+◌, ◌++◌, ℕ, List, [], map, All, IfOk, slice_index_or, vec_len};
+ghost use Rattle.std.specs.Prelude.{◌≡◌, ◌<◌, ◌≤◌, ◌+◌, ◌++◌, ◌∷◌, ℕ, List, [], map, All, IfOk, slice_index_or, vec_len};
 ghost use Rattle.std.specs.List.{AllByRecursion};
 ghost use Rattle.cb_types.specs.declared.answer.Answer.{Answer};
 ghost use Rattle.cb_text.specs.Line.{text_of};
@@ -34,6 +34,17 @@ ghost use Rattle.cb_app.specs.Crew.{
   lines_left,
   turns_due,
   work_in,
+};
+ghost use Rattle.cb_app.specs.CrewTurns.{
+  HasCrew,
+  HasTaken,
+  IsCrew,
+  IsLane,
+  IsWorkOf,
+  Joins,
+  JoinsEnded,
+  LeavesWork,
+  bodies_of,
 };
 ghost use Rattle.cb_app.specs.declared.crew.Body.TheVariants as Body;
 ghost use Rattle.cb_app.specs.declared.crew.Ended.{Ended};
@@ -105,6 +116,8 @@ pub(crate) fn run_crew<R: Threads + Wait + Sync, G: Gate>(
     ensures work { IfOk result (λ _. (w : Worker') → shared.now.config.turns
         ≤ work_in w (record_of first.new.pass)) }
     ensures text { IfOk result (λ _. text.new ≡ text_of first.new.answers) }
+    ensures crew { IfOk result (λ _. HasCrew shared.now.config (record_of first.new.pass)
+        first.new.answers) }
 {
     let tasks = deal(alloc, shared, &mut first.pass, lines)?;
     warm(alloc, 2 * ROOM);
@@ -125,6 +138,7 @@ fn deal(
         tasks.items pass.new) }
     ensures work { IfOk result (λ tasks. (w : Worker') → shared.now.config.turns
         ≤ total (turns_due w) tasks.items) }
+    ensures crew { IfOk result (λ tasks. IsCrew shared.now.config.turns (bodies_of tasks.items)) }
 {
     let mut tasks = Vec::new(alloc);
     deal_lanes(shared, pass, lines, &mut tasks)?;
@@ -144,6 +158,7 @@ fn deal_lanes(
     requires none { tasks.old.items ≡ [] }
     ensures dealt { IfOk result (λ _. IsDealt shared.now lines.now 15 15 (record_of pass.old)
         tasks.new.items pass.new) }
+    ensures lanes { IfOk result (λ _. AllByRecursion IsLane (bodies_of tasks.new.items)) }
 {
     let used = used_lanes(lines);
     for before in 0..15u8 {
@@ -167,6 +182,8 @@ fn deal_lane(
         → IsDealt shared.now lines before before v tasks.old.items pass.old
         → IfOk result (λ _. IsDealt shared.now lines (before + 1) (before + 1) v
         tasks.new.items pass.new) }
+    ensures lane { AllByRecursion IsLane (bodies_of tasks.old.items)
+        → IfOk result (λ _. AllByRecursion IsLane (bodies_of tasks.new.items)) }
 {
     if !used {
         return Ok(());
@@ -183,6 +200,8 @@ fn deal_workers(shared: &Shared, pass: &mut Pass, tasks: &mut Vec<Task>) -> Resu
         → IfOk result (λ _. IsDealt shared.now lines 15 19 v tasks.new.items pass.new) }
     ensures work { IfOk result (λ _. (w : Worker') → shared.now.config.turns
         ≤ total (turns_due w) tasks.new.items) }
+    ensures crew { AllByRecursion IsLane (bodies_of tasks.old.items)
+        → IfOk result (λ _. IsCrew shared.now.config.turns (bodies_of tasks.new.items)) }
 {
     deal_worker(shared, pass, Worker::Filter, tasks)?;
     deal_worker(shared, pass, Worker::Evict, tasks)?;
@@ -206,6 +225,8 @@ fn deal_worker(
     ensures work { IfOk result (λ _. (w : Worker') → total (turns_due w) tasks.new.items
         ≡ total (turns_due w) tasks.old.items
         + if_same worker w shared.now.config.turns) }
+    ensures crew { IfOk result (λ _. bodies_of tasks.new.items
+        ≡ bodies_of tasks.old.items ++ Body.Worker worker shared.now.config.turns ∷ []) }
 {
     let turns = shared.config().turns;
     deal_one(shared, pass, Body::Worker { worker, turns }, tasks)
@@ -253,6 +274,9 @@ fn scatter<R: Threads + Wait + Sync, G: Gate>(
         → i < vec_len tasks → AreMade w (slice_index_or tasks.items i t)
         (slice_index_or ends.items i d)) }
     ensures text { IfOk result (λ ends. All HasText ends.items) }
+    ensures leaves { IfOk result (λ ends. (i : ℕ) (d : Ended) (t : Task) → i < vec_len tasks
+        → LeavesWork shared.now.config.handles (slice_index_or tasks.items i t).body
+        (slice_index_or ends.items i d)) }
 {
     let ends = thread::map_vec(
         rt,
@@ -372,6 +396,8 @@ fn run_worker<R: Wait, G: Gate>(
     ensures made { (w : Worker') → IfOk result.left (λ told. if_same worker w turns
         ≤ work_in w (record_of told.end.pass)) }
     ensures text { HasText result }
+    ensures work { IfOk result.left (λ told. IsWorkOf shared.now.config.handles worker turns
+        (record_of told.end.pass).turns) }
 {
     let body = Body::Worker { worker, turns };
     let answers = Answers::new(alloc);
@@ -423,6 +449,7 @@ fn gather(
     ensures work { (w : Worker') (tasks : List Task) → AllMade w tasks ends.items
         → IfOk result (λ _. total (turns_due w) tasks ≤ work_in w (record_of first.new.pass)) }
     ensures text { IfOk result (λ _. text.new ≡ text_of first.new.answers) }
+    ensures taken { IfOk result (λ _. HasTaken ends.items first.old first.new) }
 {
     for ended in ends {
         take_in(shared, first, text, ended)?;
@@ -451,6 +478,7 @@ fn take_in(
         ≤ work_in w (record_of first.new.pass)) }
     ensures text { text.old ≡ text_of first.old.answers → HasText ended
         → IfOk result (λ _. text.new ≡ text_of first.new.answers) }
+    ensures joins { IfOk result (λ _. JoinsEnded ended first.old first.new) }
 {
     let Ended { body: _body, left } = ended;
     match left {
@@ -478,6 +506,7 @@ fn take_told(
         ≡ work_in w (record_of first.old.pass) + work_in w (record_of told.end.pass)) }
     ensures text { text.old ≡ text_of first.old.answers → IsTextWritten told
         → IfOk result (λ _. text.new ≡ text_of first.new.answers) }
+    ensures joins { IfOk result (λ _. Joins first.old told.end first.new) }
 {
     let ToldEnd { end, text: more } = told;
     text.append(more)?;
@@ -496,6 +525,7 @@ fn take_end(shared: &Shared, first: &mut LaneEnd, end: LaneEnd) -> Result<(), No
     ensures work { (w : Worker') → IfOk result (λ _. work_in w (record_of first.new.pass)
         ≡ work_in w (record_of first.old.pass) + work_in w (record_of end.pass)) }
     ensures answers { IfOk result (λ _. first.new.answers ≡ first.old.answers ++ end.answers) }
+    ensures joins { IfOk result (λ _. Joins first.old end first.new) }
 {
     let LaneEnd { answers, pass } = end;
     shared.join_pass(&mut first.pass, pass);

@@ -6,6 +6,7 @@ ghost use Rattle.cb_shared.specs.Closing.{IsClosedBy};
 ghost use Rattle.cb_shared.specs.Passes.{IsPassOf, IsRuntimeBegun, record_of};
 ghost use Rattle.cb_app.specs.ByLane.{by_lane, of_lane};
 ghost use Rattle.cb_app.specs.Crew.{IsLaneTold, IsTextWritten, StandIn, names_in, work_in};
+ghost use Rattle.cb_app.specs.CrewTurns.{HasCrew};
 ghost use Rattle.cb_app.specs.Threaded.{AreLosses, IsRun};
 ghost use Rattle.cb_app.specs.TwoTexts.{TellsAsSeq};
 ghost use Rattle.cb_lanes.specs.Bodies.{KnowsNames};
@@ -77,6 +78,8 @@ fn run_all<R: Threads + Wait + Sync, G: Gate>(
     ensures told { IfOk result (λ told. IsLaneTold shared.now [] (by_lane s.now.lines) told.end) }
     ensures work { IfOk result (λ told. (w : Worker) → shared.now.config.turns
         ≤ work_in w (record_of told.end.pass)) }
+    ensures crew { IfOk result (λ told. HasCrew shared.now.config (record_of told.end.pass)
+        told.end.answers) }
     ensures text { IfOk result IsTextWritten }
 {
     let mut end = run_first(rt, alloc, shared, pass, s, gate)?;

@@ -4,6 +4,8 @@ use Rattle.cb_shared.specs.Passes.{record_of}
 use Rattle.cb_lanes.specs.declared.body.LaneEnd.{LaneEnd}
 use Rattle.cb_app.specs.ByLane.{by_lane, of_lane}
 use Rattle.cb_app.specs.Crew.{IsLaneTold, lines_due, lines_left, work_in}
+use Rattle.cb_app.specs.CrewTurns.{HasCrew, bodies_of}
+use Rattle.cb_app.proofs.CrewTaken.{all_leave, has_crew}
 use Rattle.cb_app.proofs.Crews.{all_told, left_apart, same_maps, told_again, told_left}
 use Rattle.cb_app.proofs.ScopesTold.{first_answers}
 use Rattle.cb_app.proofs.WorkDone.{all_made, for_each}
@@ -66,4 +68,11 @@ returns g c =
           (sym c.in_ok-ends.ends.ok.0 ∙ c.in_ok-ends.ensures.len ∙ c.in_ok-tasks.tasks.ok.0)
           (λ i d t low. c.in_ok-ends.ensures.made w i d t (omega (arith, low, c.in_ok-tasks.tasks.ok.0))))));
       text = c.gather.ensures.text;
+      crew = IfOk-weaker c.gather.result _
+          (λ x. HasCrew s.config (record_of c.gather.new.first.pass) c.gather.new.first.answers)
+          (λ x taken. has_crew s.config ends (bodies_of tasks) b c.gather.new.first
+          c.in_ok-tasks.ensures.crew (all_leave s.config.handles tasks ends
+          (sym c.in_ok-ends.ends.ok.0 ∙ c.in_ok-ends.ensures.len ∙ c.in_ok-tasks.tasks.ok.0)
+          (λ i d t low. c.in_ok-ends.ensures.leaves i d t
+          (omega (arith, low, c.in_ok-tasks.tasks.ok.0)))) taken) c.gather.ensures.taken;
     }

@@ -2,6 +2,7 @@ use Rattle.std.proofs.Common.{◌+◌, ◌≤◌}
 use Rattle.std.proofs.lemmas.Result.{IfOk-weaker}
 use Rattle.cb_shared.specs.Passes.{record_of}
 use Rattle.cb_app.specs.Crew.{lines_left, turns_due, work_in}
+use Rattle.cb_app.specs.CrewTurns.{JoinsEnded}
 use Rattle.cb_app.proofs.WorkDone.{work_taken}
 use Rattle.cb_app.proofs.crew.take_in.Goals as goal
 
@@ -16,4 +17,7 @@ returns-in-Ok c = record {
       (λ x sum. work_taken w t c.args.ended c.in-Ok.told old new c.in-Ok.is made sum)
       (c.take_told.ensures.work w);
   text = λ old text. c.take_told.ensures.text old (rw c.in-Ok.is at text);
+  joins = IfOk-weaker c.take_told.result _
+      (λ x. JoinsEnded c.args.ended c.args.first.now c.take_told.new.first)
+      (λ x joins. (c.in-Ok.told, c.in-Ok.is, joins)) c.take_told.ensures.joins;
 }

@@ -15,4 +15,5 @@ returns c = record {
       IfOk-weaker c.take_end.result (λ x. after ≡ before ++ more) (λ x. c.append.new.self ≡ text_of after)
       (λ x all. text_behind before more after c.args.text.now c.args.told.text c.append.new.self old text
       c.in_ok-append.ensures.text all) c.take_end.ensures.answers;
+  joins = c.take_end.ensures.joins;
 }

@@ -15,5 +15,6 @@ returns g c = record {
     ran = if_ran c.args.s.now c.requires.mode c.in_ok-shared.shared c.in_ok-shared.pass
         c.in_ok-shared.ensures.begun c.in_ok-told.told.end c.requires.script.few
         c.requires.script.lines
-        c.in_ok-told.ensures.told c.in_ok-told.ensures.work c.end.result c.end.ensures.answers
+        c.in_ok-told.ensures.told c.in_ok-told.ensures.work c.in_ok-told.ensures.crew
+        c.end.result c.end.ensures.answers
         c.end.ensures.closed c.end.ensures.losses
