@@ -21,6 +21,7 @@ mod Records
 mod WorkDone
 mod Crews
 mod CrewTaken
+mod WorkedCrewTurns
 mod WorkedLanes
 mod WorkedMapped
 mod WorkedThreads

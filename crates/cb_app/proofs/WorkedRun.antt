@@ -28,6 +28,7 @@ use Rattle.cb_app.specs.Threaded.{AreLosses, IsRun, IsThreaded}
 use Rattle.cb_text.specs.Line.{text_of}
 use Rattle.cb_app.specs.declared.ending.Ending.{Ending}
 use Rattle.cb_app.specs.declared.threads.ThreadsEnd.{ThreadsEnd}
+use Rattle.cb_app.proofs.CrewTaken.{idle_crew}
 use Rattle.cb_app.proofs.Ran.{is_run as ran}
 use Rattle.cb_app.proofs.Records.{fresh_idle}
 use Rattle.cb_app.proofs.WorkedLanes.{none_from_none, on_no_name}
@@ -87,6 +88,7 @@ module _ (c : Config) (seal : Seal) (closed : IsClosed Did 1 c (sealed_record se
       (λ lines all whole among n own same room.
       (λ mine. absurd (on_no_name (nat_eq 2 n) mine), tt))
       (no_losses (answer (Left 0) ∷ []) refl) (λ w. omega (arith, none))
+      (idle_crew c (sealed_record seal) (answer (Left 0) ∷ []) none backs)
 
   a_pin_that_was_not_taken : IsRun (script c (leave ∷ [])) (end (answer (Left 1) ∷ [])) → ⊥
   a_pin_that_was_not_taken run = absurd (let e : Left 1 ≡ Left 0 = run.scopes.0 in cc)

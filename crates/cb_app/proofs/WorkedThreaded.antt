@@ -62,13 +62,15 @@ use Rattle.cb_app.specs.Threaded.{AreLosses, IsRun, IsThreaded}
 use Rattle.cb_text.specs.Line.{text_of}
 use Rattle.cb_app.specs.declared.ending.Ending.{Ending}
 use Rattle.cb_app.specs.declared.threads.ThreadsEnd.{ThreadsEnd}
+use Rattle.cb_app.specs.CrewTurns.{HasCrew}
+use Rattle.cb_app.proofs.CrewTaken.{idle_crew}
 use Rattle.cb_app.proofs.NeverWide.{comes_again}
 use Rattle.cb_app.proofs.Ran.{is_run}
 use Rattle.cb_app.proofs.WorkedLanes.{on_no_name}
 
 -- ---- a script of two lanes, the second one first
 
-abbrev small : Config
+abbrev pub small : Config
 small = record { k = 2; r = 2; nodes = 6; frames = 8; room = 64; handles = 16; turns = 0 }
 
 abbrev input : List ℕ
@@ -110,7 +112,7 @@ spelled = record {
 abbrev answer : ℕ → ℕ → Request → Reply → Answer
 answer lane line request reply = record { lane = record { n = lane }; line = line; request = request; reply = reply }
 
-abbrev evicted : Answer
+abbrev pub evicted : Answer
 evicted = answer 1 3 Evict (replies.NoSpans 0)
 
 abbrev left : Answer
@@ -119,13 +121,13 @@ left = answer 2 2 Leave (replies.Left 0)
 abbrev answers : List Answer
 answers = evicted ∷ left ∷ []
 
-abbrev view_of : List Turn → View
+abbrev pub view_of : List Turn → View
 view_of turns = record (opener small) { turns = turns }
 
 abbrev evicting : Turn → Turn
 evicting t = record t { job = job.Evict; reply = Some (replies.NoSpans 0) }
 
-abbrev told_of : WorldState → Seal → List Answer → List Loss → ThreadsEnd
+abbrev pub told_of : WorldState → Seal → List Answer → List Loss → ThreadsEnd
 told_of world seal list losses = record {
   answers = list;
   losses = losses;
@@ -215,6 +217,8 @@ module _ (t : Turn) (world : WorldState) (seal : Seal) where
         λ mine. absurd (on_no_name (nat_eq 1 n) mine),
         λ none. (λ mine. absurd (on_no_name (nat_eq 2 n) mine), tt),
       )) no_losses (λ w. omega arith)
+      (subst (λ (v : View). HasCrew small v answers) (sym record_is)
+      (idle_crew small (view_of (evicting t ∷ [])) answers refl backs))
 
   -- the answers stand in the order of the script, or one is left out
   in_the_order_of_the_script : IsRun script (told_of world seal (left ∷ evicted ∷ []) []) → ⊥
