@@ -9,7 +9,6 @@ use Rattle.cb_types.specs.declared.request.Request.TheVariants.{Filter, Leave, M
 use Rattle.cb_script.specs.declared.script.Line.{Line}
 use Rattle.cb_lanes.specs.Alone.{HasOwnLines}
 use Rattle.cb_lanes.specs.Asked.{asked}
-
 use Rattle.cb_app.specs.TwoTexts.{TellAlike, own_text}
 
 abbrev answer : ℕ → Request → Reply → Answer
