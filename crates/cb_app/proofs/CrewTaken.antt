@@ -70,7 +70,7 @@ pub worker_leaves : (s : Shared) (w : Worker') (turns : ℕ) (p q : Pass)
 worker_leaves s w turns p q fresh works =
     let d = works.1.0 in
     let own : (record_of q).turns ≡ d.turns =
-    ap (λ (v : View). v.turns) works.1.2.0 ∙ ap (λ (ts : List Turn). d.turns ++ ts) fresh.turns
+    ap (λ (v : View). v.turns) works.1.2 ∙ ap (λ (ts : List Turn). d.turns ++ ts) fresh.turns
     ∙ append-nil d.turns in
     subst (IsWorkOf s.config.handles w turns) (sym own) (record {
       done = works.1.1.done;
@@ -259,6 +259,9 @@ abbrev four : ℕ → List Body
 four n = Worker worker.Filter n ∷ Worker worker.Evict n ∷ Worker worker.Compact n
     ∷ Worker worker.Rebuild n ∷ []
 
+abbrev left : ToldEnd → List Turn
+left told = (record_of told.end.pass).turns
+
 workers_split : (handles n : ℕ) (ends : List Ended) (before after : List Turn)
     → AllLeave handles (four n) ends → TurnsTaken ends before after
     → IsSplit handles n (lines_taken ends before) after
@@ -268,17 +271,14 @@ workers_split handles n (f ∷ e ∷ []) before after leaves taken = absurd leav
 workers_split handles n (f ∷ e ∷ c ∷ []) before after leaves taken = absurd leaves.1.1.1
 workers_split handles n (f ∷ e ∷ c ∷ r ∷ x ∷ more) before after leaves taken =
     absurd leaves.1.1.1.1
-workers_split handles n (f ∷ e ∷ c ∷ r ∷ []) before after (lf, le, lc, lr, end)
-    (tf, isf, te, ise, tc, isc, tr, isr, taken) = record {
-  made = each_of (left tf) (left te) (left tc) (left tr);
+workers_split handles n (f ∷ e ∷ c ∷ r ∷ []) before after (lf, (le, (lc, (lr, end))))
+    (tf, isf, (te, ise, (tc, isc, (tb, isr, taken)))) = record {
+  made = each_of (left tf) (left te) (left tc) (left tb);
   turns = taken ∙ ap (λ (ts : List Turn).
-      left tr ++ (left tc ++ (left te ++ (left tf ++ ts)))) (sym none);
+      left tb ++ (left tc ++ (left te ++ (left tf ++ ts)))) (sym none);
   works = works;
 }
   where
-    abbrev left : ToldEnd → List Turn
-    left told = (record_of told.end.pass).turns
-
     none : lines_taken (f ∷ e ∷ c ∷ r ∷ []) before ≡ before
     none = (λ i. no_lines handles n worker.Rebuild r lr i
         ++ (no_lines handles n worker.Compact c lc i
@@ -286,11 +286,11 @@ workers_split handles n (f ∷ e ∷ c ∷ r ∷ []) before after (lf, le, lc, l
         ++ (no_lines handles n worker.Filter f lf i ++ before))))
 
     works : (w : Worker')
-        → IsWorkOf handles w n (each_of (left tf) (left te) (left tc) (left tr) w)
+        → IsWorkOf handles w n (each_of (left tf) (left te) (left tc) (left tb) w)
     works worker.Filter = works_so handles n worker.Filter f tf isf lf
     works worker.Evict = works_so handles n worker.Evict e te ise le
     works worker.Compact = works_so handles n worker.Compact c tc isc lc
-    works worker.Rebuild = works_so handles n worker.Rebuild r tr isr lr
+    works worker.Rebuild = works_so handles n worker.Rebuild r tb isr lr
 
 crew_split : (handles n : ℕ) (lanes : List Body) (ends : List Ended) (before after : List Turn)
     → AllByRecursion IsLane lanes → AllLeave handles (lanes ++ four n) ends

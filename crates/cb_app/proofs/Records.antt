@@ -121,7 +121,7 @@ pub worker_told : (s : Shared) (w : Worker) (turns : ℕ) (p q : Pass) (given an
 worker_told s w turns p q given answers fresh works none =
     let d = works.1.0 in
     let backs : Backs (as_part (record_of q)) [] =
-    fresh_backs (record_of p) (record_of q) d (record_of p).own [] fresh works.1.2.0
+    fresh_backs (record_of p) (record_of q) d (record_of p).own [] fresh works.1.2
     (worked_backs s.config.handles turns w d works.1.1) in
     record {
       of = works.0;

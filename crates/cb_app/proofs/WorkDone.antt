@@ -101,7 +101,7 @@ worker_made s w turns p q fresh works =
     let d = works.1.0 in
     let worked = works.1.1 in
     let own : (record_of q).turns ≡ d.turns =
-    ap (λ (v : View). v.turns) works.1.2.0 ∙ ap (λ (ts : List Turn). d.turns ++ ts) fresh.turns
+    ap (λ (v : View). v.turns) works.1.2 ∙ ap (λ (ts : List Turn). d.turns ++ ts) fresh.turns
     ∙ append-nil d.turns in
     let deeds = map deed d.turns in
     let some = work_is_done s.config.handles w turns worked.done worked.ending deeds worked.work in

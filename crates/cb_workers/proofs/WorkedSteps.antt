@@ -315,7 +315,7 @@ module _ (s : Shared) (p q : Pass) (known : Shown) (far : FarState) where
   works_not as_before w =
       let d = w.1.0 in let k = w.1.1 in
       let same : length p.seat.me.0.turns ≡ length (d.turns ++ p.seat.me.0.turns) =
-      ap (λ (u : View). length u.turns) (sym as_before ∙ w.1.2.0) in
+      ap (λ (u : View). length u.turns) (sym as_before ∙ w.1.2) in
       let one : length k.done ≡ 1 = k.work.number in
       let are : length (map deed d.turns) ≡ length (deeds_of (k.ending ++ k.done)) =
       ap (λ (xs : List Deed). length xs) k.work.are in
@@ -352,7 +352,7 @@ module _ (s : Shared) (p q : Pass) (known : Shown) (far : FarState) where
   stops_not as_before w =
       let d = w.1.0 in let k = w.1.1 in
       let same : length p.seat.me.0.turns ≡ length (d.turns ++ p.seat.me.0.turns) =
-      ap (λ (u : View). length u.turns) (sym as_before ∙ w.1.2.0) in
+      ap (λ (u : View). length u.turns) (sym as_before ∙ w.1.2) in
       let none : length d.turns ≡ 0 =
       omega (arith, same, length-append d.turns p.seat.me.0.turns) in
       nothing_left _ k.ending k.done k.work.ends (sym (bare d.turns none) ∙ k.work.are)
