@@ -1,6 +1,6 @@
 -- Worked examples: which turns of a record the workers made and which the lines; and what breaks each
 -- part alone.
-use Rattle.std.proofs.Common.{◌≡◌, ℕ, suc, ◌+◌, ◌<◌, ◌≤◌, List, [], ◌∷◌, ◌++◌, length, map, Option, Some, None, Ok, Err, refl, sym, ap, ◌∙◌, subst, arith}
+use Rattle.std.proofs.Common.{◌≡◌, ℕ, suc, ◌+◌, ◌<◌, ◌≤◌, List, [], ◌∷◌, ◌++◌, length, map, Option, Some, None, Result, Ok, Err, refl, sym, ap, ◌∙◌, subst, arith}
 use Rattle.std.specs.List.{AllByRecursion}
 use Rattle.std.proofs.lemmas.List.{length-append, length-map}
 use Rattle.cb_member.specs.declared.no_memory.NoMemory.{NoMemory}
@@ -9,13 +9,14 @@ use Rattle.cb_types.specs.declared.config.Config.{Config}
 use Rattle.cb_types.specs.declared.job.Job.TheVariants as job
 use Rattle.cb_types.specs.declared.reply.Reply.TheVariants as answer
 use Rattle.cb_types.specs.declared.request.Request.TheVariants.{Evict}
+use Rattle.cb_script.specs.declared.script.Line.{Line}
 use Rattle.cb_world.specs.World.{WorldState}
 use Rattle.cb_rule.specs.declared.turn.Turn.{Turn}
 use Rattle.cb_rule.specs.declared.view.View.{View}
 use Rattle.cb_rule.specs.Steps.{joined}
-use Rattle.cb_record.specs.Backs.{Backs}
+use Rattle.cb_record.specs.Backs.{Backs, turn_needed}
 use Rattle.cb_record.specs.Deeds.{Deed, deed}
-use Rattle.cb_record.specs.Lists.{IsSublist}
+use Rattle.cb_record.specs.Lists.{IsSublist, newest_first}
 use Rattle.cb_record.specs.Lists.IsSublist.{both, ended}
 use Rattle.cb_record.specs.Told.{tolds}
 use Rattle.cb_record.specs.Upheld.{as_part}
@@ -30,6 +31,7 @@ use Rattle.cb_workers.specs.declared.worker.Worker.TheVariants as worker
 use Rattle.cb_workers.proofs.Laws.{work_is_done}
 use Rattle.cb_app.specs.CrewTurns.{AllLeave, HasCrew, HasTaken, IsCrew, IsLane, IsLeftBy, IsWorkOf, Joins, JoinsEnded, LeavesWork, TurnsTaken, lines_taken, turns_of_lines}
 use Rattle.cb_app.specs.Threaded.{IsRun}
+use Rattle.cb_app.specs.declared.crew.Body.{Body}
 use Rattle.cb_app.specs.declared.crew.Body.TheVariants.{Lane, Worker}
 use Rattle.cb_app.specs.declared.crew.Ended.{Ended}
 use Rattle.cb_app.specs.declared.crew.ToldEnd.{ToldEnd}
@@ -140,12 +142,13 @@ none_there (x ∷ xs) low = absurd (omega (arith, low))
 counted_twice : (v : View) → length v.turns ≡ 4 → HasCrew one_turn v (evicted ∷ []) → ⊥
 counted_twice v four is =
     let none = none_there is.lines (no_more_lines v (evicted ∷ []) 0 (omega (arith, four)) is) in
-    let turned = subst (λ (ts : List Turn). IsSublist _ (map deed ts)) none is.backs.turned in
-    let e : 1 ≡ 0 = among_none _ turned in omega (arith, e)
+    let needed = newest_first turn_needed (tolds [] (evicted ∷ [])) in
+    let turned = subst (λ (ts : List Turn). IsSublist needed (map deed ts)) none is.backs.turned in
+    let e : 1 ≡ 0 = among_none needed turned in omega (arith, e)
 
 -- a run whose record has four turns is refused by this alone where its line made one of them,
 -- however its world counts
-a_worker_idles : (world : WorldState) (seal : Seal) (lines : List _)
+a_worker_idles : (world : WorldState) (seal : Seal) (lines : List Line)
     → length (sealed_record seal).turns ≡ 4
     → IsRun (record { config = one_turn; lines = lines }) (told_of world seal (evicted ∷ []) []) → ⊥
 a_worker_idles world seal lines four run = counted_twice (sealed_record seal) four run.crew
@@ -182,7 +185,7 @@ module _ (e : Ended) (told : ToldEnd) where
   -- the turns of the later one stand in front, and those of the worker are no lines'
   taken : TurnsTaken (by_lane ∷ by_worker ∷ []) [] (own ++ (own ++ []))
       × (lines_taken (by_lane ∷ by_worker ∷ []) [] ≡ own ++ [])
-  taken = ((told, refl, told, refl, refl), refl)
+  taken = ((told, refl, (told, refl, refl)), refl)
 
   -- there was no memory for the one, or its turns did not come
   not_taken : (n : NoMemory) (after : List Turn)
@@ -192,12 +195,12 @@ module _ (e : Ended) (told : ToldEnd) where
   dropped : (t : Turn) → own ≡ t ∷ [] → TurnsTaken (by_lane ∷ []) [] [] → ⊥
   dropped t some (x, is, rest) = absurd (let same : Ok told ≡ Ok x = is in
       let turns : own ≡ (record_of x.end.pass).turns =
-      ap (λ (r : _). turns_of_lines (Lane (record { n = 2 })) r) same in
+      ap (λ (r : Result ToldEnd NoMemory). turns_of_lines (Lane (record { n = 2 })) r) same in
       let none : [] ≡ (record_of x.end.pass).turns ++ [] = rest in
       let e : [] ≡ (t ∷ []) ++ [] = none ∙ ap (λ (ts : List Turn). ts ++ []) (sym turns ∙ some) in cc)
 
 -- ---- the bodies of the tasks
-abbrev lane_2 : _
+abbrev lane_2 : Body
 lane_2 = Lane (record { n = 2 })
 
 a_crew : IsCrew 3 (lane_2 ∷ Worker worker.Filter 3 ∷ Worker worker.Evict 3 ∷ Worker worker.Compact 3
