@@ -1,6 +1,5 @@
 -- The pages for a job's object are those of the spans of its class.
-use Rattle.std.proofs.Common.{◌≡◌, ℕ, ◌<◌, ◌≤◌, false, true, get_or, length, leb, ap, arith}
-use Rattle.std.specs.List.{position_or_len}
+use Rattle.std.proofs.Common.{◌≡◌, ℕ, get_or, leb, ap, arith}
 use Rattle.std.proofs.lemmas.Bool.{le-leb, lt-leb}
 use Rattle.std.proofs.lemmas.List.Sums.{position_or_len_is}
 use Rattle.cb_class.specs.declared.class.Class.{Class}
