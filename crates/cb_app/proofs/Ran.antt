@@ -47,6 +47,7 @@ use Rattle.cb_app.proofs.AnswersTold.{InThreads, answers_lost, answers_room}
 use Rattle.cb_app.proofs.EpochsTold.{are_epochs}
 use Rattle.cb_app.proofs.Lanes.{by_lane_all}
 use Rattle.cb_app.proofs.OneToOne.{one_to_one}
+use Rattle.cb_app.proofs.TurnHistory.{last_codes}
 use Rattle.cb_app.proofs.UpheldTold.{all_upheld}
 use Rattle.cb_app.proofs.WorkCounted.{counts_workers}
 use Rattle.cb_app.proofs.WornTold.{answers_worn, few_answers}
@@ -109,6 +110,7 @@ is_run script end mode few are lines replies last seal closed backs suits rises 
       upheld = upheld;
       legal = legal;
       holds = has_last Did 1 c v end.world closed c.handles end.answers backs upheld;
+      codes = last_codes 1 c v far.counts.turns far closed.turns ok;
       scopes = scopes one;
       until = until;
       losses = losses;

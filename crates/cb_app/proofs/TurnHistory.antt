@@ -205,6 +205,9 @@ module _ (first : ℕ) (c : Config) (v : View) (count : ℕ) (last : FarState)
   gave_codes ok t there = at_gave Codes codes_start (codes_step ok)
       (HaveCodes (IsConfiguredCode c)) (λ n far codes. codes) t there
 
+  pub last_codes : IsAccepted c → HaveCodes (IsConfiguredCode c) last
+  last_codes ok = at_last Codes codes_start (codes_step ok)
+
   -- and what its reply tells
   pub each_tells : IsAccepted c → (t : Turn) → Has t v.turns → TellsIf c t.took t.gave t.reply
   each_tells ok t there = (each_leaves t there).tells ok

@@ -6,6 +6,7 @@ use Rattle.cb_types.specs.declared.answer.Answer.{Answer}
 use Rattle.cb_member.specs.declared.names.Loss.{Loss}
 use Rattle.cb_script.specs.declared.script.Script.{Script}
 use Rattle.cb_script.specs.Roomy.{IsRoomy}
+use Rattle.cb_world.specs.Codes.{HaveCodes, IsConfiguredCode}
 use Rattle.cb_rule.specs.Closing.{IsClosed}
 use Rattle.cb_model.specs.Called.{calls_of}
 use Rattle.cb_model.specs.Legal.{IsLegal}
@@ -57,6 +58,8 @@ pub record IsRun (script : Script) (end : ThreadsEnd) : Type 0 where
   pub legal : IsLegal 1 script.config.handles end.answers
   -- and the world holds of each object the last entry of its history in them, or it is gone
   pub holds : HasHistoryEnds end.answers end.world
+  -- the code in force and that of each set that is left are the configured one
+  pub codes : HaveCodes (IsConfiguredCode script.config) end.world.far
   -- what lines are answered follows from the scopes of their lanes: pin, peek, unpin and leave
   -- lines, and where a write, a free or a filter is held up by pins
   pub scopes : KeepScopes [] end.answers

@@ -31,14 +31,14 @@ use Rattle.cb_world.specs.OpenWrites.{AreOpen, IsLeavingNow}
 use Rattle.cb_world.specs.Packed.{IsFreedLater, IsPackedAs}
 use Rattle.cb_world.specs.Plain.{Shows, word_at}
 use Rattle.cb_world.specs.Seats.{SeatState, OpenWriteState, Holds, IsClaimAt, idle_seat, pins_among}
-use Rattle.cb_world.specs.Shown.{Fits, never, object_at, version_at}
+use Rattle.cb_world.specs.Shown.{Fits, IsHeld, never, object_at, version_at}
 use Rattle.cb_world.specs.Sound.{Sound}
 use Rattle.cb_world.specs.StillDesk.{window_length}
 use Rattle.cb_world.specs.World.{ArePinned, IsKnown, IsSoundWorld, WorldState}
 use Rattle.cb_world.proofs.Laws.{empty_value, window_at}
 use Rattle.cb_rule.specs.declared.view.View.{View}
 use Rattle.cb_rule.specs.AsShown.{as_shown}
-use Rattle.cb_rule.specs.Closing.{desk_of}
+use Rattle.cb_rule.specs.Closing.{AreAsKnown, desk_of}
 use Rattle.cb_rule.specs.History.{Value, holding_words, newest, top}
 use Rattle.cb_rule.specs.Lists.{total}
 use Rattle.cb_rule.specs.Locking.{Stood}
@@ -48,7 +48,7 @@ use Rattle.cb_rule.specs.Seats.{claims_on, pins_on}
 use Rattle.cb_rule.specs.ShownWorld.{IsMovedByOne}
 use Rattle.cb_rule.specs.Slot.{LockSlot}
 use Rattle.cb_rule.specs.Stands.{IsCalm, IsClaimedBySeat, Stands}
-use Rattle.cb_rule.specs.Words.{base, pointer, stamps}
+use Rattle.cb_rule.specs.Words.{base, pointer, stamp, stamps}
 use Rattle.cb_rule.proofs.FreedLater.{freed_later}
 use Rattle.cb_rule.proofs.Opening.{same_each}
 use Rattle.cb_rule.proofs.Promising.{claims_stand, moving_stands, pins_stand}
@@ -280,6 +280,30 @@ module _ (c : Config) (ws : List ℕ) (views : List View) (known : Shown) (es : 
     claimed = (claims_stand c ws views known es r h l).moving;
     leaves = λ leaving. let x = claimed_now h leaving in let y = m.claimed x.0 x.1 x.2 x.3 x.4 in
         (y.0, y.1);
+  }
+
+  -- a version word is as known of an object that no one else may change
+  held_version : (h : ℕ) (o : Object)
+      → Stands c known.first ws h (total (pins_on h) views) (total (claims_on h) views)
+      (top es h) (newest es h) (version_at known h) o
+      → IsHeld o → stamp c ws h ≡ version_at known h
+  held_version h (is.Empty v) k own = k.stamped
+  held_version h (is.Far len v words) k own = k.kept.stamped
+  held_version h (is.Here len place) k own = absurd own
+  held_version h (is.Claimed len place v words) k own = k.kept.stamped
+
+  -- the words are as is known of them
+  pub as_known : AreAsKnown known (desk_of c ws)
+  as_known = record {
+    fit = λ h below. let l = subst (λ (n : ℕ). h < n) wide below in
+        subst (Fits (object_at known h)) (sym (pointer_at h l)) (r.fit h l);
+    hot = λ h below was. let l = subst (λ (n : ℕ). h < n) wide below in
+        ap hot_of (pointer_at h l) ∙ r.hot h l was;
+    held = λ h below own. let l = subst (λ (n : ℕ). h < n) wide below in
+        window_at ws (stamps c) c.handles h l
+        ∙ held_version h (object_at known h) (r.stand h l) own;
+    owned = λ p own. let size = r.sized.memory in let low = own.0 in
+        window_at ws (base c) (512 * c.frames) p (omega (arith, size, low)) ∙ r.owned p own;
   }
 
   -- where no view has a pin or a claim

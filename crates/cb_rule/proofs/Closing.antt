@@ -1,5 +1,5 @@
 -- The pass with the whole share closes the runtime.
-use Rattle.std.proofs.Common.{◌≡◌, ◌≢◌, ℕ, ◌<◌, Bool, false, cond, List, [], ◌∷◌, Some, replicate}
+use Rattle.std.proofs.Common.{◌≡◌, ◌≢◌, ℕ, ◌+◌, ◌^◌, ◌<◌, Bool, false, cond, List, [], ◌∷◌, Some, replicate}
 use Rattle.std.proofs.Common.{sym, refl, ap, ◌∙◌, subst, arith}
 use mathlib.Core.Option.{some}
 use lib.ListN.{get_elem?}
@@ -7,15 +7,18 @@ use Rattle.atomic_table.specs.Table.{Final, Seen}
 use Rattle.cb_types.specs.declared.config.Config.{Config}
 use Rattle.cb_types.specs.Config.{IsAccepted}
 use Rattle.cb_world.specs.declared.entry.Entry.{Entry}
+use Rattle.cb_world.specs.declared.shown.Shown.{Shown}
+use Rattle.cb_world.specs.Empty.{empty_shown}
 use Rattle.cb_world.specs.FarState.{FarState}
 use Rattle.cb_world.specs.Seats.{idle_seat}
 use Rattle.cb_world.specs.StillDesk.{window_length}
 use Rattle.cb_world.specs.World.{WorldState}
+use Rattle.cb_rule.specs.declared.turn.Turn.{Turn}
 use Rattle.cb_rule.specs.declared.view.View.{View}
-use Rattle.cb_rule.specs.Closing.{HoldsEntries, IsClosed, desk_of}
+use Rattle.cb_rule.specs.Closing.{AreAsKnown, HoldsEntries, IsClosed, KeepsLeft, desk_of}
 use Rattle.cb_rule.specs.Lists.{times, total}
-use Rattle.cb_rule.specs.Locking.{Deeds, IsUnlocked, Locked}
-use Rattle.cb_rule.specs.OneHistory.{IsOneHistory}
+use Rattle.cb_rule.specs.Locking.{Deeds, IsUnlocked, Locked, left_known, turn_number}
+use Rattle.cb_rule.specs.OneHistory.{IsOneHistory, Made}
 use Rattle.cb_rule.specs.Promised.{EntriesStand}
 use Rattle.cb_rule.specs.Rule.{RuleKept}
 use Rattle.cb_rule.specs.Ruled.{Ruled}
@@ -23,12 +26,13 @@ use Rattle.cb_rule.specs.Seats.{claims_it, claims_on, holding, pins_it, pins_on}
 use Rattle.cb_rule.specs.ShownWorld.{ShowsWorld}
 use Rattle.cb_rule.specs.Slot.{LockSlot, Table}
 use Rattle.cb_rule.specs.Steps.{blank}
-use Rattle.cb_rule.proofs.ClosedWorld.{closed_sound}
+use Rattle.cb_rule.proofs.ClosedWorld.{as_known, closed_sound}
 use Rattle.cb_rule.proofs.ShownWorld.{world_shown}
-use Rattle.cb_rule.proofs.Lone.{is_last, lone_entries, lone_told, lone_total, lone_turns, wrote}
+use Rattle.cb_rule.proofs.Lone.{is_last, lone_entries, lone_told, lone_total, lone_turns, unmade}
+use Rattle.cb_rule.proofs.Lone.{wrote}
 use Rattle.cb_rule.proofs.Newest.{others_spent}
 use Rattle.cb_rule.proofs.Told.{are_told}
-use Rattle.cb_rule.proofs.Turns.{one_history}
+use Rattle.cb_rule.proofs.Turns.{handed_on, one_history}
 use Rattle.cb_rule.proofs.Promising.{entries_stand}
 
 -- A view with the whole share that has no pin, no claim and not the lock.
@@ -94,6 +98,28 @@ module _ (deeds : Deeds) (first : ℕ) (c : Config) (accepted : IsAccepted c) (s
         (λ e w. none e (wrote c s.views id v at spent e w));
   }
 
+  -- the words are as is known, and that is what the newest turn left
+  known_words : AreAsKnown r.known (desk_of c s.words)
+  known_words = as_known c s.words s.views r.known es k far free.stood
+
+  left_words : (t : Turn) → Made (v ∷ []) t → turn_number t + 1 ≡ far.counts.turns
+      → far.counts.turns < 2 ^ 40 → r.known ≡ left_known t
+  left_words t made next few = let count = r.far.reached in
+      r.far.known_now nobody (omega (arith, few, count))
+      ∙ ap r.far.knew (sym count ∙ sym next)
+      ∙ sym ((handed_on deeds first c s r t (unmade c s.views id v at spent t made)).left
+      (omega (arith, next, few)))
+
+  left : KeepsLeft first c (v ∷ []) w
+  left = record {
+    newest = λ t made next few. subst (λ (known : Shown). AreAsKnown known (desk_of c s.words))
+        (left_words t made next few) known_words;
+    unturned = λ z. let count = r.far.reached in
+        subst (λ (known : Shown). AreAsKnown known (desk_of c s.words))
+        (r.far.known_now nobody (omega (arith, z, count)) ∙ ap r.far.knew (sym count ∙ z)
+        ∙ r.far.unknown ∙ ap (λ (n : ℕ). empty_shown n c) r.starts) known_words;
+  }
+
   pub closing : ViewCloses deeds first c s v
   closing = record {
     far = far;
@@ -114,6 +140,7 @@ module _ (deeds : Deeds) (first : ℕ) (c : Config) (accepted : IsAccepted c) (s
       turns = subst (λ (n : ℕ). IsOneHistory deeds first c (v ∷ []) n far) (sym r.far.reached)
           (lone_turns c s.views id v at spent deeds first r.far.count far
           (one_history deeds first c s r));
+      left = left;
     };
   }
 

@@ -3,6 +3,7 @@ use Rattle.std.proofs.Common.{◌≡◌, ◌≢◌, ℕ, zero, suc, ◌+◌, ◌
 use Rattle.std.proofs.Common.{eqb, List, [], ◌∷◌, ◌++◌, length, set, Option, Some, None, sym, refl}
 use Rattle.std.proofs.Common.{ap, ◌∙◌, subst, inl, inr, ⊎_elim, arith, eq-eqb, eqb-true, ne_eqb}
 use Rattle.std.proofs.Common.{length-set, get_or-set_same, true≢false}
+use Rattle.std.proofs.lemmas.List.{append_cancel_right}
 use mathlib.Core.Option.{some, none}
 use lib.ListN.{get_elem?}
 use native.Mathlib.Decide.{ℕ_discrete}
@@ -22,18 +23,19 @@ use Rattle.cb_world.specs.Shown.{object_at}
 use Rattle.cb_rule.specs.declared.turn.Turn.{Turn}
 use Rattle.cb_rule.specs.declared.view.Seen.{Seen}
 use Rattle.cb_rule.specs.declared.view.View.{View}
-use Rattle.cb_rule.specs.History.{is_version}
+use Rattle.cb_rule.specs.History.{is_version, newest, top}
 use Rattle.cb_rule.specs.Lists.{times, total, Each, Has}
-use Rattle.cb_rule.specs.Locking.{Deeds, IsTimed, IsUnlocked, Locked, Stood, TurnStands, is_turn}
-use Rattle.cb_rule.specs.Locking.{turn_number, turns_on, when_ended}
-use Rattle.cb_rule.specs.LockSteps.{HasGiven, IsFoundFreed, MayGive, gave, gave_lock, turn_of}
-use Rattle.cb_rule.specs.Records.{ReadOk, SeenOk, WroteOk}
+use Rattle.cb_rule.specs.Locking.{Deeds, IsHandedOn, IsTimed, IsUnlocked, Locked, Stood, TurnStands}
+use Rattle.cb_rule.specs.Locking.{is_turn, turn_number, turns_on, when_ended}
+use Rattle.cb_rule.specs.LockSteps.{HasGiven, IsFoundFreed, MayGive, ReadInTurn, gave, gave_lock}
+use Rattle.cb_rule.specs.LockSteps.{turn_of}
+use Rattle.cb_rule.specs.Records.{ReadOk, SeenOk, SeenSince, WroteOk, seen_value}
 use Rattle.cb_rule.specs.Own.{AreOwn, Make, reads_it, traces, writes_it}
 use Rattle.cb_rule.specs.Rule.{RuleKept}
 use Rattle.cb_rule.specs.Ruled.{Ruled}
 use Rattle.cb_rule.specs.Seats.{holding}
 use Rattle.cb_rule.specs.Slot.{LockSlot, Sat, Table}
-use Rattle.cb_rule.proofs.Growing.{all_old, settled_now}
+use Rattle.cb_rule.proofs.Growing.{all_old, has_front, settled_now}
 use Rattle.cb_rule.proofs.Counts.{each_append, each_map, hit, miss, times-append, total-at}
 use Rattle.cb_rule.proofs.Counts.{total-set}
 use Rattle.cb_rule.proofs.Flagging.{flagged, lock_word}
@@ -66,6 +68,16 @@ end_at ends n end = ap (λ (b : Bool). cond b end (ends n)) (eq-eqb n n refl)
 
 end_else : (ends : ℕ → ℕ) (n k end : ℕ) → k ≢ n → ends_with ends n end k ≡ ends k
 end_else ends n k end ne = ap (λ (b : Bool). cond b end (ends k)) (ne_eqb k n ne)
+
+-- and what was known
+abbrev knew_with : (ℕ → Shown) → ℕ → Shown → ℕ → Shown
+knew_with knew n s k = cond (eqb k n) s (knew k)
+
+knew_at : (knew : ℕ → Shown) (n : ℕ) (s : Shown) → knew_with knew n s n ≡ s
+knew_at knew n s = ap (λ (b : Bool). cond b s (knew n)) (eq-eqb n n refl)
+
+knew_else : (knew : ℕ → Shown) (n k : ℕ) (s : Shown) → k ≢ n → knew_with knew n s k ≡ knew k
+knew_else knew n k s ne = ap (λ (b : Bool). cond b s (knew k)) (ne_eqb k n ne)
 
 -- with one turn more those before it ended as they did
 ended_else : (ends : ℕ → ℕ) (n k end : ℕ) → k ≤ n
@@ -186,16 +198,39 @@ module _ (deeds : Deeds) (first : ℕ) (c : Config) (s : Table) (id : ℕ) (v : 
   wrote_all = let k = (r.kept.seats id v at).lasting in
       each_append (λ e. Has e r.history) v.fresh v.written k.fresh k.written
 
+  -- what was read in the turn stands in the record
+  read_in : (x : Seen) → ReadInTurn v x → Has x v.seen
+  read_in x r = subst (Has x) (sym r.1) (has_front x r.0 v.had_seen r.2)
+
+  -- and was the newest of its object at some time of it
+  read_lately : (x : Seen) → ReadInTurn v x → SeenSince r.history v.since x
+  read_lately x told = let o = (r.kept.seats id v at).lasting.lately may.holds in
+      let same : told.0 ≡ o.newer =
+      append_cancel_right told.0 o.newer v.had_seen (sym told.1 ∙ o.parts) in
+      each_has (SeenSince r.history v.since) x o.newer o.since_then (subst (Has x) same told.2)
+
   -- so is what a job Read told
-  read_ok : ReadOk r.history (length r.history) job reply
+  read_ok : ReadOk r.history v.since (length r.history) job reply
   read_ok handle version bytes asked told = let x = may.reads handle version bytes asked told in
-      let o = each_has (SeenOk r.history) x.0 v.seen (r.kept.seats id v at).lasting.seen x.1 in (
+      let k = (r.kept.seats id v at).lasting in
+      let o = each_has (SeenOk r.history) x.0 v.seen k.seen (read_in x.0 x.1) in
+      let now = read_lately x.0 x.1 in (
         o.0,
         settled_now r.history o.0 o.1,
         sym (ap (λ (y : Seen). y.handle) o.2) ∙ x.2,
         sym (ap (λ (y : Seen). y.version) o.2) ∙ x.3,
         sym (ap (λ (y : Seen). y.freed) o.2) ∙ x.4,
         x.5 ∙ ap (λ (y : Seen). bytes_in y.words y.len) o.2,
+        record {
+          newer = now.newer;
+          older = now.older;
+          parts = now.parts;
+          low = now.low;
+          high = now.high;
+          last = ap (top now.older) (sym x.2) ∙ now.last ∙ x.3;
+          has = ap (newest now.older) (sym x.2) ∙ now.has
+              ∙ ap (λ (y : Seen). seen_value y) o.2;
+        },
       )
 
   -- and what a job told as written
@@ -220,6 +255,12 @@ module _ (deeds : Deeds) (first : ℕ) (c : Config) (s : Table) (id : ℕ) (v : 
   no_runner moment j u there his = absurd (let le = total-at holding views j u there in
       let one = hit u.holds his in omega (arith, le, one, nobody))
 
+  no_knower : (known : Shown) (count j : ℕ) (u : View) → get_elem? views j ≡ some u
+      → u.holds ≡ true → count < 2 ^ 40 → u.start ≡ known
+  no_knower known count j u there his few =
+      absurd (let le = total-at holding views j u there in
+      let one = hit u.holds his in omega (arith, le, one, nobody))
+
   kept_given : (n : ℕ) → RuleKept c (set s.words 0 n) views r.known r.history
   kept_given n = let k = (r.kept.seats id v at).lasting in
       flagged c (set s.words 0 n) s.views r.known r.history
@@ -239,6 +280,7 @@ module _ (deeds : Deeds) (first : ℕ) (c : Config) (s : Table) (id : ℕ) (v : 
           reached = omega arith;
           told = tt;
           began = λ h l. never_now r.history h;
+          lately = λ his. absurd (true≢false (sym his));
           past = (
             record {
               lasted = k.reached;
@@ -320,6 +362,17 @@ module _ (deeds : Deeds) (first : ℕ) (c : Config) (s : Table) (id : ℕ) (v : 
           lock.timed id v at,
         ) (λ j u ne there. lock.timed j u there);
         runs = no_runner (when_ended lock.ends lock.count);
+        knew = lock.knew;
+        unknown = lock.unknown;
+        known_now = λ _ few. absurd (omega (arith, few, end));
+        known_then = no_knower (lock.knew lock.count) lock.count;
+        handed = seats_stay (λ _ u. Each (IsHandedOn lock.knew) u.turns) s.views id w (
+          record {
+            began = λ less. absurd (omega (arith, less, worn));
+            left = λ less. absurd (omega (arith, less, worn));
+          },
+          lock.handed id v at,
+        ) (λ j u ne there. lock.handed j u there);
       }
 
   -- this one is counted
@@ -360,6 +413,13 @@ module _ (deeds : Deeds) (first : ℕ) (c : Config) (s : Table) (id : ℕ) (v : 
         (mine_timed, longer_timed v.turns (lock.turns id v at) (lock.timed id v at))
         (λ j u ne there. longer_timed u.turns (lock.turns j u there) (lock.timed j u there));
     runs = no_runner (when_ended ends (lock.count + 1));
+    knew = knew;
+    unknown = knew_else lock.knew (lock.count + 1) 0 r.known (λ e. omega (arith, e)) ∙ lock.unknown;
+    known_now = λ _ _. sym (knew_at lock.knew (lock.count + 1) r.known);
+    known_then = no_knower (knew (lock.count + 1)) (lock.count + 1);
+    handed = seats_stay (λ _ u. Each (IsHandedOn knew) u.turns) s.views id w
+        (mine_handed, longer_handed v.turns (lock.turns id v at) (lock.handed id v at))
+        (λ j u ne there. longer_handed u.turns (lock.turns j u there) (lock.handed j u there));
   }
     where
       few : lock.count < 2 ^ 40
@@ -387,6 +447,33 @@ module _ (deeds : Deeds) (first : ℕ) (c : Config) (s : Table) (id : ℕ) (v : 
         | no ne ↦ ap (λ (f : FarState). f.first)
             (chain_else lock.chain (lock.count + 1) i far ne) ∙ lock.starts i (omega (arith, le, ne))
       ]
+
+      knew : ℕ → Shown
+      knew = knew_with lock.knew (lock.count + 1) r.known
+
+      longer_handed : (ts : List Turn) → Each (TurnStands deeds c lock.count lock.chain) ts
+          → Each (IsHandedOn lock.knew) ts → Each (IsHandedOn knew) ts
+      longer_handed [] ok handed = tt
+      longer_handed (x ∷ ts) ok handed =
+          let less = (counted deeds c lock.count lock.chain few x ok.0).0 in (
+            record {
+              began = λ low. handed.0.began low ∙ sym (knew_else lock.knew (lock.count + 1)
+                  (turn_number x) r.known (λ e. omega (arith, e, less)));
+              left = λ low. handed.0.left low ∙ sym (knew_else lock.knew (lock.count + 1)
+                  (turn_number x + 1) r.known (λ e. omega (arith, e, less)));
+            },
+            longer_handed ts ok.1 handed.1,
+          )
+
+      mine_handed : IsHandedOn knew t
+      mine_handed = record {
+        began = λ _. lock.known_then id v at may.holds few
+            ∙ sym (knew_else lock.knew (lock.count + 1) lock.count r.known (λ e. omega (arith, e)))
+            ∙ ap knew (sym number);
+        left = λ _. sym may.plays ∙ (r.kept.seats id v at).knows may.holds
+            ∙ sym (knew_at lock.knew (lock.count + 1) r.known)
+            ∙ ap (λ (k : ℕ). knew (k + 1)) (sym number);
+      }
 
       ends : ℕ → ℕ
       ends = ends_with lock.ends lock.count (length r.history)

@@ -20,7 +20,7 @@ use Rattle.cb_world.proofs.Laws.{window_at}
 use Rattle.cb_rule.specs.declared.view.Held.{Held}
 use Rattle.cb_rule.specs.declared.view.Stand.{Stand}
 use Rattle.cb_rule.specs.declared.view.View.{View}
-use Rattle.cb_rule.specs.History.{newest, top}
+use Rattle.cb_rule.specs.History.{newest, no_value, top}
 use Rattle.cb_rule.specs.Lists.{total}
 use Rattle.cb_rule.specs.Records.{PinOk, HeldOk, SeenOk}
 use Rattle.cb_rule.specs.Rule.{RuleKept}
@@ -33,6 +33,7 @@ use Rattle.cb_rule.specs.Steps.{freed_seen, glanced, read_held, with_freed_seen,
 use Rattle.cb_rule.specs.Words.{stamps, base, pointer}
 use Rattle.cb_rule.proofs.Calm.{lies, look_ok, still_rule}
 use Rattle.cb_rule.proofs.Counts.{each_map, each_there, total-at}
+use Rattle.cb_rule.proofs.Growing.{lately_next, seen_now}
 use Rattle.cb_rule.proofs.Histories.{newest_entry}
 use Rattle.cb_rule.proofs.Lifting.{any_seat, same_words, set_same}
 use Rattle.cb_rule.proofs.Newest.{is_newest, known_made}
@@ -77,6 +78,27 @@ module _ (c : Config) (ws : List ℕ) (views : List View) (known : Shown) (es : 
           words = ((sym k.has ∙ sym n.has) i).words;
         },
       )
+
+  -- one whose word is Empty has no value
+  pub freed_value : (h : ℕ) → h < c.handles → state_of (pointer ws h) ≡ word.Empty
+      → newest es h ≡ no_value
+  freed_value h l empty = go (object_at known h) (r.stand h l) (r.fit h l)
+    where
+      w : ℕ
+      w = pointer ws h
+
+      go : (o : Object)
+          → Stands c known.first ws h (total (pins_on h) views) (total (claims_on h) views)
+          (top es h) (newest es h) (version_at known h) o
+          → Fits o w → newest es h ≡ no_value
+      go (is.Empty v) k f = k.has
+      go (is.Far len v words) k f =
+          absurd (let b = bits_empty w empty in let n = f.0 in omega (arith, b, n))
+      go (is.Here len place) k f = absurd (⊎_elim
+          (λ (s : state_of w ≡ word.Here). other_state word.Here refl (sym s ∙ empty))
+          (λ (s : state_of w ≡ word.Moving). other_state word.Moving refl (sym s ∙ empty)) f.3)
+      go (is.Claimed len place v words) k f =
+          absurd (other_state word.Moving refl (sym f.4 ∙ empty))
 
   -- and so is one whose word is Empty
   pub freed : (h : ℕ) → h < c.handles → 0 < top es h → state_of (pointer ws h) ≡ word.Empty
@@ -183,7 +205,10 @@ module _ (beside : Beside) (steady : IsSteady beside) (first : ℕ) (c : Config)
                 me.0.claims _ _ me.0.peeked ok.lasting
                 (look_ok c s.words s.views r.known r.history k h l, ok.lasting.looks)
                 (freed c s.words s.views r.known r.history k h l made e, ok.lasting.seen)
-                ok.lasting.peeked;
+                ok.lasting.peeked
+                (λ his. lately_next r.history me.0.since me.0.had_seen me.0.seen (freed_seen h v)
+                (seen_now r.history me.0.since (freed_seen h v) ok.lasting.reached refl
+                (freed_value c s.words s.views r.known r.history k h l e)) (ok.lasting.lately his));
           } refl)
 
       pins : TellsPins h x me.0

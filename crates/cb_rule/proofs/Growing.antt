@@ -11,11 +11,13 @@ use Rattle.cb_world.specs.declared.object.Object.TheVariants as is
 use Rattle.cb_world.specs.Shown.{object_at}
 use Rattle.cb_rule.specs.declared.turn.Turn.{Turn}
 use Rattle.cb_rule.specs.declared.view.Look.{Look}
+use Rattle.cb_rule.specs.declared.view.Seen.{Seen}
 use Rattle.cb_rule.specs.declared.view.View.{View}
-use Rattle.cb_rule.specs.History.{Value, WasNow}
+use Rattle.cb_rule.specs.History.{Value, WasNow, newest, top}
 use Rattle.cb_rule.specs.Lists.{Each, Has}
 use Rattle.cb_rule.specs.Records.{IsOldOrLater, IsSettledBy, IsSettledFrom, LookOk, SeenOk}
-use Rattle.cb_rule.specs.Records.{PeekedOk, TellsOk, OldOk, TurnOk, RecordOk, ended_by, old_by}
+use Rattle.cb_rule.specs.Records.{PeekedOk, TellsOk, OldOk, TurnOk, RecordOk, SeenLately, SeenSince}
+use Rattle.cb_rule.specs.Records.{ended_by, old_by, seen_value}
 use Rattle.cb_rule.proofs.Counts.{each_map}
 
 pub has_more : {A : Type 0} (x : A) (more xs : List A) → Has x xs → Has x (more ++ xs)
@@ -101,13 +103,31 @@ module _ (more es : List Entry) where
     lasted = ok.lasted;
     reached = let a = ok.reached in let b = longer more es in omega (arith, a, b);
     read = λ handle version bytes asked told. let z = ok.read handle version bytes asked told in
-        (z.0, settled_more t.until z.0 z.1, z.2, z.3, z.4, z.5);
+        (
+          z.0,
+          settled_more t.until z.0 z.1,
+          z.2,
+          z.3,
+          z.4,
+          z.5,
+          now_more t.since t.until t.until handle.n version _ (omega arith) z.6,
+        );
     wrote = λ h n told. let z = ok.wrote h n told in (z.0, settled_more t.until z.0 z.1, z.2, z.3);
     had_by = all_settled t.since t.had ok.had_by;
     had_later = later_more t.old t.ended t.had ok.had_later;
     told = each_map (TellsOk first es t.since t.until) (TellsOk first (more ++ es) t.since t.until)
         t.acts (λ e o. tells_more first t.since t.until t.until e (omega arith) o) ok.told;
     began = λ h l. old_more first t.since h (object_at t.start h) (ok.began h l);
+  }
+
+  pub lately_more : (since : ℕ) (had seen : List Seen) → SeenLately es since had seen
+      → SeenLately (more ++ es) since had seen
+  lately_more since had seen o = record {
+    newer = o.newer;
+    parts = o.parts;
+    since_then = each_map (SeenSince es since) (SeenSince (more ++ es) since) o.newer
+        (λ s w. now_more since (length es) (length (more ++ es)) s.handle s.version _
+        (longer more es) w) o.since_then;
   }
 
   pub record_more : (c : Config) (first : ℕ) (u : View)
@@ -129,6 +149,7 @@ module _ (more es : List Entry) where
         (λ e o. tells_more first u.since (length es) (length (more ++ es)) e (longer more es) o)
         ok.told;
     began = λ h l. old_more first u.since h (object_at u.start h) (ok.began h l);
+    lately = λ holds. lately_more u.since u.had_seen u.seen (ok.lately holds);
     past = each_map (TurnOk c first es) (TurnOk c first (more ++ es)) u.turns
         (λ t o. turn_more c first t o) ok.past;
     order = record {
@@ -138,6 +159,29 @@ module _ (more es : List Entry) where
           ok.order.wrote_later;
     };
   }
+
+-- ---- what a view read in its turn
+-- the newest entry of an object is so now
+pub seen_now : (es : List Entry) (since : ℕ) (s : Seen) → since ≤ length es
+    → top es s.handle ≡ s.version → newest es s.handle ≡ seen_value s → SeenSince es since s
+seen_now es since s low last has = record {
+  newer = [];
+  older = es;
+  parts = refl;
+  low = low;
+  high = omega arith;
+  last = last;
+  has = has;
+}
+
+-- one more was read
+pub lately_next : (es : List Entry) (since : ℕ) (had seen : List Seen) (s : Seen)
+    → SeenSince es since s → SeenLately es since had seen → SeenLately es since had (s ∷ seen)
+lately_next es since had seen s now o = record {
+  newer = s ∷ o.newer;
+  parts = ap (λ (xs : List Seen). s ∷ xs) o.parts;
+  since_then = (now, o.since_then);
+}
 
 -- ---- what a view wrote, by its turns
 -- what stands in the history was settled by now

@@ -309,6 +309,7 @@ module _ (c : Config) (ws ws' : List ℕ) (views : List View) (id : ℕ) (v : Vi
         told = each_append (TellsOk v.known.first more v.since (length more)) v.acts (e ∷ [])
             g.told (t.tells, tt);
         began = g.began;
+        lately = g.lately;
         past = g.past;
         order = g.order;
       }

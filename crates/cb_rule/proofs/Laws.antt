@@ -14,6 +14,7 @@ pub use Rattle.cb_rule.proofs.Members.{each_has, times_has}
 pub use Rattle.cb_rule.proofs.Opening.{opens, stood_empty}
 pub use Rattle.cb_rule.proofs.OwnStanding.{stands_alone}
 pub use Rattle.cb_rule.proofs.Owning.{known_entries}
+pub use Rattle.cb_rule.proofs.PagesFor.{pages_for_class}
 pub use Rattle.cb_rule.proofs.Peeking.{peeks}
 pub use Rattle.cb_rule.proofs.Pinning.{gives_pins, takes_pin}
 pub use Rattle.cb_rule.proofs.Promising.{promises}

@@ -39,6 +39,7 @@ mod Lone
 mod FreedLast
 mod RecordStanding
 mod FreedLater
+mod PagesFor
 mod ClosedWorld
 mod ShownWorld
 mod Closing

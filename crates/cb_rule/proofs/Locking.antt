@@ -1,20 +1,20 @@
 -- The lock, the far state and the turns stay under steps on other words, and where seats are split
 -- and joined.
-use Rattle.std.proofs.Common.{◌≡◌, ◌≢◌, ◌⊎◌, ℕ, ◌+◌, ◌≤◌, Bool, true, false, cond, List, [], ◌∷◌}
-use Rattle.std.proofs.Common.{◌++◌, Option, None, get_or, set, sym, refl, ap, ◌∙◌, subst, ⊎_elim, arith}
+use Rattle.std.proofs.Common.{◌≡◌, ◌≢◌, ◌⊎◌, ℕ, ◌+◌, ◌^◌, ◌<◌, ◌≤◌, Bool, true, false, cond, List}
+use Rattle.std.proofs.Common.{[], ◌∷◌, ◌++◌, Option, None, get_or, set, sym, refl, ap, ◌∙◌, subst, ⊎_elim, arith}
 use Rattle.std.proofs.Common.{true≢false}
 use mathlib.Core.Option.{some}
 use lib.ListN.{get_elem?}
 use Rattle.cb_types.specs.declared.config.Config.{Config}
 use Rattle.cb_types.specs.declared.order.Kept.{Kept}
 use Rattle.cb_world.specs.declared.shown.Shown.{Shown}
-use Rattle.cb_world.specs.Empty.{empty_far}
+use Rattle.cb_world.specs.Empty.{empty_far, empty_shown}
 use Rattle.cb_world.specs.FarState.{FarState}
 use Rattle.cb_world.specs.Orders.{KeepsOrder}
 use Rattle.cb_rule.specs.declared.view.View.{View}
 use Rattle.cb_rule.specs.Lists.{times, total, Each}
-use Rattle.cb_rule.specs.Locking.{Deeds, IsTimed, IsUnlocked, Locked, Stood, TurnStands, is_turn}
-use Rattle.cb_rule.specs.Locking.{turns_on, when_ended}
+use Rattle.cb_rule.specs.Locking.{Deeds, IsHandedOn, IsTimed, IsUnlocked, Locked, Stood, TurnStands}
+use Rattle.cb_rule.specs.Locking.{is_turn, turns_on, when_ended}
 use Rattle.cb_rule.specs.Ruled.{IsAlike, IsSteady}
 use Rattle.cb_rule.specs.Seats.{holding}
 use Rattle.cb_rule.specs.Slot.{Table}
@@ -54,6 +54,16 @@ module _ (deeds : Deeds) (c : Config) (s : Table) (known : Shown) (r : Locked de
 
   abbrev Runs : ℕ → View → Type 0
   Runs j u = u.holds ≡ true → when_ended r.ends r.count ≤ u.since
+
+  abbrev Knew : ℕ → View → Type 0
+  Knew j u = u.holds ≡ true → r.count < 2 ^ 40 → u.start ≡ r.knew r.count
+
+  abbrev HandsOn : ℕ → View → Type 0
+  HandsOn j u = Each (IsHandedOn r.knew) u.turns
+
+  -- what a view's turn knew when it began stays
+  still_knew : (j : ℕ) (v w : View) → IsAlike v w → Knew j v → Knew j w
+  still_knew j v w alike b h few = alike.start ∙ b (sym alike.holds ∙ h) few
 
   abbrev Timed : ℕ → View → Type 0
   Timed j u = Each (IsTimed r.count r.ends) u.turns
@@ -123,6 +133,17 @@ module _ (deeds : Deeds) (c : Config) (s : Table) (known : Shown) (r : Locked de
           (λ j u ne there. r.timed j u there);
       runs = seats_stay Runs s.views id w (still_runs id v w alike (r.runs id v at))
           (λ j u ne there. r.runs j u there);
+      knew = r.knew;
+      unknown = r.unknown ∙ ap (λ (n : ℕ). empty_shown n c) (sym first);
+      known_now = λ none few. ⊎_elim
+          (λ (e : known' ≡ known). e ∙ r.known_now (sym same ∙ none) few)
+          (λ (h : v.holds ≡ true). absurd (let le = total-at holding s.views id v at in
+          let one = hit v.holds h in omega (arith, le, one, same, none))) why;
+      known_then = seats_stay Knew s.views id w
+          (still_knew id v w alike (r.known_then id v at)) (λ j u ne there. r.known_then j u there);
+      handed = seats_stay HandsOn s.views id w
+          (subst (Each (IsHandedOn r.knew)) (sym alike.turns) (r.handed id v at))
+          (λ j u ne there. r.handed j u there);
     }
       where
         stay : (k : Shown) (f : FarState)
@@ -195,6 +216,22 @@ module _ (deeds : Deeds) (c : Config) (s : Table) (known : Shown) (r : Locked de
           (λ (t : right ≡ u). subst (λ (x : View). Runs j x) t
           (λ h. absurd (true≢false (sym h ∙ quiet))))
           (at_snoc (set s.views id left) right u j there);
+      knew = r.knew;
+      unknown = r.unknown;
+      known_now = λ z few. r.known_now (sym same ∙ z) few;
+      known_then = λ j u there. ⊎_elim
+          (λ (t : get_elem? (set s.views id left) j ≡ some u). seats_stay Knew s.views id left
+          (still_knew id v left alike (r.known_then id v at)) (λ i x _ e. r.known_then i x e) j u t)
+          (λ (t : right ≡ u). subst (λ (x : View). Knew j x) t
+          (λ h. absurd (true≢false (sym h ∙ quiet))))
+          (at_snoc (set s.views id left) right u j there);
+      handed = λ j u there. ⊎_elim
+          (λ (t : get_elem? (set s.views id left) j ≡ some u). seats_stay HandsOn s.views id left
+          (subst (Each (IsHandedOn r.knew)) (sym alike.turns) (r.handed id v at))
+          (λ i x _ e. r.handed i x e) j u t)
+          (λ (t : right ≡ u). subst (Each (IsHandedOn r.knew))
+          (sym none ∙ ap (λ (x : View). x.turns) t) tt)
+          (at_snoc (set s.views id left) right u j there);
     }
       where
         more : List View
@@ -264,6 +301,18 @@ module _ (deeds : Deeds) (c : Config) (s : Table) (known : Shown) (r : Locked de
           (λ h. absurd (true≢false (sym h)))
           (λ j u _. seats_stay Runs s.views id both (r.runs id v at)
           (λ i x _ e. r.runs i x e) j u);
+      knew = r.knew;
+      unknown = r.unknown;
+      known_now = λ z few. r.known_now (sym same ∙ z) few;
+      known_then = seats_stay Knew (set s.views id both) other (blank c)
+          (λ h. absurd (true≢false (sym h)))
+          (λ j u _. seats_stay Knew s.views id both (r.known_then id v at)
+          (λ i x _ e. r.known_then i x e) j u);
+      handed = seats_stay HandsOn (set s.views id both) other (blank c) tt
+          (λ j u _. seats_stay HandsOn s.views id both
+          (each_append (IsHandedOn r.knew) w.turns v.turns
+          (r.handed other w (sym (set_else s.views id other both ne) ∙ there)) (r.handed id v at))
+          (λ i x _ e. r.handed i x e) j u);
     }
       where
         both : View

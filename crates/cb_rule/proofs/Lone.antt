@@ -85,7 +85,7 @@ module _ (c : Config) (views : List View) (id : ℕ) (v : View) (at : get_elem? 
       goes e (inl z) = inl z
       goes e (inr z) = inr (z.0, wrote z.0 z.1, z.2, z.3, z.4, z.5, z.6)
 
-  unmade : (t : Turn) → Made (v ∷ []) t → Made views t
+  pub unmade : (t : Turn) → Made (v ∷ []) t → Made views t
   unmade t m = (v, (id, at), among (λ (u : View). Has t u.turns) m.0 m.1 m.2)
 
   pub lone_told : (first : ℕ) → AreTold first c views → AreTold first c (v ∷ [])
@@ -109,6 +109,8 @@ module _ (c : Config) (views : List View) (id : ℕ) (v : View) (at : get_elem? 
     follows = λ t u m n e. r.follows t u (unmade t m) (unmade u n) e;
     ends = λ t m e. r.ends t (unmade t m) e;
     numbers = λ t m. r.numbers t (unmade t m);
+    unknown = λ t m e. r.unknown t (unmade t m) e;
+    knows = λ t u m n e few. r.knows t u (unmade t m) (unmade u n) e few;
     sound = λ t m. r.sound t (unmade t m);
     starts = λ t m. r.starts t (unmade t m);
     kept = λ t m. r.kept t (unmade t m);

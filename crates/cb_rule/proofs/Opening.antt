@@ -1,6 +1,6 @@
 -- The rule at the start: no object was made, every word is 0, and no turn was counted.
-use Rattle.std.proofs.Common.{◌≡◌, ℕ, zero, suc, ◌+◌, ◌*◌, ◌<◌, ◌≤◌, true, false, List, [], ◌∷◌}
-use Rattle.std.proofs.Common.{length, get_or, replicate, Some, sym, refl, ap, ◌∙◌, subst, inl, inr}
+use Rattle.std.proofs.Common.{◌≡◌, ℕ, zero, suc, ◌+◌, ◌*◌, ◌^◌, ◌<◌, ◌≤◌, true, false, List, []}
+use Rattle.std.proofs.Common.{◌∷◌, length, get_or, replicate, Some, sym, refl, ap, ◌∙◌, subst, inl, inr}
 use Rattle.std.proofs.Common.{arith, true≢false}
 use mathlib.Core.Option.{some, some-injective, some-ne-none}
 use lib.ListN.{get_elem?}
@@ -22,7 +22,7 @@ use Rattle.cb_world.specs.Orders.{KeepsOrder}
 use Rattle.cb_rule.specs.declared.view.View.{View}
 use Rattle.cb_rule.specs.History.{Value, WasNow, newest, no_value, top}
 use Rattle.cb_rule.specs.Lists.{total, Each}
-use Rattle.cb_rule.specs.Locking.{Deeds, IsTimed, Locked, Stood, TurnStands}
+use Rattle.cb_rule.specs.Locking.{Deeds, IsHandedOn, IsTimed, Locked, Stood, TurnStands}
 use Rattle.cb_rule.specs.Records.{OldOk, SeatOk}
 use Rattle.cb_rule.specs.Rule.{RuleKept}
 use Rattle.cb_rule.specs.Ruled.{Ruled}
@@ -95,6 +95,7 @@ module _ (first : ℕ) (pos : 1 ≤ first) (c : Config) (ws : List ℕ) (wide : 
       reached = omega arith;
       told = tt;
       began = λ h l. never_now [] h;
+      lately = λ his. absurd (true≢false (sym his));
       past = tt;
       order = record { had_by = tt; had_later = tt; wrote_later = tt };
     };
@@ -171,6 +172,12 @@ module _ (first : ℕ) (pos : 1 ≤ first) (c : Config) (ws : List ℕ) (wide : 
       ends = λ _. 0;
       timed = one_view (λ u. Each (IsTimed 0 (λ _. 0)) u.turns) tt;
       runs = one_view (λ u. u.holds ≡ true → 0 ≤ u.since) (λ his. omega arith);
+      knew = λ _. s;
+      unknown = refl;
+      known_now = λ none few. refl;
+      known_then = one_view (λ u. u.holds ≡ true → 0 < 2 ^ 40 → u.start ≡ s)
+          (λ his. absurd (true≢false (sym his)));
+      handed = one_view (λ u. Each (IsHandedOn (λ _. s)) u.turns) tt;
     }
 
     pub opens : Ruled (Locked deeds) first c start

@@ -39,7 +39,7 @@ use Rattle.cb_rule.proofs.Claiming.{found_below, found_calm, found_here, found_s
 use Rattle.cb_rule.proofs.Counts.{each_edited, each_removed_only, hit, miss, times-edited}
 use Rattle.cb_rule.proofs.Counts.{times-removed, times-removed_else, total-at, total-same}
 use Rattle.cb_rule.proofs.Counts.{total-set, each_there}
-use Rattle.cb_rule.proofs.Growing.{record_more, settled_last}
+use Rattle.cb_rule.proofs.Growing.{lately_next, record_more, seen_now, settled_last}
 use Rattle.cb_rule.proofs.Histories.{newest_else, newest_entry, newest_same, top_else, top_same}
 use Rattle.cb_rule.proofs.Keeping.{held_same, lies_here, outside, words_else}
 use Rattle.cb_rule.proofs.Members.{each_has, times_has}
@@ -86,6 +86,7 @@ record_held c first es v claims looks l o = record {
   reached = o.reached;
   told = o.told;
   began = o.began;
+  lately = o.lately;
   past = o.past;
   order = o.order;
 }
@@ -516,6 +517,7 @@ module _ (c : Config) (ws : List ℕ) (views : List View) (known : Shown) (es : 
             reached = g.reached;
             told = g.told;
             began = g.began;
+            lately = g.lately;
             past = g.past;
             order = record {
               had_by = g.order.had_by;
@@ -574,6 +576,10 @@ module _ (c : Config) (ws : List ℕ) (views : List View) (known : Shown) (es : 
             reached = g.reached;
             told = g.told;
             began = g.began;
+            lately = λ his. lately_next es v.since v.had_seen v.seen
+                (version_seen x.handle x.version x.len x.old)
+                (seen_now es v.since (version_seen x.handle x.version x.len x.old) g.reached
+                (sym o.number) o.contents) (g.lately his);
             past = g.past;
             order = g.order;
           };

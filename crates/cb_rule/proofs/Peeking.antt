@@ -166,5 +166,5 @@ module _ (beside : Beside) (steady : IsSteady beside) (first : ℕ) (c : Config)
               peeks_entry c s.words s.views r.known r.history k id me.0 at p there j lt n
                   (peeks_word c s.words s.views r.known r.history k id me.0 at p there j lt),
               ok.lasting.peeked,
-            );
+            ) ok.lasting.lately;
       }

@@ -1,5 +1,5 @@
 -- Pins of any seat, while another may hold the lock.
-use Rattle.std.proofs.Common.{◌≡◌, ℕ, suc, ◌+◌, ◌-◌, ◌*◌, ◌/◌, ◌%◌, ◌^◌, ◌<◌, ◌≤◌, Bool, false}
+use Rattle.std.proofs.Common.{true, ◌≡◌, ℕ, suc, ◌+◌, ◌-◌, ◌*◌, ◌/◌, ◌%◌, ◌^◌, ◌<◌, ◌≤◌, Bool, false}
 use Rattle.std.proofs.Common.{cond, eqb, List, [], ◌∷◌, length, set, sym, refl, ap, ◌∙◌, subst, inl}
 use Rattle.std.proofs.Common.{inr, arith, eq-eqb, ne_eqb, eqb-true}
 use mathlib.Core.Logic.{dite}
@@ -29,7 +29,7 @@ use Rattle.cb_rule.specs.declared.view.View.{View}
 use Rattle.cb_rule.specs.History.{Value, newest, top}
 use Rattle.cb_rule.specs.Lists.{removed, Each}
 use Rattle.cb_rule.specs.Own.{AreOwn}
-use Rattle.cb_rule.specs.Records.{LookOk, PinOk, SeenOk, PeekedOk, RecordOk}
+use Rattle.cb_rule.specs.Records.{LookOk, PinOk, SeenLately, SeenOk, PeekedOk, RecordOk}
 use Rattle.cb_rule.specs.Rule.{RuleKept}
 use Rattle.cb_rule.specs.Ruled.{Beside, IsSteady, Ruled, AreShares}
 use Rattle.cb_rule.specs.Seats.{pins_it, pins_on}
@@ -40,6 +40,7 @@ use Rattle.cb_rule.specs.Words.{base, pointer}
 use Rattle.cb_rule.proofs.Calm.{Lies, Quiet, calm_rule, lies, look_ok, still_rule}
 use Rattle.cb_rule.proofs.Counts.{each_removed, hit, miss, times-removed, times-removed_else}
 use Rattle.cb_rule.proofs.Counts.{total-at, total-set}
+use Rattle.cb_rule.proofs.Growing.{lately_next, seen_now}
 use Rattle.cb_rule.proofs.Histories.{IsEntry, newest_entry}
 use Rattle.cb_rule.proofs.Keeping.{lies_here}
 use Rattle.cb_rule.proofs.Lifting.{any_seat, same_lock, same_words}
@@ -50,7 +51,8 @@ use Rattle.cb_rule.proofs.Owning.{keeps_all, keeps_pin, keeps_unpin, known_trace
 pub reread : (c : Config) (first : ℕ) (es : List Entry) (v : View) (share ever : ℕ)
     (pins : List Stand) (claims : List Held) (looks : List Look) (seen : List Seen)
     (peeked : List Peeked) → RecordOk c first es v → Each (LookOk es) looks
-    → Each (SeenOk es) seen → Each (PeekedOk es) peeked → RecordOk c first es (record v {
+    → Each (SeenOk es) seen → Each (PeekedOk es) peeked
+    → (v.holds ≡ true → SeenLately es v.since v.had_seen seen) → RecordOk c first es (record v {
       share = share;
       pins = pins;
       ever = ever;
@@ -59,7 +61,7 @@ pub reread : (c : Config) (first : ℕ) (es : List Entry) (v : View) (share ever
       peeked = peeked;
       looks = looks;
     })
-reread c first es v share ever pins claims looks seen peeked ok l s p = record {
+reread c first es v share ever pins claims looks seen peeked ok l s p lately = record {
   written = ok.written;
   fresh = ok.fresh;
   seen = s;
@@ -68,6 +70,7 @@ reread c first es v share ever pins claims looks seen peeked ok l s p = record {
   reached = ok.reached;
   told = ok.told;
   began = ok.began;
+  lately = lately;
   past = ok.past;
   order = ok.order;
 }
@@ -86,7 +89,7 @@ looks_quiet c ws views known es r id h w v at o = let ok = r.seats id v at in re
   few = ok.few;
   others = λ k ne. refl;
   lasting = reread c known.first es v v.share v.ever v.pins v.claims _ v.seen v.peeked ok.lasting
-      (o, ok.lasting.looks) ok.lasting.seen ok.lasting.peeked;
+      (o, ok.lasting.looks) ok.lasting.seen ok.lasting.peeked ok.lasting.lately;
 }
 
 -- the entry that an exchange found, as read
@@ -259,7 +262,15 @@ module _ (beside : Beside) (steady : IsSteady beside) (first : ℕ) (c : Config)
                   reads c s.words s.views r.known es k r.shares first r.own h l o,
                   ok.lasting.seen,
                 )
-                ok.lasting.peeked;
+                ok.lasting.peeked
+                (λ his. lately_next es me.0.since me.0.had_seen me.0.seen
+                (version_seen h (top es h) (len_of x) (newest es h).words)
+                (seen_now es me.0.since (version_seen h (top es h) (len_of x) (newest es h).words)
+                ok.lasting.reached refl (o.held ∙ ap (λ (n : ℕ). record {
+                  len = n;
+                  freed = false;
+                  words = (newest es h).words;
+                }) (sym f.1))) (ok.lasting.lately his));
           }
 
   pub gives_pins : 0 < pins_on h me.0
@@ -289,7 +300,8 @@ module _ (beside : Beside) (steady : IsSteady beside) (first : ℕ) (c : Config)
         others = λ q ne. times-removed_else (pins_it h) (pins_it q) me.0.pins
             (λ p is. ne_eqb p.handle q (λ e. ne (sym e ∙ eqb-true p.handle h is)));
         lasting = reread c r.known.first es me.0 me.0.share me.0.ever _ me.0.claims me.0.looks
-            me.0.seen me.0.peeked ok.lasting ok.lasting.looks ok.lasting.seen ok.lasting.peeked;
+            me.0.seen me.0.peeked ok.lasting ok.lasting.looks ok.lasting.seen ok.lasting.peeked
+            ok.lasting.lately;
       } in (
         w,
         keeps,

@@ -8,6 +8,7 @@ use Rattle.cb_types.specs.declared.config.Config.{Config}
 use Rattle.cb_world.specs.declared.entry.Entry.{Entry}
 use Rattle.cb_rule.specs.declared.view.Seen.{Seen}
 use Rattle.cb_rule.specs.declared.view.View.{View}
+use Rattle.cb_rule.specs.Lists.{Has}
 use Rattle.cb_rule.specs.Locking.{Deeds, Locked}
 use Rattle.cb_rule.specs.OneHistory.{IsOneHistory}
 use Rattle.cb_rule.specs.OwnStands.{WroteItself}
@@ -27,6 +28,10 @@ module _ (first : ℕ) (views : List View) (stand : EntriesStand first views)
     (id : ℕ) (u : View) (at : get_elem? views id ≡ some u) where
   wrote : (e : Entry) → WroteItself u e → Wrote views e
   wrote = wrote_there views id u at
+
+  -- what was read is an entry
+  of_entry : (s : Seen) → Has s u.seen → (e : Entry) × Wrote views e × (s ≡ seen_of e)
+  of_entry s has = stand.read s (u, (id, at), has)
 
   -- the entry before one, by its version
   goes_on_from : (e x : Entry) → Wrote views x → e.handle ≡ x.handle → e.version ≡ x.version + 1
@@ -51,6 +56,16 @@ module _ (first : ℕ) (views : List View) (stand : EntriesStand first views)
     goes_on = λ e x a b same next. goes_on_from e x (wrote x b) same next
         (stand.goes_on e (wrote e a));
     ends = freed_last first views stand u (id, at);
+    same_read = λ s t a b same version. let z = of_entry s a in let y = of_entry t b in
+        let one : z.0 ≡ y.0 = stand.same z.0 y.0 z.1 y.1
+        (sym (ap (λ (k : Seen). k.handle) z.2) ∙ same ∙ ap (λ (k : Seen). k.handle) y.2)
+        (sym (ap (λ (k : Seen). k.version) z.2) ∙ version ∙ ap (λ (k : Seen). k.version) y.2) in
+        z.2 ∙ ap seen_of one ∙ sym y.2;
+    keeps_read = λ e s a b same next. let z = of_entry s b in
+        let on = goes_on_from e z.0 z.1 (sym same ∙ ap (λ (k : Seen). k.handle) z.2)
+        (next ∙ ap (λ (k : Seen). k.version + 1) z.2) (stand.goes_on e (wrote e a)) in
+        subst (λ (k : Seen). (k.words ≡ e.before) × (k.freed ≡ false)
+        × (e.freed ≡ false → e.len ≡ k.len)) (sym z.2) on;
   }
 
 -- so of each view between any two steps

@@ -90,6 +90,7 @@ module _ (c : Config) (ws : List ℕ) (views : List View) (known : Shown) (es : 
       reached = omega arith;
       told = tt;
       began = λ h l. never_now es h;
+      lately = λ his. absurd (true≢false (sym his));
       past = tt;
       order = record { had_by = tt; had_later = tt; wrote_later = tt };
     };
@@ -111,6 +112,7 @@ module _ (c : Config) (ws : List ℕ) (views : List View) (known : Shown) (es : 
       reached = omega arith;
       told = tt;
       began = λ h l. never_now es h;
+      lately = λ his. absurd (true≢false (sym his));
       past = tt;
       order = record { had_by = tt; had_later = tt; wrote_later = tt };
     };
@@ -181,6 +183,7 @@ module _ (c : Config) (ws : List ℕ) (views : List View) (known : Shown) (es : 
           reached = k.reached;
           told = k.told;
           began = k.began;
+          lately = k.lately;
           past = k.past;
           order = k.order;
         };
@@ -188,8 +191,9 @@ module _ (c : Config) (ws : List ℕ) (views : List View) (known : Shown) (es : 
 
   pub kept_joins : (id : ℕ) (v : View) (other : ℕ) (w : View) → get_elem? views id ≡ some v
       → other ≢ id → get_elem? (set views id (joined v w)) other ≡ some w → w.holds ≡ false
-      → w.pins ≡ [] → RuleKept c ws (set (set views id (joined v w)) other (blank c)) known es
-  kept_joins id v other w at ne there quiet bare = record {
+      → w.pins ≡ [] → v.holds ≡ false
+      → RuleKept c ws (set (set views id (joined v w)) other (blank c)) known es
+  kept_joins id v other w at ne there quiet bare out = record {
     wide = r.wide;
     sized = r.sized;
     begins = r.begins;
@@ -251,6 +255,7 @@ module _ (c : Config) (ws : List ℕ) (views : List View) (known : Shown) (es : 
           reached = k.reached;
           told = k.told;
           began = k.began;
+          lately = λ his. absurd (true≢false (sym his ∙ out));
           past = each_append (TurnOk c known.first es) w.turns v.turns k'.past k.past;
           order = record {
             had_by = k.order.had_by;
@@ -312,13 +317,14 @@ module _ (beside : Beside) (steady : IsSteady beside) (first : ℕ) (c : Config)
   }
 
   pub joins : (id : ℕ) (v : View) (other : ℕ) (w : View) → 1 ≤ v.share → w.holds ≡ false
-      → w.pins ≡ [] → v.fresh ≡ [] → Joins (Ruled beside first c) id v other w (joined v w) (blank c)
-  joins id v other w live quiet bare fresh s r at ne there = record {
+      → w.pins ≡ [] → v.fresh ≡ [] → v.holds ≡ false
+      → Joins (Ruled beside first c) id v other w (joined v w) (blank c)
+  joins id v other w live quiet bare fresh out s r at ne there = record {
     known = r.known;
     history = r.history;
     starts = r.starts;
     kept = kept_joins c s.words s.views r.known r.history r.kept id v other w at ne there quiet
-        bare;
+        bare out;
     shares = shares_joined c s.views id v other w at there live r.shares;
     own = let at' = sym (set_else s.views id other (joined v w) ne) ∙ there in
         own_joined first c s.views id v other w at at' fresh (r.own.idle other w at' quiet) r.own;

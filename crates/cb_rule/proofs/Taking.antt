@@ -1,5 +1,5 @@
 -- A seat takes the lock, and the far state out of its slot.
-use Rattle.std.proofs.Common.{◌≡◌, ℕ, zero, suc, ◌*◌, ◌%◌, ◌<◌, ◌≤◌, true, List, ◌∷◌, length}
+use Rattle.std.proofs.Common.{◌≡◌, ℕ, zero, suc, ◌*◌, ◌^◌, ◌%◌, ◌<◌, ◌≤◌, true, List, [], ◌∷◌, length}
 use Rattle.std.proofs.Common.{get_or, set, Some, sym, refl, ap, ◌∙◌, subst, ⊎_elim, arith, eqb}
 use Rattle.std.proofs.Common.{eq-eqb, ne_eqb, length-set, get_or-set_same, true≢false}
 use Rattle.std.proofs.lemmas.Bool.{cases_lt}
@@ -18,7 +18,8 @@ use Rattle.cb_world.specs.Orders.{KeepsOrder}
 use Rattle.cb_rule.specs.declared.view.View.{View}
 use Rattle.cb_rule.specs.History.{newest, top}
 use Rattle.cb_rule.specs.Lists.{total, Each, Has}
-use Rattle.cb_rule.specs.Locking.{Deeds, IsTimed, Locked, Stood, TurnStands, turns_on, when_ended}
+use Rattle.cb_rule.specs.Locking.{Deeds, IsHandedOn, IsTimed, Locked, Stood, TurnStands, turns_on}
+use Rattle.cb_rule.specs.Locking.{when_ended}
 use Rattle.cb_rule.specs.LockSteps.{HasTaken, took, took_lock}
 use Rattle.cb_rule.specs.Own.{AreOwn, held_on}
 use Rattle.cb_rule.specs.Records.{IsSettledBy}
@@ -95,6 +96,7 @@ module _ (deeds : Deeds) (first : ℕ) (c : Config) (s : Table) (id : ℕ) (me :
           reached = omega arith;
           told = tt;
           began = old_now c s.words s.views r.known r.history r.kept;
+          lately = λ _. record { newer = []; parts = refl; since_then = tt };
           past = k.past;
           order = record {
             had_by = each_map (λ e. Has e r.history) (IsSettledBy r.history (length r.history))
@@ -133,6 +135,14 @@ module _ (deeds : Deeds) (first : ℕ) (c : Config) (s : Table) (id : ℕ) (me :
         (lock.timed id me.0 at) (λ j u ne there. lock.timed j u there);
     runs = seats_stay (λ _ u. u.holds ≡ true → when_ended lock.ends lock.count ≤ u.since) s.views id taken
         (λ _. last_end deeds first c s r) (λ j u ne there. lock.runs j u there);
+    knew = lock.knew;
+    unknown = lock.unknown;
+    known_now = λ none_holds. absurd (omega (arith, none_holds, one_holds));
+    known_then = seats_stay (λ _ u. u.holds ≡ true → lock.count < 2 ^ 40
+        → u.start ≡ lock.knew lock.count) s.views id taken
+        (λ _. lock.known_now nobody) (λ j u ne there. lock.known_then j u there);
+    handed = seats_stay (λ _ u. Each (IsHandedOn lock.knew) u.turns) s.views id taken
+        (lock.handed id me.0 at) (λ j u ne there. lock.handed j u there);
   }
 
   own_taken : AreOwn first views

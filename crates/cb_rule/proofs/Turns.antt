@@ -1,10 +1,10 @@
 -- The rule says what stands of the lock, the slot of the far state and the turns alone.
 use Rattle.std.proofs.Common.{◌≡◌, ℕ, ◌+◌, ◌^◌, ◌<◌, ◌≤◌, sym, ap, ◌∙◌, inl, inr, ⊎_elim, arith}
 use Rattle.cb_types.specs.declared.config.Config.{Config}
-use Rattle.cb_world.specs.Empty.{empty_far}
+use Rattle.cb_world.specs.Empty.{empty_far, empty_shown}
 use Rattle.cb_world.specs.FarState.{FarState}
 use Rattle.cb_rule.specs.declared.turn.Turn.{Turn}
-use Rattle.cb_rule.specs.Locking.{Deeds, Locked, TurnStands, turn_number}
+use Rattle.cb_rule.specs.Locking.{Deeds, IsHandedOn, Locked, TurnStands, turn_number}
 use Rattle.cb_rule.specs.OneHistory.{HasTurnNumber, IsOneHistory, Made, TurnsStand}
 use Rattle.cb_rule.specs.Ruled.{Ruled}
 use Rattle.cb_rule.specs.Slot.{Table}
@@ -21,6 +21,9 @@ module _ (deeds : Deeds) (first : ℕ) (c : Config) (s : Table)
   turn_stands : (t : Turn) → Made s.views t → TurnStands deeds c lock.count lock.chain t
   turn_stands t m = each_has (TurnStands deeds c lock.count lock.chain) t m.0.turns
       (lock.turns m.1.0 m.0 m.1.1) m.2
+
+  pub handed_on : (t : Turn) → Made s.views t → IsHandedOn lock.knew t
+  handed_on t m = each_has (IsHandedOn lock.knew) t m.0.turns (lock.handed m.1.0 m.0 m.1.1) m.2
 
   has_number : (t : Turn) → Made s.views t → HasTurnNumber lock.count t
   has_number t m = ⊎_elim
@@ -60,6 +63,10 @@ module _ (deeds : Deeds) (first : ℕ) (c : Config) (s : Table)
         ∙ sym (gave_next t mt (let le = not_past u mu in omega (arith, le, next)));
     ends = λ t m last. gave_next t m (omega (arith, last)) ∙ ap lock.chain last;
     numbers = has_number;
+    unknown = λ t m z. (handed_on t m).began (omega (arith, z)) ∙ ap lock.knew z ∙ lock.unknown
+        ∙ ap (λ (n : ℕ). empty_shown n c) r.starts;
+    knows = λ t u mt mu next few. (handed_on u mu).began few ∙ ap lock.knew next
+        ∙ sym ((handed_on t mt).left (omega (arith, next, few)));
     sound = λ t m. (turn_stands t m).stood;
     starts = starts;
     kept = λ t m. (turn_stands t m).kept;

@@ -2,13 +2,17 @@
 use Rattle.std.proofs.Common.{◌≡◌, ℕ, zero, suc, ◌≤◌, ◌++◌, get_or, subst, true, false, Bool, List}
 use Rattle.std.proofs.Common.{[], ◌∷◌, Some, None, length, replicate, ◌<◌, sym, refl, ap, ◌∙◌, inl}
 use Rattle.std.proofs.Common.{inr, ⊎_elim, true≢false, lit<, lit≤, arith}
+use Rattle.std.proofs.Common.{◌+◌, ◌*◌, ◌^◌}
+use Rattle.std.proofs.lemmas.List.{get_or_past}
 use mathlib.Core.Option.{Option as Maybe, some, none, some-injective, some-ne-none}
 use Rattle.atomic_table.specs.Table.{opening}
 use Rattle.cb_types.specs.declared.config.Config.{Config}
-use Rattle.cb_ptr.specs.Word.{state_of}
+use Rattle.cb_ptr.specs.Word.{place_of, state_of}
 use Rattle.cb_world.specs.declared.entry.Entry.{Entry}
 use Rattle.cb_world.specs.declared.access.Access.{Access}
 use Rattle.cb_world.specs.declared.access.Access.TheVariants.{Claimed}
+use Rattle.cb_world.specs.declared.object.Object.TheVariants as is
+use Rattle.cb_world.specs.declared.shown.Shown.{Shown}
 use Rattle.cb_world.specs.Empty.{empty_far}
 use Rattle.cb_world.specs.FarState.{FarState}
 use Rattle.cb_world.specs.Looks.{IsLook}
@@ -16,7 +20,9 @@ use Rattle.cb_world.specs.Memory.{bytes_in, window}
 use Rattle.cb_world.specs.Now.{Now}
 use Rattle.cb_world.specs.Now.Now.{freed as ended, held, gone}
 use Rattle.cb_world.specs.Seats.{idle_seat}
-use Rattle.cb_world.specs.Plain.{stamp_at, word_at}
+use Rattle.cb_world.specs.Plain.{Words, stamp_at, word_at}
+use Rattle.cb_world.specs.Played.{StaysHot}
+use Rattle.cb_world.specs.Shown.{Covers, Fits, IsHeld, Owns, Spares, never, object_at, version_at}
 use Rattle.cb_world.specs.StillDesk.{window_length}
 use Rattle.cb_world.specs.World.{WorldState}
 use Rattle.cb_world.specs.Written.{entry}
@@ -25,9 +31,11 @@ use Rattle.cb_rule.specs.declared.turn.Turn.{Turn}
 use Rattle.cb_rule.specs.declared.view.Peeked.{Peeked}
 use Rattle.cb_rule.specs.declared.view.Seen.{Seen}
 use Rattle.cb_rule.specs.declared.view.View.{View}
-use Rattle.cb_rule.specs.Closing.{HoldsEntries, IsClosed, desk_of, now_of}
+use Rattle.cb_rule.specs.Closing.{AreAsKnown, HoldsEntries, IsClosed, KeepsLeft, desk_of, now_of}
 use Rattle.cb_rule.specs.History.{top}
 use Rattle.cb_rule.specs.Lists.{total, Has}
+use Rattle.cb_rule.specs.Locking.{left_known}
+use Rattle.cb_rule.specs.OneHistory.{Made}
 use Rattle.cb_rule.specs.Promised.{EntriesStand, EntryGoesOn, Is, Wrote}
 use Rattle.cb_rule.specs.Records.{TellsOk}
 use Rattle.cb_rule.specs.Seats.{written_on}
@@ -345,3 +353,119 @@ without_its_object k = holds_not_its_object k.holds
 -- a turn is counted that does not stand in the record
 without_its_turn : Closed (opener pair_of) (world_of (far 1)) → ⊥
 without_its_turn k = let e : 0 ≡ 1 = k.turns.once 0 (lit< tt) in omega (arith, e)
+
+-- ---- what the newest turn left: object 0 lies hot at the first word of memory, object 1 is far, and
+-- the second word is free
+abbrev left_so : Shown
+left_so = record {
+  first = 3;
+  objects = is.Here 8 0 ∷ is.Far 8 4 (7 ∷ []) ∷ [];
+  hots = true ∷ false ∷ [];
+  versions = 0 ∷ 4 ∷ [];
+  memory = 0 ∷ 9 ∷ [];
+}
+
+abbrev hot_word : ℕ
+hot_word = here_word 8 + 4
+
+abbrev far_word : ℕ
+far_word = 1 + 8 * 8192
+
+-- since then object 0 was written in place
+abbrev words_so : Words
+words_so = record {
+  settings = pair_of;
+  words = hot_word ∷ far_word ∷ [];
+  versions = 6 ∷ 4 ∷ [];
+  memory = 5 ∷ 9 ∷ [];
+}
+
+as_left : AreAsKnown left_so words_so
+as_left = record {
+  fit = fit;
+  hot = hot;
+  held = held_so;
+  owned = owned_so;
+}
+  where
+    fit : (h : ℕ) → h < 2 → Fits (object_at left_so h) (word_at words_so h)
+    fit zero below = (lit< tt, refl, refl, inl refl)
+    fit (suc zero) below = (refl, refl)
+    fit (suc (suc h)) below = absurd (omega (arith, below))
+
+    hot : (h : ℕ) → h < 2 → StaysHot left_so h (word_at words_so h)
+    hot zero below was = refl
+    hot (suc zero) below was = absurd (true≢false (sym was))
+    hot (suc (suc h)) below was = absurd (omega (arith, below))
+
+    held_so : (h : ℕ) → h < 2 → IsHeld (object_at left_so h)
+        → get_or words_so.versions h 0 ≡ version_at left_so h
+    held_so zero below own = absurd own
+    held_so (suc zero) below own = refl
+    held_so (suc (suc h)) below own = absurd (omega (arith, below))
+
+    owned_so : (p : ℕ) → Owns left_so p → get_or words_so.memory p 0 ≡ get_or left_so.memory p 0
+    owned_so zero own = absurd (own.1 0 (lit≤ tt, lit< tt))
+    owned_so (suc zero) own = refl
+    owned_so (suc (suc p)) own = absurd (let low = own.0 in omega (arith, low))
+
+-- another place; cold; another version word of an object that is far; another word that is free
+moved_away : AreAsKnown left_so record words_so { words = (hot_word + 2 ^ 40) ∷ far_word ∷ [] } → ⊥
+moved_away k = let f = k.fit 0 (lit< tt) in let e : place_of (hot_word + 2 ^ 40) ≡ 0 = f.2 in
+    omega (arith, e)
+
+all_cold : AreAsKnown left_so record words_so { words = here_word 8 ∷ far_word ∷ [] } → ⊥
+all_cold k = true≢false (sym (k.hot 0 (lit< tt) refl))
+
+stamped_else : AreAsKnown left_so record words_so { versions = 6 ∷ 5 ∷ [] } → ⊥
+stamped_else k = let e : 5 ≡ 4 = k.held 1 (lit< tt) tt in omega (arith, e)
+
+free_word_else : AreAsKnown left_so record words_so { memory = 5 ∷ 8 ∷ [] } → ⊥
+free_word_else k = let e : 8 ≡ 9 = k.owned 1 (lit< tt, spares) in omega (arith, e)
+  where
+    spares : (h : ℕ) → Spares 1 (object_at left_so h)
+    spares zero = λ (at : Covers 0 8 1). let less : 1 < 1 = at.1 in omega (arith, less)
+    spares (suc zero) = tt
+    spares (suc (suc h)) = subst (Spares 1)
+        (sym (get_or_past left_so.objects (suc (suc h)) never (omega arith))) tt
+
+-- a turn that found object 0 hot, in a world that is closed cold
+abbrev warm : Turn
+warm = record (turn (far 0) (far 1)) { start = left_so }
+
+abbrev warmed : View
+warmed = record (opener pair_of) { turns = warm ∷ [] }
+
+abbrev world_with : List ℕ → WorldState
+world_with words = record (world_of (far 1)) { desk = record words_so { words = words } }
+
+keeps_left : KeepsLeft 3 pair_of (warmed ∷ []) (world_with (hot_word ∷ far_word ∷ []))
+keeps_left = record {
+  newest = λ t made next few.
+      subst (λ (known : Shown). AreAsKnown known words_so) (left_by t made) as_left;
+  unturned = λ none. absurd (omega (arith, none));
+}
+  where
+    left_by : (t : Turn) → Made (warmed ∷ []) t → left_so ≡ left_known t
+    left_by t (u, (zero, same), has) = ap left_known (the_only t
+        (subst (λ (v : View). Has t v.turns) (sym (some-injective warmed u same)) has))
+      where
+        the_only : (t : Turn) → Has t (warm ∷ []) → warm ≡ t
+        the_only t (inl is) = is
+        the_only t (inr other) = absurd other
+    left_by t (u, (suc j, same), has) = absurd (some-ne-none u (sym same))
+
+closed_all_cold : KeepsLeft 3 pair_of (warmed ∷ []) (world_with (here_word 8 ∷ far_word ∷ [])) → ⊥
+closed_all_cold k = all_cold (k.newest warm (warmed, here warmed, inl refl) refl (lit< tt))
+
+-- where there was no turn: a version word that is not 0
+stamped_unturned : KeepsLeft 3 pair_of (opener pair_of ∷ []) record (world_of (far 0)) {
+  desk = record words_so { words = 0 ∷ 0 ∷ []; versions = 0 ∷ 1 ∷ [] };
+} → ⊥
+stamped_unturned k = let e : 1 ≡ 0 = (k.unturned refl).held 1 (lit< tt) tt in omega (arith, e)
+
+-- so no pass closes such a world
+closed_stamped : Closed (opener pair_of) record (world_of (far 0)) {
+  desk = record words_so { words = 0 ∷ 0 ∷ []; versions = 0 ∷ 1 ∷ [] };
+} → ⊥
+closed_stamped k = stamped_unturned k.left

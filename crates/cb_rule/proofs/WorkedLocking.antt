@@ -2,14 +2,14 @@
 -- breaks one part alone.
 use Rattle.std.proofs.Common.{◌≡◌, ℕ, zero, suc, ◌*◌, ◌^◌, ◌<◌, ◌≤◌, true, List, [], ◌∷◌, length}
 use Rattle.std.proofs.Common.{Option, Some, None, replicate, sym, refl, ap, ◌∙◌, subst, inl, inr, ⊎_elim}
-use Rattle.std.proofs.Common.{lit<, lit≤, arith}
+use Rattle.std.proofs.Common.{lit<, lit≤, arith, cond, eqb, get_or}
 use mathlib.Core.Option.{Option as Maybe, some, none, some-injective, some-ne-none}
 use lib.ListN.{get_elem?}
 use Rattle.cb_types.specs.declared.config.Field.TheVariants.{K, R, Nodes, Frames, Room, Handles}
 use Rattle.cb_types.specs.declared.config.Field.TheVariants.{Turns}
 use Rattle.cb_types.specs.Config.{IsAccepted}
 use Rattle.cb_types.specs.declared.job.Job.TheVariants.{Evict}
-use Rattle.cb_world.specs.declared.access.Access.TheVariants.{Looked}
+use Rattle.cb_world.specs.declared.access.Access.TheVariants.{Looked, Stamped}
 use Rattle.cb_world.specs.declared.shown.Shown.{Shown}
 use Rattle.cb_world.specs.Codes.{IsCodeOf}
 use Rattle.cb_world.specs.Empty.{empty_far, empty_shown}
@@ -21,7 +21,8 @@ use Rattle.cb_world.specs.Orders.{KeepsOrder}
 use Rattle.cb_rule.specs.declared.turn.Turn.{Turn}
 use Rattle.cb_rule.specs.declared.view.View.{View}
 use Rattle.cb_rule.specs.Lists.{total, Each}
-use Rattle.cb_rule.specs.Locking.{Deeds, IsTimed, Locked, Stood, TurnStands, turns_on, when_ended}
+use Rattle.cb_rule.specs.Locking.{Deeds, IsHandedOn, IsTimed, Locked, Stood, TurnStands, left_known}
+use Rattle.cb_rule.specs.Locking.{turns_on, when_ended}
 use Rattle.cb_rule.specs.Seats.{holding}
 use Rattle.cb_rule.specs.Slot.{LockSlot, Table}
 use Rattle.cb_rule.specs.Steps.{blank}
@@ -211,6 +212,28 @@ began_too_early t = let e : 1 ≤ 0 = t.began in omega (arith, e)
 ended_another_time : IsTimed 1 (λ _. 1) (turn (far 0) (far 1)) → ⊥
 ended_another_time t = let e : 0 ≡ 1 = t.ended (lit< tt) in omega (arith, e)
 
+-- another version word is known
+abbrev pub changed : Shown
+changed = record seen { versions = 5 ∷ 0 ∷ [] }
+
+abbrev pub first_version : Shown → ℕ
+first_version s = get_or s.versions 0 0
+
+-- a turn that knew nothing, and left nothing known
+first_handed : IsHandedOn (λ _. seen) (turn (far 0) (far 1))
+first_handed = record { began = λ few. refl; left = λ few. refl }
+
+-- something else was known when it began; when it had ended
+began_with_else : IsHandedOn (λ k. cond (eqb k 0) changed seen) (turn (far 0) (far 1)) → ⊥
+began_with_else h = let e : 0 ≡ 5 = ap first_version (h.began (lit< tt)) in omega (arith, e)
+
+left_else : IsHandedOn (λ k. cond (eqb k 1) changed seen) (turn (far 0) (far 1)) → ⊥
+left_else h = let e : 0 ≡ 5 = ap first_version (h.left (lit< tt)) in omega (arith, e)
+
+-- what a look found stays known
+leaves_what_it_found : left_known record (turn (far 0) (far 1)) { acts = Stamped 0 5 ∷ [] } ≡ changed
+leaves_what_it_found = refl
+
 -- the order of this one view is kept by what the other's turn began with, if that holds the lock
 abbrev Waits : View → View → Type 0
 Waits one v = v.holds ≡ true → (j : ℕ) (u : View) → get_elem? (one ∷ []) j ≡ some u
@@ -238,6 +261,12 @@ free = record {
   ends = λ _. 0;
   timed = one_view (λ u. Each (IsTimed 1 (λ _. 0)) u.turns) (seat one_turn) (first_timed, tt);
   runs = one_view (λ u. u.holds ≡ true → 0 ≤ u.since) (seat one_turn) (λ e. lit≤ tt);
+  knew = λ _. seen;
+  unknown = refl;
+  known_now = λ none_holds few. refl;
+  known_then = one_view (λ u. u.holds ≡ true → 1 < 2 ^ 40 → u.start ≡ seen) (seat one_turn)
+      (λ e. absurd (cc));
+  handed = one_view (λ u. Each (IsHandedOn (λ _. seen)) u.turns) (seat one_turn) (first_handed, tt);
 }
 
 -- the seat has it, and the far state is in its hand
@@ -266,14 +295,49 @@ held = record {
   ends = λ _. 0;
   timed = one_view (λ u. Each (IsTimed 1 (λ _. 0)) u.turns) (holder one_turn) (first_timed, tt);
   runs = one_view (λ u. u.holds ≡ true → 0 ≤ u.since) (holder one_turn) (λ e. lit≤ tt);
+  knew = λ _. seen;
+  unknown = refl;
+  known_now = λ none_holds. absurd (omega (arith, none_holds));
+  known_then = one_view (λ u. u.holds ≡ true → 1 < 2 ^ 40 → u.start ≡ seen) (holder one_turn)
+      (λ e few. refl);
+  handed = one_view (λ u. Each (IsHandedOn (λ _. seen)) u.turns) (holder one_turn)
+      (first_handed, tt);
 }
 
 -- the far state at home has as many turns as the lock's word counts
-at_home : (n word : ℕ) (v : View) → total holding (v ∷ []) ≡ 0
-    → (l : Lock (table word (home n) v)) → (word ≡ 2 * n) × (l.count ≡ n)
-at_home n word v none_holds l = let f = l.free none_holds in
+at_home_so : (n word : ℕ) (v : View) → total holding (v ∷ []) ≡ 0 → (known : Shown)
+    → (l : Locked quiet pair_of (table word (home n) v) known) → (word ≡ 2 * n) × (l.count ≡ n)
+at_home_so n word v none_holds known l = let f = l.free none_holds in
     let e : n ≡ (l.chain l.count).counts.turns = ap number_in f.home in
     let r = l.reached in let w = f.word in (omega (arith, e, r, w), omega (arith, e, r))
+
+at_home : (n word : ℕ) (v : View) → total holding (v ∷ []) ≡ 0
+    → (l : Lock (table word (home n) v)) → (word ≡ 2 * n) × (l.count ≡ n)
+at_home n word v none_holds l = at_home_so n word v none_holds seen l
+
+-- something is known before the first turn; other than the newest turn left; or the holder's turn
+-- began with it
+known_at_first : Locked quiet pair_of (table 0 (home 0) (seat [])) changed → ⊥
+known_at_first l = let z = (at_home_so 0 0 (seat []) refl changed l).1 in
+    let e : 5 ≡ 0 = ap first_version (l.known_now refl (omega (arith, z))
+    ∙ ap l.knew z ∙ l.unknown) in omega (arith, e)
+
+known_else : Locked quiet pair_of (table 2 (home 1) (seat one_turn)) changed → ⊥
+known_else l = let one = (at_home_so 1 2 (seat one_turn) refl changed l).1 in
+    let e : 5 ≡ 0 = ap first_version (l.known_now refl (omega (arith, one)) ∙ ap l.knew one
+    ∙ sym ((l.handed 0 (seat one_turn) refl).0.left (lit< tt))) in omega (arith, e)
+
+began_knowing_else : Lock (table 1 none record (holder one_turn) { start = changed }) → ⊥
+began_knowing_else l = let t = ap (λ (f : FarState). f.counts.turns) (l.takers 0 _ refl refl) in
+    let r = l.reached in let one : l.count ≡ 1 = omega (arith, t, r) in
+    let e : 5 ≡ 0 = ap first_version (l.known_then 0 _ refl refl (omega (arith, one))
+    ∙ ap l.knew one ∙ sym ((l.handed 0 _ refl).0.left (lit< tt))) in omega (arith, e)
+
+-- the first turn knew something
+knew_something : Lock (table 2 (home 1) (seat (record (turn (far 0) (far 1)) { start = changed } ∷ [])))
+    → ⊥
+knew_something l = let e : 5 ≡ 0 = ap first_version
+    ((l.handed 0 _ refl).0.began (lit< tt) ∙ l.unknown) in omega (arith, e)
 
 -- a word that forgets the count, or counts another one
 forgets_the_count : Lock (table 0 (home 1) (seat one_turn)) → ⊥

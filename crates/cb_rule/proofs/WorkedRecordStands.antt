@@ -7,7 +7,7 @@ use Rattle.cb_rule.specs.declared.view.Seen.{Seen}
 use Rattle.cb_rule.specs.declared.view.View.{View}
 use Rattle.cb_rule.specs.OwnStands.{WroteItself}
 use Rattle.cb_rule.specs.Records.{seen_of}
-use Rattle.cb_rule.specs.Lists.{Each}
+use Rattle.cb_rule.specs.Lists.{Each, Has}
 use Rattle.cb_rule.specs.RecordStands.{HasVersion, RecordStands}
 use Rattle.cb_rule.specs.Steps.{blank, freed_seen, version_seen}
 use Rattle.cb_rule.proofs.Members.{each_has}
@@ -25,6 +25,13 @@ kept = record (blank pair_of) {
 
 of_both : (P : Entry → Type 0) → P written → P made → (e : Entry) → WroteItself kept e → P e
 of_both P p q e wrote = either_of P p q e (each_of kept (written ∷ made ∷ []) refl e wrote)
+
+of_three : (P : Seen → Type 0) → P (version_seen 1 3 8 (7 ∷ [])) → P (version_seen 1 9 8 (5 ∷ []))
+    → P (freed_seen 1 10) → (s : Seen) → Has s kept.seen → P s
+of_three P p q r s (inl is) = subst P is p
+of_three P p q r s (inr (inl is)) = subst P is q
+of_three P p q r s (inr (inr (inl is))) = subst P is r
+of_three P p q r s (inr (inr (inr none))) = absurd none
 
 -- what holds of each entry, written or read, holds of each version that a view has
 of_versions : (u : View) (P : ℕ → ℕ → Bool → Type 0)
@@ -88,7 +95,56 @@ stands = record {
       let x = up_to h n freed has in
       let low = x.0 in
       (omega (arith, low, from), λ same. x.1 (omega (arith, low, from, same)));
+  same_read = λ s t a b. of_three (λ x. x.handle ≡ t.handle → x.version ≡ t.version → x ≡ t)
+      (of_three (λ y. 1 ≡ y.handle → 3 ≡ y.version → version_seen 1 3 8 (7 ∷ []) ≡ y)
+      (λ h v. refl) (λ h v. absurd (omega (arith, v))) (λ h v. absurd (omega (arith, v))) t b)
+      (of_three (λ y. 1 ≡ y.handle → 9 ≡ y.version → version_seen 1 9 8 (5 ∷ []) ≡ y)
+      (λ h v. absurd (omega (arith, v))) (λ h v. refl) (λ h v. absurd (omega (arith, v))) t b)
+      (of_three (λ y. 1 ≡ y.handle → 10 ≡ y.version → freed_seen 1 10 ≡ y)
+      (λ h v. absurd (omega (arith, v))) (λ h v. absurd (omega (arith, v))) (λ h v. refl) t b) s a;
+  keeps_read = λ e s a b. of_both (λ y. s.handle ≡ y.handle → y.version ≡ s.version + 1
+      → (s.words ≡ y.before) × (s.freed ≡ false) × (y.freed ≡ false → y.len ≡ s.len))
+      (of_three (λ x. x.handle ≡ 1 → 4 ≡ x.version + 1
+      → (x.words ≡ 7 ∷ []) × (x.freed ≡ false) × (false ≡ false → 8 ≡ x.len))
+      (λ h v. (refl, refl, λ _. refl)) (λ h v. absurd (omega (arith, v)))
+      (λ h v. absurd (omega (arith, v))) s b)
+      (of_three (λ x. x.handle ≡ 1 → 3 ≡ x.version + 1
+      → (x.words ≡ []) × (x.freed ≡ false) × (false ≡ false → 8 ≡ x.len))
+      (λ h v. absurd (omega (arith, v))) (λ h v. absurd (omega (arith, v)))
+      (λ h v. absurd (omega (arith, v))) s b) e a;
 }
+
+-- it read one version with two contents
+read_two_contents : RecordStands record kept {
+  seen = version_seen 1 9 8 (5 ∷ []) ∷ version_seen 1 9 8 (6 ∷ []) ∷ [];
+} → ⊥
+read_two_contents x = absurd (let w : 5 ∷ [] ≡ 6 ∷ [] = ap (λ (k : Seen). k.words)
+    (x.same_read (version_seen 1 9 8 (5 ∷ [])) (version_seen 1 9 8 (6 ∷ [])) (inl refl)
+    (inr (inl refl)) refl refl) in cc)
+
+-- it wrote over other words than those that it had read, or with another length
+wrote_over_unread : RecordStands record kept {
+  written = entry 1 10 8 (6 ∷ []) (9 ∷ []) ∷ [];
+  seen = version_seen 1 9 8 (5 ∷ []) ∷ [];
+} → ⊥
+wrote_over_unread x = let u : View = record kept {
+  written = entry 1 10 8 (6 ∷ []) (9 ∷ []) ∷ [];
+  seen = version_seen 1 9 8 (5 ∷ []) ∷ [];
+} in
+    let e = x.keeps_read (entry 1 10 8 (6 ∷ []) (9 ∷ [])) (version_seen 1 9 8 (5 ∷ []))
+    (u, (0, refl), inl refl) (inl refl) refl refl in
+    absurd (let w : 5 ∷ [] ≡ 6 ∷ [] = e.0 in cc)
+
+wrote_shorter_than_read : RecordStands record kept {
+  written = entry 1 10 7 (5 ∷ []) (9 ∷ []) ∷ [];
+  seen = version_seen 1 9 8 (5 ∷ []) ∷ [];
+} → ⊥
+wrote_shorter_than_read x = let u : View = record kept {
+  written = entry 1 10 7 (5 ∷ []) (9 ∷ []) ∷ [];
+  seen = version_seen 1 9 8 (5 ∷ []) ∷ [];
+} in
+    let e = x.keeps_read (entry 1 10 7 (5 ∷ []) (9 ∷ [])) (version_seen 1 9 8 (5 ∷ []))
+    (u, (0, refl), inl refl) (inl refl) refl refl in let n = e.2 refl in omega (arith, n)
 
 -- it read other words at a version that it wrote
 read_other_words : RecordStands record kept { seen = version_seen 1 3 8 (8 ∷ []) ∷ [] } → ⊥

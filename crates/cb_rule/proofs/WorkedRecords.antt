@@ -2,7 +2,7 @@
 -- breaks one of its parts alone.
 use Rattle.std.proofs.Common.{◌≡◌, ◌≢◌, ℕ, ◌-◌, ◌≤◌, true, false, List, [], ◌∷◌}
 use Rattle.std.proofs.Common.{◌++◌, length, length-append, replicate, get_or, sym, refl, ap, subst}
-use Rattle.std.proofs.Common.{inl, inr, ⊎_elim, true≢false}
+use Rattle.std.proofs.Common.{◌∙◌, inl, inr, ⊎_elim, true≢false}
 use Rattle.std.proofs.Common.{lit<, lit≤, arith}
 use Rattle.cb_types.specs.declared.config.Config.{Config}
 use Rattle.cb_world.specs.declared.entry.Entry.{Entry}
@@ -11,13 +11,14 @@ use Rattle.cb_world.specs.declared.object.Object.TheVariants as is
 use Rattle.cb_world.specs.declared.shown.Shown.{Shown}
 use Rattle.cb_world.specs.Shown.{never}
 use Rattle.cb_rule.specs.declared.view.View.{View}
-use Rattle.cb_rule.specs.History.{Follows, holding_words, no_value, value_of}
-use Rattle.cb_rule.specs.Lists.{total, Has}
+use Rattle.cb_rule.specs.declared.view.Seen.{Seen}
+use Rattle.cb_rule.specs.History.{Follows, holding_words, no_value, top, value_of}
+use Rattle.cb_rule.specs.Lists.{total, Each, Has}
 use Rattle.cb_rule.specs.Locking.{is_turn}
-use Rattle.cb_rule.specs.Records.{IsSettledFrom, RecordOk, SeatOk}
+use Rattle.cb_rule.specs.Records.{IsSettledFrom, RecordOk, SeatOk, SeenLately, SeenSince}
 use Rattle.cb_rule.specs.Ruled.{Beside, IsAlike, IsSteady}
 use Rattle.cb_rule.specs.Slot.{Table}
-use Rattle.cb_rule.specs.Steps.{blank, freed_seen, look_at, nothing, opener, stand}
+use Rattle.cb_rule.specs.Steps.{blank, freed_seen, look_at, nothing, opener, stand, version_seen}
 use Rattle.cb_rule.proofs.Seating.{never_now}
 use Rattle.cb_rule.proofs.WorkedHistory.{freed, made, other, some_entries, written}
 use Rattle.cb_rule.proofs.WorkedLocking.{far, seen, turn}
@@ -58,6 +59,7 @@ record_ok = record {
   reached = lit≤ tt;
   told = tt;
   began = λ h low. never_now some_entries h;
+  lately = λ holds. absurd (true≢false (sym holds));
   past = tt;
   order = record {
     had_by = tt;
@@ -87,6 +89,64 @@ had_none r = let s = r.order.had_by.0 in
     none_left : (es : List Entry) → length es ≤ 0 → es ≡ []
     none_left [] short = refl
     none_left (e ∷ es) short = absurd (omega (arith, short))
+
+-- ---- what was read in a turn
+abbrev read_made : Seen
+read_made = version_seen 1 3 8 (7 ∷ [])
+
+-- object 1 was as made until the history had three entries
+newest_till_then : SeenSince some_entries 2 read_made
+newest_till_then = record {
+  newer = written ∷ [];
+  older = other ∷ made ∷ [];
+  parts = refl;
+  low = lit≤ tt;
+  high = lit≤ tt;
+  last = refl;
+  has = refl;
+}
+
+-- and no longer
+overtaken : SeenSince some_entries 3 read_made → ⊥
+overtaken s = go s.newer s.older s.parts s.low s.last
+  where
+    go : (newer older : List Entry) → some_entries ≡ newer ++ older → 3 ≤ length older
+        → top older 1 ≡ 3 → ⊥
+    go [] older parts low last = let e : 4 ≡ 3 = ap (λ (es : List Entry). top es 1) parts ∙ last in
+        omega (arith, e)
+    go (x ∷ newer) older parts low last = let n : 3 ≡ length (x ∷ newer ++ older) =
+        ap (λ (es : List Entry). length es) parts in
+        let m = length-append newer older in omega (arith, n, m, low)
+
+lately_read : SeenLately some_entries 2 [] (read_made ∷ [])
+lately_read = record { newer = read_made ∷ []; parts = refl; since_then = (newest_till_then, tt) }
+
+-- it was read before, and the turn read nothing
+read_before : SeenLately some_entries 3 (read_made ∷ []) (read_made ∷ [])
+read_before = record { newer = []; parts = refl; since_then = tt }
+
+-- it was read in the turn, which began after it was overtaken
+read_too_late : SeenLately some_entries 3 [] (read_made ∷ []) → ⊥
+read_too_late l = go l.newer l.parts l.since_then
+  where
+    head : List Seen → Seen
+    head [] = read_made
+    head (x ∷ xs) = x
+
+    go : (newer : List Seen) → read_made ∷ [] ≡ newer ++ []
+        → Each (SeenSince some_entries 3) newer → ⊥
+    go [] parts each = let n : 1 ≡ 0 = ap (λ (xs : List Seen). length xs) parts in
+        omega (arith, n)
+    go (s ∷ newer) parts each = overtaken (subst (SeenSince some_entries 3)
+        (sym (ap head parts)) each.0)
+
+-- so of a view that holds the lock
+holder_read_too_late : RecordOk pair_of 3 some_entries record seat {
+  holds = true;
+  since = 3;
+  seen = read_made ∷ [];
+} → ⊥
+holder_read_too_late r = read_too_late (r.lately refl)
 
 -- records where there is no entry of all
 abbrev Alone : View → Type 0

@@ -1,6 +1,6 @@
 -- Worked examples of what turns were told: what meets the definition, and what breaks one part.
 use Rattle.std.proofs.Common.{◌≡◌, ℕ, zero, suc, ◌<◌, ◌≤◌, false, List, [], ◌∷◌, ◌++◌, Option, None}
-use Rattle.std.proofs.Common.{Some, length, length-append, get_or, sym, refl, ap, subst, inl, inr}
+use Rattle.std.proofs.Common.{Some, length, length-append, get_or, sym, refl, ap, ◌∙◌, subst, inl, inr}
 use Rattle.std.proofs.Common.{⊎_elim, lit<, lit≤, arith}
 use Rattle.cb_types.specs.declared.job.Job.{Job}
 use Rattle.cb_types.specs.declared.job.Job.TheVariants.{Evict, Read, Write}
@@ -15,6 +15,7 @@ use Rattle.cb_world.specs.Shown.{object_at}
 use Rattle.cb_world.specs.Written.{entry}
 use Rattle.cb_rule.specs.declared.turn.Turn.{Turn}
 use Rattle.cb_rule.specs.declared.view.View.{View}
+use Rattle.cb_rule.specs.History.{newest, top}
 use Rattle.cb_rule.specs.Lists.{Each, Has}
 use Rattle.cb_rule.specs.Locking.{turn_number}
 use Rattle.cb_rule.specs.OneHistory.{Made}
@@ -185,15 +186,41 @@ reader version = record good {
   reply = Some (Bytes version (bytes_in (9 ∷ []) 8));
 }
 
-read_well : ReadOk some_entries 3 (reader 4).job (reader 4).reply
-read_well handle version bytes asked told = (
+read_well : ReadOk some_entries 2 3 (reader 4).job (reader 4).reply
+read_well handle version bytes asked answered = (
   written,
   settled_last,
   ap handle_in asked,
-  ap version_in told,
+  ap version_in answered,
   refl,
-  sym (ap bytes_of told),
+  sym (ap bytes_of answered),
+  record {
+    newer = [];
+    older = some_entries;
+    parts = refl;
+    low = lit≤ tt;
+    high = lit≤ tt;
+    last = ap (top some_entries) (sym (ap handle_in asked)) ∙ ap version_in answered;
+    has = ap (newest some_entries) (sym (ap handle_in asked));
+  },
 )
+
+-- one that was overtaken before its turn began
+read_overtaken : TurnOk pair_of 3 some_entries record good {
+  since = 3;
+  job = Read (record { n = 1 });
+  reply = Some (Bytes 3 (bytes_in (7 ∷ []) 8));
+} → ⊥
+read_overtaken t = let z = t.read (record { n = 1 }) 3 (bytes_in (7 ∷ []) 8) refl refl in
+    go z.6.newer z.6.older z.6.parts z.6.low z.6.last
+  where
+    go : (newer older : List Entry) → some_entries ≡ newer ++ older → 3 ≤ length older
+        → top older 1 ≡ 3 → ⊥
+    go [] older parts low last = let e : 4 ≡ 3 = ap (λ (es : List Entry). top es 1) parts ∙ last in
+        omega (arith, e)
+    go (x ∷ newer) older parts low last = let n : 3 ≡ length (x ∷ newer ++ older) =
+        ap (λ (es : List Entry). length es) parts in
+        let m = length-append newer older in omega (arith, n, m, low)
 
 read_unwritten : TurnOk pair_of 3 some_entries (reader 6) → ⊥
 read_unwritten t = let z = t.read (record { n = 1 }) 6 (bytes_in (9 ∷ []) 8) refl refl in

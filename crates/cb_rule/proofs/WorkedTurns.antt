@@ -2,7 +2,7 @@
 -- definition, and what breaks one part alone.
 use Rattle.std.proofs.Common.{◌≡◌, ℕ, zero, suc, ◌+◌, ◌^◌, ◌<◌, ◌≤◌, false, List, [], ◌∷◌, length}
 use Rattle.std.proofs.Common.{Option, Some, None, sym, refl, ap, ◌∙◌, subst, inl, inr, ⊎_elim, lit<}
-use Rattle.std.proofs.Common.{lit≤, arith, true≢false}
+use Rattle.std.proofs.Common.{lit≤, arith, true≢false, get_or, length-append}
 use mathlib.Core.Option.{none}
 use Rattle.atomic_table.specs.Table.{Step, step}
 use Rattle.cb_types.specs.declared.job.Job.TheVariants.{Evict, Make, Read, Free}
@@ -12,7 +12,7 @@ use Rattle.cb_world.specs.declared.entry.Entry.{Entry}
 use Rattle.cb_world.specs.declared.access.Access.TheVariants.{Looked}
 use Rattle.cb_world.specs.declared.object.Object.TheVariants as is
 use Rattle.cb_world.specs.declared.shown.Shown.{Shown}
-use Rattle.cb_world.specs.Empty.{empty_far}
+use Rattle.cb_world.specs.Empty.{empty_far, empty_shown}
 use Rattle.cb_world.specs.FarState.{FarState}
 use Rattle.cb_world.specs.Memory.{bytes_in}
 use Rattle.cb_world.specs.Shown.{never}
@@ -24,16 +24,16 @@ use Rattle.cb_rule.specs.declared.turn.Turn.{Turn}
 use Rattle.cb_rule.specs.declared.view.Seen.{Seen}
 use Rattle.cb_rule.specs.declared.view.View.{View}
 use Rattle.cb_rule.specs.Lists.{total, Each, Has}
-use Rattle.cb_rule.specs.Locking.{Stood, turn_number, turns_on}
-use Rattle.cb_rule.specs.LockSteps.{AddsTurn, HasGiven, HasTaken, IsFoundFreed, MayGive, ReadsTold}
-use Rattle.cb_rule.specs.LockSteps.{WritesTold, gave_lock, took, took_lock}
+use Rattle.cb_rule.specs.Locking.{Stood, left_known, turn_number, turns_on}
+use Rattle.cb_rule.specs.LockSteps.{AddsTurn, HasGiven, HasTaken, IsFoundFreed, MayGive}
+use Rattle.cb_rule.specs.LockSteps.{ReadInTurn, ReadsTold, WritesTold, gave_lock, took, took_lock}
 use Rattle.cb_rule.specs.OneHistory.{HasTurnNumber, IsOneHistory, Made, TurnsStand}
 use Rattle.cb_rule.specs.Seats.{written_on}
 use Rattle.cb_rule.specs.Slot.{LockSlot, Sat}
 use Rattle.cb_rule.specs.Steps.{Knows, freed_seen, version_seen}
 use Rattle.cb_rule.proofs.Members.{each_has}
 use Rattle.cb_rule.proofs.WorkedHistory.{made, other, written}
-use Rattle.cb_rule.proofs.WorkedLocking.{far, from_four, home, no_frames, one_turn, one_view, quiet}
+use Rattle.cb_rule.proofs.WorkedLocking.{changed, far, from_four, home, no_frames, one_turn, one_view, quiet}
 use Rattle.cb_rule.proofs.WorkedLocking.{never_drawn, seat, seen, stood, table, turn}
 use Rattle.cb_rule.proofs.WorkedTold.{bytes_of, handle_in, no_write, version_in}
 use Rattle.cb_rule.proofs.WorkedViews.{pair_of}
@@ -210,6 +210,7 @@ may_give : May (far 2) (1 ∷ []) at_work
 may_give = record {
   holds = refl;
   stood = stood 2 (lit≤ tt);
+  plays = refl;
   adds = inl (lit< tt, refl);
   did = λ n. refl;
   reads = λ handle version bytes asked told. absurd (cc);
@@ -230,6 +231,11 @@ not_the_holder m = true≢false (sym m.holds)
 
 not_sound : May record (far 2) { spans = [] } (1 ∷ []) at_work → ⊥
 not_sound m = let e : 0 ≡ 1 = m.stood.configured.frames in omega (arith, e)
+
+-- it began with something else known, and no event tells of the change
+changed_unseen : May (far 2) (1 ∷ []) record at_work { start = changed } → ⊥
+changed_unseen m = let e : 0 ≡ 5 = ap (λ (s : Shown). get_or s.versions 0 0) m.plays in
+    omega (arith, e)
 
 -- the turn is not counted, or twice
 not_counted : AddsTurn (far 1) (far 1) → ⊥
@@ -282,16 +288,39 @@ reads_at version bytes v =
 told_as_read : reads_at 4 (bytes_in (9 ∷ []) 8) finder
 told_as_read handle version bytes asked told = (
   version_seen 1 4 8 (9 ∷ []),
-  inl refl,
+  (version_seen 1 4 8 (9 ∷ []) ∷ [], refl, inl refl),
   ap handle_in asked,
   ap version_in told,
   refl,
   sym (ap bytes_of told),
 )
 
+-- a turn that began with all that its record has read
+none_read : (v : View) (s : Seen) → length v.seen ≤ length v.had_seen → ReadInTurn v s → ⊥
+none_read v s short (newer, parts, has) = go newer
+    (ap (λ (xs : List Seen). length xs) parts ∙ length-append newer v.had_seen) has
+  where
+    go : (xs : List Seen) → length v.seen ≡ length xs + length v.had_seen → Has s xs → ⊥
+    go [] long there = there
+    go (x ∷ xs) long there = omega (arith, long, short)
+
 told_unread : MayGive quiet pair_of (Read (record { n = 1 })) (Some (Bytes 4 [])) None (far 2) [] []
     record at_work { fresh = [] } → ⊥
-told_unread m = (m.reads (record { n = 1 }) 4 [] refl refl).1
+told_unread m = let z = m.reads (record { n = 1 }) 4 [] refl refl in
+    none_read record at_work { fresh = [] } z.0 (lit≤ tt) z.1
+
+-- one that was read before its turn began
+told_of_before : MayGive quiet pair_of (Read (record { n = 1 })) (Some (Bytes 4 [])) None (far 2) [] []
+    record at_work {
+      fresh = [];
+      seen = version_seen 1 4 8 (9 ∷ []) ∷ [];
+      had_seen = version_seen 1 4 8 (9 ∷ []) ∷ [];
+    } → ⊥
+told_of_before m = let z = m.reads (record { n = 1 }) 4 [] refl refl in none_read record at_work {
+  fresh = [];
+  seen = version_seen 1 4 8 (9 ∷ []) ∷ [];
+  had_seen = version_seen 1 4 8 (9 ∷ []) ∷ [];
+} z.0 (lit≤ tt) z.1
 
 -- a make tells the first version, which it wrote
 abbrev version_made : Option Reply → ℕ
@@ -354,6 +383,11 @@ one_history = record {
   ends = all_made (λ t. turn_number t + 1 ≡ 2 → t.gave ≡ far 2) two_turns
       ((λ e. refl), ((λ e. absurd (omega (arith, e))), tt));
   numbers = all_made (HasTurnNumber 2) two_turns (inl (lit< tt), (inl (lit< tt), tt));
+  unknown = all_made (λ t. turn_number t ≡ 0 → t.start ≡ empty_shown 3 pair_of) two_turns
+      ((λ e. refl), ((λ e. refl), tt));
+  knows = λ t u mt mu. all_made (λ t. turn_number u ≡ turn_number t + 1 → turn_number u < 2 ^ 40
+      → u.start ≡ left_known t) two_turns
+      ((λ _ _. starts_with_none u mu), ((λ _ _. starts_with_none u mu), tt)) t mt;
   sound = all_made (λ t. Stood pair_of t.start t.took) two_turns
       (stood 1 (lit≤ tt), (stood 0 (lit≤ tt), tt));
   starts = all_made (λ t. t.gave.first ≡ 3) two_turns (refl, (refl, tt));
@@ -363,6 +397,26 @@ one_history = record {
   where
     below : (u : Turn) → Made (seat two_turns ∷ []) u → turn_number u < 2
     below u mu = all_made (λ x. turn_number x < 2) two_turns (lit< tt, (lit< tt, tt)) u mu
+
+    starts_with_none : (u : Turn) → Made (seat two_turns ∷ []) u → u.start ≡ seen
+    starts_with_none = all_made (λ x. x.start ≡ seen) two_turns (refl, (refl, tt))
+
+-- the first turn knew something; the second one knew other than the first left
+abbrev knowing : List Turn
+knowing = record (turn (far 0) (far 1)) { start = changed } ∷ []
+
+knew_something : History knowing 1 (far 1) → ⊥
+knew_something h = let e : 5 ≡ 0 = ap (λ (s : Shown). get_or s.versions 0 0)
+    (h.unknown _ (is_made knowing _ (inl refl)) refl) in omega (arith, e)
+
+abbrev unaware : List Turn
+unaware = record (turn (far 1) (far 2)) { start = changed } ∷ one_turn
+
+knew_else : History unaware 2 (far 2) → ⊥
+knew_else h = let e : 5 ≡ 0 = ap (λ (s : Shown). get_or s.versions 0 0)
+    (h.knows (turn (far 0) (far 1)) record (turn (far 1) (far 2)) { start = changed }
+    (is_made unaware _ (inr (inl refl))) (is_made unaware _ (inl refl)) refl (lit< tt)) in
+    omega (arith, e)
 
 stands : TurnsStand quiet 3 pair_of (table 4 (home 2) (seat two_turns))
 stands = record {

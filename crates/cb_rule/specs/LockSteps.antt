@@ -16,6 +16,7 @@ use Rattle.cb_world.specs.Empty.{empty_far}
 use Rattle.cb_world.specs.FarState.{FarState}
 use Rattle.cb_world.specs.Memory.{bytes_in}
 use Rattle.cb_world.specs.Orders.{KeepsOrder, LeavesOrders}
+use Rattle.cb_world.specs.Played.{played}
 use Rattle.cb_world.specs.Shown.{object_at}
 use Rattle.cb_rule.specs.declared.turn.Turn.{Turn}
 use Rattle.cb_rule.specs.declared.view.Seen.{Seen}
@@ -39,6 +40,7 @@ took_lock known far n v = record v {
   had = v.written;
   old = old_by v.base v.turns;
   ended = ended_by v.turns;
+  had_seen = v.seen;
   acts = [];
   known = known;
   took = far;
@@ -97,6 +99,7 @@ gave_lock job reply keeps far n freed made v = record v {
   had = [];
   old = [];
   ended = 0;
+  had_seen = [];
   acts = [];
   known = nothing;
   took = empty_far 1 v.config;
@@ -118,10 +121,14 @@ abbrev pub AddsTurn : FarState → FarState → Type 0
 AddsTurn far new = ((far.counts.turns < 2 ^ 40) × (new.counts.turns ≡ far.counts.turns + 1))
     ⊎ ((far.counts.turns ≡ 2 ^ 40) × (new ≡ far))
 
--- the bytes that a job Read is answered are those of an entry that the record has as read
+-- it was read in the running turn
+abbrev pub ReadInTurn : View → Seen → Type 0
+ReadInTurn v s = (newer : List Seen) × (v.seen ≡ newer ++ v.had_seen) × Has s newer
+
+-- the bytes that a job Read is answered are those of an entry that was read in its turn
 abbrev pub ReadsTold : Job → Option Reply → View → Type 0
 ReadsTold job reply v = (handle : Handle) (version : ℕ) (bytes : List ℕ) → job ≡ Read handle
-    → reply ≡ Some (Bytes version bytes) → (s : Seen) × Has s v.seen × (s.handle ≡ handle.n)
+    → reply ≡ Some (Bytes version bytes) → (s : Seen) × ReadInTurn v s × (s.handle ≡ handle.n)
     × (s.version ≡ version) × (s.freed ≡ false) × (bytes ≡ bytes_in s.words s.len)
 
 -- the version that a job is answered to have written stands in the record
@@ -135,6 +142,8 @@ pub record MayGive (deeds : Deeds) (c : Config) (job : Job) (reply : Option Repl
   where
     pub holds : v.holds ≡ true
     pub stood : Stood c v.known far
+    -- what it knows is what it knew when its turn began, after its events
+    pub plays : v.known ≡ played v.acts v.start
     pub adds : AddsTurn v.took far
     pub did : (n : ℕ) → deeds c (turn_of job reply keeps far n v)
     pub reads : ReadsTold job reply v

@@ -5,9 +5,10 @@ use mathlib.Core.Option.{some}
 use lib.ListN.{get_elem?}
 use Rattle.cb_types.specs.declared.config.Config.{Config}
 use Rattle.cb_world.specs.declared.shown.Shown.{Shown}
-use Rattle.cb_world.specs.Empty.{empty_far}
+use Rattle.cb_world.specs.Empty.{empty_far, empty_shown}
 use Rattle.cb_world.specs.FarState.{FarState}
 use Rattle.cb_world.specs.Orders.{KeepsOrder}
+use Rattle.cb_world.specs.Played.{played}
 use Rattle.cb_world.specs.Sound.{Sound}
 use Rattle.cb_world.specs.World.{AreCounted, IsConfigured}
 use Rattle.cb_rule.specs.declared.turn.Turn.{Turn}
@@ -48,6 +49,16 @@ pub record TurnStands (deeds : Deeds) (c : Config) (count : ℕ) (chain : ℕ �
       ⊎ ((turn_number t ≡ 2 ^ 40) × (count ≡ 2 ^ 40) × (t.gave ≡ t.took))
   pub kept : KeepsOrder t.start t.took t.order
   pub did : deeds c t
+
+-- what a turn left known: what it knew when it began, after its events
+abbrev pub left_known : Turn → Shown
+left_known t = played t.acts t.start
+
+-- What was known when so many turns had ended: the turn knew it when it began, and left what the next
+-- one knows. Turns after the first 2^40 are not numbered.
+pub record IsHandedOn (knew : ℕ → Shown) (t : Turn) : Type 0 where
+  pub began : turn_number t < 2 ^ 40 → t.start ≡ knew (turn_number t)
+  pub left : turn_number t + 1 < 2 ^ 40 → left_known t ≡ knew (turn_number t + 1)
 
 -- how many entries the history had when so many turns had ended, by how many it had at the end of
 -- the turn of each number
@@ -96,6 +107,13 @@ pub record Locked (deeds : Deeds) (c : Config) (s : Table) (known : Shown) : Typ
   pub once : (k : ℕ) → k < count → total (turns_on k) s.views ≡ 1
   -- a turn had ended when the next one began, and all had when that of the holder began
   pub ends : ℕ → ℕ
+  pub knew : ℕ → Shown
+  -- nothing was known of any object at first, and nobody changes what is known but in a turn
+  pub unknown : knew 0 ≡ empty_shown known.first c
+  pub known_now : total holding s.views ≡ 0 → count < 2 ^ 40 → known ≡ knew count
+  pub known_then : (j : ℕ) (u : View) → get_elem? s.views j ≡ some u → u.holds ≡ true
+      → count < 2 ^ 40 → u.start ≡ knew count
+  pub handed : (j : ℕ) (u : View) → get_elem? s.views j ≡ some u → Each (IsHandedOn knew) u.turns
   pub timed : (j : ℕ) (u : View) → get_elem? s.views j ≡ some u → Each (IsTimed count ends) u.turns
   pub runs : (j : ℕ) (u : View) → get_elem? s.views j ≡ some u → u.holds ≡ true
       → when_ended ends count ≤ u.since

@@ -4,13 +4,13 @@ use Rattle.std.specs.Prelude.{◌≡◌, ◌⊎◌, ℕ, ◌+◌, ◌*◌, ◌^�
 use mathlib.Core.Option.{some}
 use lib.ListN.{get_elem?}
 use Rattle.cb_types.specs.declared.config.Config.{Config}
-use Rattle.cb_world.specs.Empty.{empty_far}
+use Rattle.cb_world.specs.Empty.{empty_far, empty_shown}
 use Rattle.cb_world.specs.FarState.{FarState}
 use Rattle.cb_world.specs.Orders.{KeepsOrder}
 use Rattle.cb_rule.specs.declared.turn.Turn.{Turn}
 use Rattle.cb_rule.specs.declared.view.View.{View}
 use Rattle.cb_rule.specs.Lists.{total, Has}
-use Rattle.cb_rule.specs.Locking.{Deeds, Stood, turn_number, turns_on}
+use Rattle.cb_rule.specs.Locking.{Deeds, Stood, left_known, turn_number, turns_on}
 use Rattle.cb_rule.specs.Promised.{Is}
 use Rattle.cb_rule.specs.Seats.{holding}
 use Rattle.cb_rule.specs.Slot.{Table}
@@ -27,7 +27,8 @@ HasTurnNumber count t = (turn_number t < count)
 -- So many turns are counted, and led from the empty world to this far state: each number stands
 -- once, the first turn took the empty world's, each other one what the one before it gave, and the
 -- last one gave this. Each took one that was sound for what it knew when it began, and that kept
--- its seat's order. Makes have one first version in all of them.
+-- its seat's order: nothing for the first turn, and for each other one what the one before it left.
+-- Makes have one first version in all of them.
 pub record IsOneHistory (deeds : Deeds) (first : ℕ) (c : Config) (views : List View) (count : ℕ)
     (last : FarState) : Type 0 where
   pub counted : last.counts.turns ≡ count
@@ -38,6 +39,9 @@ pub record IsOneHistory (deeds : Deeds) (first : ℕ) (c : Config) (views : List
       → u.took ≡ t.gave
   pub ends : (t : Turn) → Made views t → turn_number t + 1 ≡ count → t.gave ≡ last
   pub numbers : (t : Turn) → Made views t → HasTurnNumber count t
+  pub unknown : (t : Turn) → Made views t → turn_number t ≡ 0 → t.start ≡ empty_shown first c
+  pub knows : (t u : Turn) → Made views t → Made views u → turn_number u ≡ turn_number t + 1
+      → turn_number u < 2 ^ 40 → u.start ≡ left_known t
   pub sound : (t : Turn) → Made views t → Stood c t.start t.took
   pub starts : (t : Turn) → Made views t → t.gave.first ≡ first
   pub kept : (t : Turn) → Made views t → KeepsOrder t.start t.took t.order

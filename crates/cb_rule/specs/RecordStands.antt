@@ -20,7 +20,8 @@ FreedIsLast v = (h last n : ℕ) (freed : Bool) → HasVersion v h last true →
 
 -- What was read at a version that the view wrote is that entry, and two entries of one version are
 -- the same. An entry goes on from the one before it, where the view wrote both. What was read or
--- written of an object ends at its freed version.
+-- written of an object ends at its freed version. Two reads of one version are the same, and an
+-- entry goes on from what the view read at the version before it.
 pub record RecordStands (u : View) : Type 0 where
   pub read : (s : Seen) (e : Entry) → Has s u.seen → WroteItself u e → s.handle ≡ e.handle
       → s.version ≡ e.version → s ≡ seen_of e
@@ -30,3 +31,8 @@ pub record RecordStands (u : View) : Type 0 where
       → e.version ≡ x.version + 1
       → (x.after ≡ e.before) × (x.freed ≡ false) × (e.freed ≡ false → e.len ≡ x.len)
   pub ends : FreedIsLast u
+  pub same_read : (s t : Seen) → Has s u.seen → Has t u.seen → s.handle ≡ t.handle
+      → s.version ≡ t.version → s ≡ t
+  pub keeps_read : (e : Entry) (s : Seen) → WroteItself u e → Has s u.seen → s.handle ≡ e.handle
+      → e.version ≡ s.version + 1
+      → (s.words ≡ e.before) × (s.freed ≡ false) × (e.freed ≡ false → e.len ≡ s.len)

@@ -24,7 +24,7 @@ use Rattle.cb_rule.specs.declared.view.Peeked.{Peeked}
 use Rattle.cb_rule.specs.declared.view.Seen.{Seen}
 use Rattle.cb_rule.specs.declared.view.Stand.{Stand}
 use Rattle.cb_rule.specs.declared.view.View.{View}
-use Rattle.cb_rule.specs.History.{holding_words, no_value, top, newest, WasNow}
+use Rattle.cb_rule.specs.History.{Value, holding_words, no_value, top, newest, value_of, WasNow}
 use Rattle.cb_rule.specs.Lists.{Each, Has}
 use Rattle.cb_rule.specs.Words.{pointer, stamp, words_at}
 
@@ -102,13 +102,29 @@ pub record IsSettledBy (es : List Entry) (until : ℕ) (e : Entry) : Type 0 wher
   pub short : length older ≤ until
   pub there : Has e older
 
--- the bytes that a job Read told are those of an entry of its object, at the version that it told,
--- which was settled before it ended
-abbrev pub ReadOk : List Entry → ℕ → Job → Option Reply → Type 0
-ReadOk es until job reply = (handle : Handle) (version : ℕ) (bytes : List ℕ) → job ≡ Read handle
+-- The bytes that a job Read told are those of an entry of its object, at the version that it told,
+-- which was settled before it ended, and was the object's newest at some time of its turn.
+abbrev pub ReadOk : List Entry → ℕ → ℕ → Job → Option Reply → Type 0
+ReadOk es since until job reply = (handle : Handle) (version : ℕ) (bytes : List ℕ)
+    → job ≡ Read handle
     → reply ≡ Some (Bytes version bytes) → (e : Entry) × IsSettledBy es until e
     × (e.handle ≡ handle.n) × (e.version ≡ version) × (e.freed ≡ false)
     × (bytes ≡ bytes_in e.after e.len)
+    × WasNow es since until handle.n version (value_of e)
+
+-- what an entry that was read says of its object
+abbrev pub seen_value : Seen → Value
+seen_value s = record { len = s.len; freed = s.freed; words = s.words }
+
+-- it was the object's newest at some time since the history had so many entries
+abbrev pub SeenSince : List Entry → ℕ → Seen → Type 0
+SeenSince es since s = WasNow es since (length es) s.handle s.version (seen_value s)
+
+-- what was read beyond what had been was so since then
+pub record SeenLately (es : List Entry) (since : ℕ) (had seen : List Seen) : Type 0 where
+  pub newer : List Seen
+  pub parts : seen ≡ newer ++ had
+  pub since_then : Each (SeenSince es since) newer
 
 -- a job so answered wrote this version of the object: a make, a write or a free
 abbrev pub TellsWritten : Job → Option Reply → ℕ → ℕ → Type 0
@@ -158,7 +174,7 @@ pub record InOrder (es : List Entry) (since : ℕ) (had old : List Entry) (ended
 pub record TurnOk (c : Config) (first : ℕ) (es : List Entry) (t : Turn) : Type 0 where
   pub lasted : t.since ≤ t.until
   pub reached : t.until ≤ length es
-  pub read : ReadOk es t.until t.job t.reply
+  pub read : ReadOk es t.since t.until t.job t.reply
   pub wrote : WroteOk es t.until t.job t.reply
   pub had_by : Each (IsSettledBy es t.since) t.had
   pub had_later : Each (IsOldOrLater es t.old t.ended) t.had
@@ -175,6 +191,8 @@ pub record RecordOk (c : Config) (first : ℕ) (es : List Entry) (u : View) : Ty
   pub reached : u.since ≤ length es
   pub told : Each (TellsOk first es u.since (length es)) u.acts
   pub began : (h : ℕ) → h < c.handles → OldOk first es u.since h (object_at u.start h)
+  -- what the holder of the lock read in its turn
+  pub lately : u.holds ≡ true → SeenLately es u.since u.had_seen u.seen
   pub past : Each (TurnOk c first es) u.turns
   pub order : InOrder es u.since u.had u.old u.ended u.base u.turns u.written
 

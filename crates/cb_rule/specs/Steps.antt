@@ -338,6 +338,7 @@ blank c = record {
   had = [];
   old = [];
   ended = 0;
+  had_seen = [];
   acts = [];
   known = nothing;
   took = empty_far 1 c;

@@ -100,6 +100,8 @@ pub struct View {
     pub ghost had: { List Entry },
     pub ghost old: { List Entry },
     pub ghost ended: { ℕ },
+    /// What it had read when the running turn began.
+    pub ghost had_seen: { List Seen },
     /// The events of the running turn, the first one first.
     pub ghost acts: { List Access },
     /// What it knows while it holds the lock.

@@ -81,6 +81,7 @@ begins_taken c far p q rest t =
       idle = refl;
       fresh = rest.fresh;
       start = refl;
+      had_seen = refl;
       took = refl;
       sized = t.sized;
       stood = t.stood;
@@ -134,12 +135,7 @@ pub took_as : (c : Config) (lent far : FarState) (p q : SeatAt) → lent ≡ far
     → TakesFar c lent p q
 took_as c lent far p q e t = subst (λ (f : FarState). TakesFar c f p q) (sym e) t
 
--- ---- the bytes that a job Read told stand as read
-has_left : {A : Type 0} (x : A) (xs ys : List A) → Has x xs → Has x (xs ++ ys)
-has_left x [] ys has = absurd has
-has_left x (y ∷ xs) ys (inl is) = inl is
-has_left x (y ∷ xs) ys (inr has) = inr (has_left x xs ys has)
-
+-- ---- the bytes that a job Read told stand as read in its turn
 -- an entry as read, of this object, at this version and with these bytes
 abbrev TellsOf : ℕ → ℕ → List ℕ → Seen → Type 0
 TellsOf h version bytes s = (s.handle ≡ h) × (s.version ≡ version) × (s.freed ≡ false)
@@ -158,14 +154,15 @@ read_bytes handle es version bytes v d (inr x) = let f = x.finds in
     )
 
 told_read : (job : Job) (es : List Access) (r : Result Reply NoMemory) (v : View) (d : Part)
-    (w : View) → JobReads job es r v d → w.seen ≡ d.seen ++ v.seen → ReadsTold job (answer_of r) w
+    (w : View) → JobReads job es r v d → w.seen ≡ d.seen ++ w.had_seen
+    → ReadsTold job (answer_of r) w
 told_read job es (Err e) v d w reads more handle version bytes asked told = absurd (cc)
 told_read job es (Ok reply) v d w reads more handle version bytes asked told =
     let x = read_bytes handle es version bytes v d
     (subst (λ (z : Reply). JobReads (Read handle) es (Ok z) v d) (same_Some reply (answer.Bytes version bytes) told)
     (subst (λ (j : Job). JobReads j es (Ok reply) v d) asked reads)) in (
       x.0,
-      subst (Has x.0) (sym more) (has_left x.0 d.seen v.seen x.1),
+      (d.seen, more, x.1),
       x.2.0,
       x.2.1,
       x.2.2,
@@ -220,6 +217,8 @@ ends_work c job r keeps took gave p q b w =
     ∙ ap (grown w.within) (acted_is es v) in record {
       holds = ap (λ (x : View). x.holds) m ∙ b.holds;
       stood = subst (λ (x : View). Stood c x.known gave) (sym m) w.stood;
+      plays = subst (λ (x : View). x.known ≡ played x.acts x.start) (sym m)
+          (λ i. played (sym b.idle i ++ es) (sym b.start i));
       adds = subst (λ (x : View). AddsTurn x.took gave) (sym m)
           (subst (λ (f : FarState). AddsTurn f gave) (sym b.took) w.next);
       did = λ n. subst (λ (x : View). Did c (turn_of job reply keeps gave n x)) (sym m)
@@ -232,7 +231,8 @@ ends_work c job r keeps took gave p q b w =
           (subst (λ (f : FarState). DidBy c job v.order reply keeps v.known es f gave) (sym b.took)
           w.did))));
       reads = told_read job es r v w.within (record_at q) (w.reads v (refl, refl, refl, refl, refl))
-          (ap (λ (x : View). x.seen) m);
+          (ap (λ (x : View). x.seen) m ∙ ap (λ (l : List Seen). w.within.seen ++ l)
+          (sym b.had_seen ∙ sym (ap (λ (x : View). x.had_seen) m)));
       writes = told_written job r w.more (record_at q) w.wrote
           (ap (λ (x : View). x.fresh) (ap (λ (x : Sat). x.0) w.moves.2) ∙ w.fresh);
       makes = subst (λ (x : View). Each (λ h. IsMake x.known.first h x.fresh)
@@ -483,4 +483,5 @@ turned_by c job r keeps far p m q rest t w tells =
           had = sym o.6 i;
           old = sym o.7 i;
           ended = sym o.8 i;
+          had_seen = sym o.9 i;
         }

@@ -26,7 +26,7 @@ rest_opener c = record {
   live = let z : 1 ≤ 64 = omega arith in z;
   most = let z : 64 ≤ 64 = omega arith in z;
   claims = refl;
-  out = (refl, refl, refl, refl, refl, refl, refl, refl, refl);
+  out = (refl, refl, refl, refl, refl, refl, refl, refl, refl, refl);
   fresh = refl;
   written = tt;
   seen = tt;

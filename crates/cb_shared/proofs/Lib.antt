@@ -25,6 +25,7 @@ mod Mapped
 mod Asks
 mod Turns
 mod LockAlone
+mod Standing
 mod ReadParts
 mod Bringing
 mod PinsCounted

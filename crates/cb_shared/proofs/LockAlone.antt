@@ -65,6 +65,7 @@ may_give : (c : Config) (job : Job) (reply : Option Reply) (keeps : Option Kept)
 may_give c job reply keeps me far e = record {
   holds = e.holds;
   stood = e.stood;
+  plays = e.plays;
   adds = e.adds;
   did = e.did;
   reads = e.reads;

@@ -42,6 +42,7 @@ rest_right c given v rest some less = record {
     refl,
     refl,
     refl,
+    refl,
   );
   fresh = refl;
   written = tt;

@@ -18,9 +18,10 @@ splits_at first c id v given picked is some less fresh =
 
 pub joins_at : (first : ℕ) (c k picked : Config) (id : ℕ) (v : View) (other : ℕ) (w : View)
     → k ≡ c → picked ≡ c → 1 ≤ v.share → w.holds ≡ false → w.pins ≡ [] → v.fresh ≡ []
+    → v.holds ≡ false
     → Joins (Ruled (Locked Did) first k) id v other w (joined v w) (blank picked)
-joins_at first c k picked id v other w key is live quiet bare fresh =
+joins_at first c k picked id v other w key is live quiet bare fresh out =
     subst (λ (x : Config). Joins (Ruled (Locked Did) first x) id v other w (joined v w) (blank picked))
     (sym key) (subst (λ (x : Config).
     Joins (Ruled (Locked Did) first c) id v other w (joined v w) (blank x)) (sym is)
-    (joins (Locked Did) (locked_steady Did) first c id v other w live quiet bare fresh))
+    (joins (Locked Did) (locked_steady Did) first c id v other w live quiet bare fresh out))

@@ -1,7 +1,7 @@
 -- Worked parts that tries, calls and turns add: what breaks one of their parts alone.
 use Rattle.std.proofs.Common.{◌≡◌, ℕ, Bool, ◌+◌, ◌<◌, ◌≤◌, List, [], ◌∷◌, ◌++◌, length, length-append}
 use Rattle.std.proofs.Common.{get_or, None, Some, Ok, Err, refl, sym, ap, ◌∙◌, subst, inl, inr, lit<}
-use Rattle.std.proofs.Common.{arith}
+use Rattle.std.proofs.Common.{arith, suc}
 use Rattle.std.proofs.lemmas.Bool.{eqb-false}
 use Rattle.cb_member.specs.declared.names.Loss.{Loss}
 use Rattle.cb_member.specs.declared.no_memory.NoMemory.{NoMemory}
@@ -22,7 +22,7 @@ use Rattle.atomic_table.specs.Seated.{TableId}
 use Rattle.cb_rule.specs.declared.turn.Turn.{Turn}
 use Rattle.cb_rule.specs.declared.view.Seen.{Seen}
 use Rattle.cb_rule.specs.declared.view.View.{View}
-use Rattle.cb_rule.specs.Lists.{Each}
+use Rattle.cb_rule.specs.Lists.{Each, Has}
 use Rattle.cb_rule.specs.LockSteps.{AddsTurn, turn_of}
 use Rattle.cb_rule.specs.Slot.{LockSlot}
 use Rattle.cb_rule.specs.Steps.{freed_seen}
@@ -296,7 +296,13 @@ ends_as_done e = no_end (turn_alone two (turn_of jobs.Evict (Some answer.Done) N
 ends_with_bytes_unread : IsEnding two (jobs.Read (the_handle 1)) (Some (answer.Bytes 3 [])) None
     (far last)
     (record (beginner (far last) known) { seen = [] }) → ⊥
-ends_with_bytes_unread e = (e.reads (the_handle 1) 3 [] refl refl).1
+ends_with_bytes_unread e = let x = e.reads (the_handle 1) 3 [] refl refl in
+    none_new x.0 x.1.0 x.1.1 x.1.2
+  where
+    none_new : (s : Seen) (newer : List Seen) → [] ≡ newer ++ [] → Has s newer → ⊥
+    none_new s [] parts there = there
+    none_new s (y ∷ newer) parts there = let n : 0 ≡ suc (length (newer ++ [])) =
+        ap (λ (l : List Seen). length l) parts in omega (arith, n)
 
 ends_with_a_version_unwritten : IsEnding two (jobs.Free (the_handle 1)) (Some (answer.Version 9)) None
     (far last) (beginner (far last) known) → ⊥

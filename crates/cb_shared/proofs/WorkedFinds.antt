@@ -243,7 +243,7 @@ handles_in_order : handles_of (stand 0 8 6 3 (7 ∷ []) ∷ a_stand ∷ []) ≡ 
 handles_in_order = refl
 
 out_of_turn : IsOutOfTurn two part
-out_of_turn = (refl, refl, refl, refl, refl, refl, refl, refl, refl)
+out_of_turn = (refl, refl, refl, refl, refl, refl, refl, refl, refl, refl)
 
 within_a_turn : IsOutOfTurn two (record part { since = 1 }) → ⊥
 within_a_turn o = eqb-false 1 0 refl o.2

@@ -44,7 +44,7 @@ at_rest = record {
   live = lit≤ tt;
   most = lit≤ tt;
   claims = refl;
-  out = (refl, refl, refl, refl, refl, refl, refl, refl, refl);
+  out = (refl, refl, refl, refl, refl, refl, refl, refl, refl, refl);
   fresh = refl;
   written = (lit< tt, tt);
   seen = tt;
@@ -89,6 +89,9 @@ had_an_old_entry r = eqb-false 1 0 refl (ap length r.out.7)
 
 ended_one_before : IsAtRest two record part { ended = 1 } → ⊥
 ended_one_before r = eqb-false 1 0 refl r.out.8
+
+had_read_one : IsAtRest two record part { had_seen = freed_seen 1 4 ∷ [] } → ⊥
+had_read_one r = eqb-false 1 0 refl (ap length r.out.9)
 
 within_a_turn : IsAtRest two record part { fresh = made ∷ [] } → ⊥
 within_a_turn r = eqb-false 1 0 refl (ap length r.fresh)

@@ -1,7 +1,7 @@
 -- Worked examples of what stands under the far lock: what meets each definition, and what breaks one
 -- of its parts alone.
 use Rattle.std.proofs.Common.{◌≡◌, ℕ, ◌^◌, ◌<◌, ◌≤◌, false, [], ◌∷◌, length, replicate, None, Some, Ok, refl}
-use Rattle.std.proofs.Common.{sym, ap, ◌∙◌, subst, inl, inr, true≢false, lit<, lit≤, arith}
+use Rattle.std.proofs.Common.{get_or, sym, ap, ◌∙◌, subst, inl, inr, true≢false, lit<, lit≤, arith}
 use Rattle.std.proofs.lemmas.Bool.{eqb-false}
 use Rattle.cb_types.specs.declared.config.Field.TheVariants.{K, R, Nodes, Frames, Room, Handles}
 use Rattle.cb_types.specs.declared.config.Field.TheVariants.{Turns}
@@ -22,7 +22,7 @@ use Rattle.cb_rule.specs.Locking.{Stood}
 use Rattle.cb_rule.specs.LockSteps.{HasTaken, took_lock}
 use Rattle.cb_rule.specs.Records.{TellsWritten}
 use Rattle.cb_rule.specs.Slot.{Sat}
-use Rattle.cb_rule.specs.Steps.{Knows}
+use Rattle.cb_rule.specs.Steps.{Knows, freed_seen}
 use Rattle.cb_rule.proofs.Laws.{stood_empty}
 use Rattle.cb_shared.specs.declared.reading.ReadAnswer.TheVariants as found
 use Rattle.cb_shared.specs.Calls.{the_handle}
@@ -90,6 +90,7 @@ begins = record {
   idle = refl;
   fresh = refl;
   start = refl;
+  had_seen = refl;
   took = refl;
   sized = record { objects = refl; hots = refl; versions = refl; memory = refl };
   stood = stood 1 (lit≤ tt);
@@ -111,6 +112,10 @@ begins_with_an_entry b = eqb-false 1 0 refl (ap length b.fresh)
 
 began_elsewhere : Begins (record (beginner (far 1) known) { start = empty_shown 4 two }) → ⊥
 began_elsewhere b = eqb-false 4 3 refl (ap (λ (k : Shown). k.first) b.start)
+
+-- it read something in its turn
+began_reading : Begins (record (beginner (far 1) known) { seen = freed_seen 1 4 ∷ [] }) → ⊥
+began_reading b = eqb-false 0 1 refl (ap length b.had_seen)
 
 began_with_another : Begins (beginner (far 0) known) → ⊥
 began_with_another b = eqb-false 0 1 refl (ap (λ (f : FarState). f.counts.turns) b.took)
@@ -137,6 +142,7 @@ ends : Ends (beginner (far last) known)
 ends = record {
   holds = refl;
   stood = stood last (lit≤ tt);
+  plays = refl;
   adds = inr (refl, refl);
   did = λ n. inl (worn refl refl refl (refl, tt), refl);
   reads = λ handle version bytes asked told. absurd (cc);
@@ -155,6 +161,12 @@ ends_without_the_lock e = true≢false (sym e.holds)
 
 ends_unsound : Ends (record (beginner (far last) known) { known = empty_shown 4 two }) → ⊥
 ends_unsound e = eqb-false 4 3 refl e.stood.sound.here.known.first
+
+-- it began with another version word known, and no event tells of the change
+ends_changed : Ends (record (beginner (far last) known) {
+  start = record known { versions = 9 ∷ 9 ∷ [] };
+}) → ⊥
+ends_changed e = eqb-false 0 9 refl (ap (λ (s : Shown). get_or s.versions 0 0) e.plays)
 
 -- ---- the lock is taken by a seat, whose record has nothing yet
 abbrev pub newcomer : View

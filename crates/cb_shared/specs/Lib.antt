@@ -17,6 +17,7 @@ pub mod Making
 pub mod UnderLock
 pub mod Seeking
 pub mod Sealing
+pub mod Standing
 pub mod Closing
 pub mod Rights
 pub mod Calls

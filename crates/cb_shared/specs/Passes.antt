@@ -36,7 +36,7 @@ PinFits c p = (p.handle < c.handles)
 abbrev pub IsOutOfTurn : Config → View → Type 0
 IsOutOfTurn c v = (v.holds ≡ false) × (v.start ≡ nothing) × (v.since ≡ 0) × (v.acts ≡ [])
     × (v.known ≡ nothing) × (v.took ≡ empty_far 1 c)
-    × (v.had ≡ []) × (v.old ≡ []) × (v.ended ≡ 0)
+    × (v.had ≡ []) × (v.old ≡ []) × (v.ended ≡ 0) × (v.had_seen ≡ [])
 
 -- what stands of a record between the calls of its pass
 pub record IsAtRest (c : Config) (v : View) : Type 0 where

@@ -65,6 +65,7 @@ pub record IsBeginning (c : Config) (far : FarState) (v : View) : Type 0 where
   pub idle : v.acts ≡ []
   pub fresh : v.fresh ≡ []
   pub start : v.start ≡ v.known
+  pub had_seen : v.had_seen ≡ v.seen
   pub took : v.took ≡ far
   pub sized : AreSized c v.known
   pub stood : Stood c v.known far
@@ -184,13 +185,15 @@ FreedMoves c freed p q = (d : Part) × Moves p q (grown d (record_at p)) × IsQu
     × FindsFreedAfter freed (record_at p) d
 
 -- The seat may give the lock back with this far state, whose turn had this job and this reply, and
--- keep this order. The bytes that it told were read, the version that it told was written, and what
+-- keep this order. What it knows is what it knew when its turn began, after its events. The bytes
+-- that it told were read in that turn, the version that it told was written, and what
 -- it made has the first version. Every order that was kept stays so, and its own is.
 pub record IsEnding (c : Config) (job : Job) (r : Option Reply) (keeps : Option Kept)
     (far : FarState) (v : View) : Type 0
   where
     pub holds : v.holds ≡ true
     pub stood : Stood c v.known far
+    pub plays : v.known ≡ played v.acts v.start
     pub adds : AddsTurn v.took far
     pub did : (n : ℕ) → Did c (turn_of job r keeps far n v)
     pub reads : ReadsTold job r v

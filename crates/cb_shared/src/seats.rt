@@ -89,6 +89,7 @@ fn join_seats<W: Keyed>(top: &Top, seat: &mut SeatAt, other: SeatAt, config: &Co
     requires picks { W.key ≡ config.now }
     requires other { IsSpare top.now.table_id other }
     requires fresh { (record_at seat.old).fresh ≡ [] }
+    requires out { (record_at seat.old).holds ≡ false }
     ensures { Moves seat.old seat.new (joined (record_at seat.old) (record_at other)) }
 {
     let _config = config;

@@ -5,14 +5,16 @@ ghost use Rattle.cb_world.specs.Empty.{empty_far};
 ghost use Rattle.cb_rule.specs.Steps.{opener};
 ghost use Rattle.cb_rule.specs.Words.{base};
 ghost use Rattle.cb_shared.specs.Passes.{IsRuntimeBegun};
+ghost use Rattle.cb_shared.specs.Standing.{TableStands};
 
-use crate::board::{Board, SeatAt};
+use crate::board::{Board, SeatAt, Words};
 use crate::boxed_far::BoxedFar;
 use crate::handles::no_pins;
 use crate::pass::Pass;
 use crate::runtime::Shared;
 use crate::setup::Setup;
-use atomic_table::Table;
+use atomic_table::{Table, TableRule};
+use cb_rule::View;
 use cb_types::{Config, NoMemory};
 use cb_world::Far;
 use std::alloc::Global;
@@ -30,7 +32,8 @@ impl Shared {
         Shared::with_first_version(alloc, config, 1)
     }
 
-    /// The same, and a make gives the version `first`.
+    /// The same, and a make gives the version `first`. What stands between any two steps at the
+    /// table that it makes is a clause, since a later call can name no moment.
     pub fn with_first_version(
         alloc: Global,
         config: Config,
@@ -39,6 +42,7 @@ impl Shared {
         requires accepted { IsAccepted config }
         requires first { 1 ≤ first }
         ensures begun { IfOk result (λ r. IsRuntimeBegun first config r.0 r.1) }
+        ensures stands { TableStands ⟦<Words as TableRule<Option<BoxedFar>, View, Setup>>⟧.holds }
     {
         let count = 1 + 2 * config.handles as usize + 512 * config.frames as usize;
         let words = vec![in alloc; 0u64; count]?;

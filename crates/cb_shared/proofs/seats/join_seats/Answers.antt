@@ -10,7 +10,7 @@ join_seat-requires g c = let o = c.requires.other in (
   (let z = c.requires.of.words in omega arith),
   joins_at c.args.top.now.key.first c.args.config.now _ _ _ _ _ _ c.requires.of.key
       c.requires.picks c.requires.of.live o.free o.no_pins
-      c.requires.fresh,
+      c.requires.fresh c.requires.out,
 )
 
 pub returns : goal.returns

@@ -4,6 +4,7 @@ use Rattle.cb_rule.specs.Words.{base}
 use Rattle.cb_shared.specs.declared.setup.Setup.{Setup}
 use Rattle.cb_shared.specs.Passes.{IsAtRest}
 use Rattle.cb_shared.proofs.Begun.{long_zeros, rest_opener, zeros_at}
+use Rattle.cb_shared.proofs.Standing.{table_stands}
 use Rattle.cb_shared.proofs.runtime.Shared.with_first_version.Goals as goal
 
 pub open_board-requires-clause-long : goal.open_board-requires-clause-long
@@ -20,17 +21,24 @@ open_board-requires-clause-zeros c i =
     zeros_at ws n 0 i (c.as_slice.ensures.value ∙ c.in_ok-words.ensures.items_if_clones_equal
     (λ y e. e))
 
-pub returns : goal.returns
-returns c =
+pub returns-clause-begun : goal.returns-clause-begun
+returns-clause-begun c =
     let cfg = c.args.config in let t = c.in_ok-board.ensures in record {
-      begun = record {
-        config = refl;
-        first_is = ap (λ (k : Setup). k.first) t.key;
-        of = record {
-          accepted = c.requires.accepted;
-          table = t.seat.0;
-          rest = subst (λ (m : Sat). IsAtRest cfg m.0) (sym t.seat.1) (rest_opener cfg);
-        };
-        begun = ap (λ (m : Sat). m.0) t.seat.1;
+      config = refl;
+      first_is = ap (λ (k : Setup). k.first) t.key;
+      of = record {
+        accepted = c.requires.accepted;
+        table = t.seat.0;
+        rest = subst (λ (m : Sat). IsAtRest cfg m.0) (sym t.seat.1) (rest_opener cfg);
       };
+      begun = ap (λ (m : Sat). m.0) t.seat.1;
     }
+
+pub returns-clause-stands : goal.returns-clause-stands
+returns-clause-stands c = table_stands
+
+pub returns-in_err-words-clause-stands : goal.returns-in_err-words-clause-stands
+returns-in_err-words-clause-stands c = table_stands
+
+pub returns-in_err-board-clause-stands : goal.returns-in_err-board-clause-stands
+returns-in_err-board-clause-stands c = table_stands
