@@ -9,6 +9,7 @@ use Rattle.cb_types.specs.declared.handle.SetId.{SetId}
 use Rattle.cb_types.specs.declared.job.Job.{Job}
 use Rattle.cb_types.specs.declared.job.Job.TheVariants as jobs
 use Rattle.cb_types.specs.declared.order.DecodeOrder.{DecodeOrder}
+use Rattle.cb_types.specs.declared.order.Kept.{Kept}
 use Rattle.cb_types.specs.declared.order.Kept.TheVariants.{Decode}
 use Rattle.cb_types.specs.declared.reply.Reply.{Reply}
 use Rattle.cb_types.specs.declared.reply.Reply.TheVariants as answer
@@ -64,7 +65,7 @@ module _ (may all : Job → Type 0) (wide : (job : Job) → may job → all job)
     record {
       before = x.before;
       last = x.last;
-      in_vain = vain_wider AtNone AtNone (IsUnanswered may) (IsUnanswered all) (λ k none. none)
+      in_vain = vain_wider v.order AtNone AtNone (IsUnanswered may) (IsUnanswered all) (λ k none. none)
           (unanswered_wider may all wide) x.before x.in_vain;
       ends_so = record {
         job = x.ends_so.job;
@@ -162,8 +163,9 @@ module _ (c : Config) (h at : ℕ) (bytes : List ℕ) (told : Option Reply) (job
 abbrev pub LooksFar : ℕ → View → View → Type 0
 LooksFar h v w = (word : ℕ) × (state_of word ≡ state.Far) × Grows v (looked h word) w
 
-none_looked : (vain : Turn → Type 0) (d : Part) → IsInVain AtNone vain d → d.looks ≡ []
-none_looked vain d x = ap (λ (p : Part). p.looks) x.part ∙ none x.looks x.at
+none_looked : (o : Option Kept) (vain : Turn → Type 0) (d : Part) → IsInVain o AtNone vain d
+    → d.looks ≡ []
+none_looked o vain d x = ap (λ (p : Part). p.looks) x.part ∙ none x.looks x.at
   where
     none : (ls : List Look) → Each (λ (l : Look). ⊥) ls → ls ≡ []
     none [] each = refl
@@ -182,12 +184,12 @@ far_at_last c h may r P ends v w u (word, far, grew) (e, x, next) =
       record {
         before = x.before;
         last = x.last;
-        in_vain = vain_wider AtNone (AtThis h) (IsUnanswered may) (IsUnanswered may)
+        in_vain = vain_wider w.order AtNone (AtThis h) (IsUnanswered may) (IsUnanswered may)
             (λ k none. absurd none) (λ t z. z) x.before x.in_vain;
         ends_so = ends (grown x.before w) x.last (record {
           away = subst (FoundFar h)
               (sym (ap (λ (ls : List Look). ls ++ w.looks)
-              (none_looked (IsUnanswered may) x.before x.in_vain)
+              (none_looked w.order (IsUnanswered may) x.before x.in_vain)
               ∙ ap (λ (z : View). z.looks) grew)) (refl, far);
           turned = x.ends_so;
         });

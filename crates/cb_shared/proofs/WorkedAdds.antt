@@ -52,7 +52,7 @@ use Rattle.cb_shared.proofs.WorkedUnder.{beginner, far, known, last}
 
 -- ---- tries in vain make turns of their job alone
 turned_in_vain : (t : Turn) → t.job ≡ jobs.Evict
-    → IsInVain AtNone (IsUnanswered (OfThis (jobs.Make []))) (record nothing_more { turns = t ∷ [] }) → ⊥
+    → IsInVain None AtNone (IsUnanswered (OfThis (jobs.Make []))) (record nothing_more { turns = t ∷ [] }) → ⊥
 turned_in_vain t work x = absurd (let e = sym work
     ∙ (subst (Each (IsUnanswered (OfThis (jobs.Make [])))) (sym (ap (λ (d : Part). d.turns) x.part))
     x.of).0.0 in cc)

@@ -1,5 +1,6 @@
 -- Worked calls that try again: what meets each definition, and what breaks one of its parts alone.
-use Rattle.std.proofs.Common.{◌≡◌, ℕ, Bool, true, false, List, [], ◌∷◌, ◌++◌, length, Some, refl}
+use Rattle.std.proofs.Common.{◌≡◌, ℕ, Bool, true, false, List, [], ◌∷◌, ◌++◌, length, None, Some}
+use Rattle.std.proofs.Common.{refl}
 use Rattle.std.proofs.Common.{sym, ap, ◌∙◌, subst, inl, inr, arith, lit≤}
 use Rattle.std.proofs.lemmas.Bool.{eqb-false, false≢true}
 use Rattle.std.proofs.lemmas.Option.{same_Some}
@@ -85,31 +86,32 @@ hands_out v d t only again (lacks, adds) =
     false≢true (sym lacks ∙ ap again_in only ∙ again)
 
 -- ---- tries that came to nothing
-pub in_vain : IsInVain (AtThis 1) (IsUnanswered (IsReadJob 1)) (looked 1 moving)
+pub in_vain : IsInVain None (AtThis 1) (IsUnanswered (IsReadJob 1)) (looked 1 moving)
 in_vain = record {
   looks = look_at 1 moving ∷ [];
   turns = [];
   at = (refl, tt);
   of = tt;
   idle = tt;
+  kept = tt;
   part = refl;
 }
 
-at_another : IsInVain (AtThis 1) (IsUnanswered (IsReadJob 1)) (looked 0 moving) → ⊥
+at_another : IsInVain None (AtThis 1) (IsUnanswered (IsReadJob 1)) (looked 0 moving) → ⊥
 at_another x = eqb-false 0 1 refl (subst (Each (λ (l : Look). AtThis 1 l.handle))
     (sym (ap (λ (d : Part). d.looks) x.part)) x.at).0
 
-wrote_in_vain : IsInVain (AtThis 1) (IsUnanswered (IsReadJob 1))
+wrote_in_vain : IsInVain None (AtThis 1) (IsUnanswered (IsReadJob 1))
     (record (looked 1 moving) { written = made ∷ [] }) → ⊥
 wrote_in_vain x = eqb-false 1 0 refl (ap (λ (d : Part). length d.written) x.part)
 
-pinned_in_vain : IsInVain (AtThis 1) (IsUnanswered (IsReadJob 1))
+pinned_in_vain : IsInVain None (AtThis 1) (IsUnanswered (IsReadJob 1))
     (record (looked 1 moving) { ever = 1 }) → ⊥
 pinned_in_vain x = eqb-false 1 0 refl (ap (λ (d : Part). d.ever) x.part)
 
 made_in_vain : (t : Turn) → t.job ≡ jobs.Make (7 ∷ [])
     → t.reply ≡ Some (answer.Made (the_handle 0) 1)
-    → IsInVain AtNone (IsUnanswered (OfThis (jobs.Make (7 ∷ []))))
+    → IsInVain None AtNone (IsUnanswered (OfThis (jobs.Make (7 ∷ []))))
     (record nothing_more { turns = t ∷ [] }) → ⊥
 made_in_vain t work reply x =
     let idle = subst (Each (λ (u : Turn). happened (deed u) ≡ []))
@@ -194,7 +196,7 @@ gives_worn = (
   record {
     before = nothing_more;
     last = worn_part (jobs.Make (10 ∷ []));
-    in_vain = record { looks = []; turns = []; at = tt; of = tt; idle = tt; part = refl };
+    in_vain = record { looks = []; turns = []; at = tt; of = tt; idle = tt; kept = tt; part = refl };
     ends_so = (
       inr tt,
       adds_worn (jobs.Make (10 ∷ [])) part refl refl knows_made
@@ -263,6 +265,7 @@ writes_at_last = (
       at = (refl, tt);
       of = tt;
       idle = tt;
+      kept = tt;
       part = refl;
     };
     ends_so = inl (

@@ -49,6 +49,7 @@ at_rest = record {
   written = (lit< tt, tt);
   seen = tt;
   pins = ((lit< tt, λ j below. lies 5 j (lit< tt) below), tt);
+  orders = begun;
 }
 
 another_config : IsAtRest roomy part → ⊥
