@@ -23,6 +23,7 @@ mod Rights
 mod AfterTurn
 mod Mapped
 mod Asks
+mod LeavesOrders
 mod Turns
 mod LockAlone
 mod ReadParts
