@@ -13,7 +13,7 @@ use Rattle.cb_rule.specs.declared.view.View.{View}
 use Rattle.cb_rule.specs.History.{is_version}
 use Rattle.cb_rule.specs.Lists.{Each, Has, times}
 use Rattle.cb_rule.specs.TriesAgain.{tries_again}
-use Rattle.cb_shared.specs.Calls.{IsAnswer, IsAnswerTo, IsReadJob, IsWriteJob, the_handle}
+use Rattle.cb_shared.specs.Calls.{IsAnswer, IsAnswerTo, IsLack, IsReadJob, IsWriteJob, the_handle}
 use Rattle.cb_shared.specs.Making.{MakesNew}
 use Rattle.cb_map_text.specs.Plain.{Plain, after_said, calls_something, needs_object, objects, plain_after, plain_said}
 use Rattle.cb_map_text.specs.Tallied.{IsTallied}

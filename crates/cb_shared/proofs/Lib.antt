@@ -37,6 +37,7 @@ mod Glanced
 mod Seeking
 mod CallSteps
 mod AskedTurns
+mod OrdersStay
 mod FarSteps
 mod InOrder
 mod Fetches
