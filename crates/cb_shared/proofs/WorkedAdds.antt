@@ -371,7 +371,9 @@ ends_writing_moving v d (inr asks) = asks_no_more asks
     no_answer again j (inl is) x =
         answers_none again (subst (λ (k : Job). IsAnswerTo again k answer.Moving) is x)
     no_answer again j (inr (inl is)) x = subst (λ (k : Job). IsAnswerTo again k answer.Moving) is x
-    no_answer again j (inr (inr is)) x = subst (λ (k : Job). IsAnswerTo again k answer.Moving) is x
+    no_answer again j (inr (inr is)) x =
+        let e : answer.Moving ≡ answer.Worn =
+        subst (λ (k : Job). IsAnswerTo again k answer.Moving) is x in cc
 
     asks_no_more : AsksFor two (IsWriteJob 1 1 (12 ∷ [])) answer.Moving 1 v d → ⊥
     asks_no_more a = no_answer (again_in d.turns) a.turned.job a.turned.of a.turned.ends.0

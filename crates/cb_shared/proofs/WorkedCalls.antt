@@ -22,6 +22,7 @@ use Rattle.cb_shared.specs.Calls.{ReadCallEnds, SaysAs, TurnEnds, TurnGives, Wri
 use Rattle.cb_shared.specs.Calls.{again_in, the_handle, written_once}
 use Rattle.cb_record.specs.Deeds.{Deed, deed, happened, happening}
 use Rattle.cb_record.specs.Parts.{Part, grown, nothing_more, sum}
+use Rattle.cb_shared.specs.OrdersKept.{LeavesOrder}
 use Rattle.cb_shared.specs.Reading.{looked, looked_freed}
 use Rattle.cb_shared.proofs.CallSteps.{read_lacks}
 use Rattle.cb_shared.proofs.WorkedGround.{a_stand, away, calm, knows_made, made, moving}
@@ -61,21 +62,22 @@ roomless job t = (t.job ≡ job) × (t.reply ≡ Some (answer.NoRoom 364 1 3))
 
 -- a read goes on where it is made again
 goes_on : (t : Turn) → roomless (jobs.Swap (the_handle 1)) t → tries_again t ≡ true
-    → IsUnanswered (IsReadJob 1) t
-goes_on t (work, reply) again = (
+    → t.keeps ≡ t.order → IsUnanswered (IsReadJob 1) t
+goes_on t (work, reply) again kept = (
   inl (inl work),
   (
     answer.NoRoom 364 1 3,
     reply,
-    λ lacks. false≢true (sym (subst (λ (j : Job). IsAnswerTo (tries_again t) j
-        (answer.NoRoom 364 1 3)) work lacks) ∙ again),
+    (λ lacks. false≢true (sym (subst (λ (j : Job). IsAnswerTo (tries_again t) j
+        (answer.NoRoom 364 1 3)) work lacks) ∙ again)),
+    subst (λ (j : Job). LeavesOrder j (answer.NoRoom 364 1 3) t.order t.keeps) (sym work) kept,
   ),
 )
 
 -- and not for ever
 goes_on_for_ever : (t : Turn) → roomless (jobs.Swap (the_handle 1)) t → tries_again t ≡ false
     → IsUnanswered (OfThis (jobs.Swap (the_handle 1))) t → ⊥
-goes_on_for_ever t (work, reply) off (job, (r, is, none)) =
+goes_on_for_ever t (work, reply) off (job, (r, is, none, kept)) =
     none (subst (λ (j : Job). IsAnswerTo (tries_again t) j r) (sym work)
     (subst (IsLack (tries_again t)) (same_Some _ _ (sym reply ∙ is)) off))
 

@@ -33,7 +33,7 @@ use crate::pass::Pass;
 use crate::reading::{ReadAnswer, read_pinned};
 use crate::runtime::Shared;
 use crate::waiting::Patience;
-use crate::ways::{Landing, Way};
+use crate::ways::{Landing, Way, is_worn};
 use crate::writing::is_inside;
 use cb_types::{Bytes, DecodeOrder, Handle, Job, NoMemory, Reply};
 use std::alloc::Global;
@@ -455,7 +455,8 @@ fn is_answer(again: bool, job: &Job, reply: &Reply) -> bool
     ensures no { result ≡ false → IsAnswerTo again job.now reply.now → ⊥ }
 {
     match job {
-        Job::Swap { .. } | Job::Fetch { .. } | Job::Land => is_lack(again, reply),
+        Job::Swap { .. } | Job::Fetch { .. } => is_lack(again, reply),
+        Job::Land => is_worn(reply),
         Job::Read { .. } => tells_what_is(reply) || is_lack(again, reply),
         _ => tells_of_it(reply) || is_lack(again, reply),
     }

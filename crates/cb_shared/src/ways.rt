@@ -219,7 +219,7 @@ fn is_of_set(reply: &Reply) -> bool
 }
 
 /// Whether a turn was refused by the count of turns.
-fn is_worn(reply: &Reply) -> bool
+pub(crate) fn is_worn(reply: &Reply) -> bool
     ensures yes { result ≡ true → reply.now ≡ answer.Worn }
     ensures no { result ≡ false → reply.now ≡ answer.Worn → ⊥ }
 {

@@ -1,4 +1,4 @@
-use Rattle.std.proofs.Common.{Option, ap, inl, inr, refl, subst}
+use Rattle.std.proofs.Common.{Option, None, ap, refl, subst}
 use Rattle.std.proofs.lemmas.Result.{IfOk-from_err, IfOk-weaker, on_err_weaker}
 use Rattle.cb_types.specs.declared.job.Job.TheVariants as jobs
 use Rattle.cb_types.specs.declared.reply.Reply.{Reply}
@@ -63,7 +63,7 @@ pub returns-in-Lacks-clause-brings : goal.returns-in-Lacks-clause-brings
 returns-in-Lacks-clause-brings g c = let h = c.args.h.n in let k = c.args.self.now.config in
     let v = record_of c.args.pass.now in let w = record_of c.land_order.new.pass in
     let u = record_of c.try_turn.new.pass in
-    let vain = turn_tries AtNone (Brings h) jobs.Land (brings_land h) (λ j y. y) k _ v w (λ r. refl)
+    let vain = turn_tries AtNone (Brings h) jobs.Land (brings_land h) (λ j y. y) k None v w (λ r. refl)
     (subst (λ (o : Option Reply). TurnTries k jobs.Land o v w) (ap landing_told c.in-Lacks.is)
     c.in_ok-land_order.ensures.turn) in IfOk-weaker c.try_turn.result _ _
     (λ o x. tries_by_then k AtNone (Brings h) o v w u vain
@@ -74,7 +74,7 @@ pub returns-in-Lacks-clause-error : goal.returns-in-Lacks-clause-error
 returns-in-Lacks-clause-error g c = let h = c.args.h.n in let k = c.args.self.now.config in
     let v = record_of c.args.pass.now in let w = record_of c.land_order.new.pass in
     let u = record_of c.try_turn.new.pass in
-    let vain = turn_tries AtNone (Brings h) jobs.Land (brings_land h) (λ j y. y) k _ v w (λ r. refl)
+    let vain = turn_tries AtNone (Brings h) jobs.Land (brings_land h) (λ j y. y) k None v w (λ r. refl)
     (subst (λ (o : Option Reply). TurnTries k jobs.Land o v w) (ap landing_told c.in-Lacks.is)
     c.in_ok-land_order.ensures.turn) in on_err_weaker c.try_turn.result
     (λ x. stops_then k AtNone (Brings h) v w u vain

@@ -61,7 +61,7 @@ returns-in-Lacks-clause-write g c = let h = c.args.h.n in let a = c.args.at in
     let b = c.args.bytes.now in let k = c.args.self.now.config in
     let v = record_of c.args.pass.now in let w = record_of c.land_order.new.pass in
     let u = record_of c.write_by_turn.new.pass in
-    let vain = turn_tries AtNone (IsWriteJob h a b) jobs.Land (inr (inr refl)) (λ j y. y) k _ v w
+    let vain = turn_tries AtNone (IsWriteJob h a b) jobs.Land (inr (inr refl)) (λ j y. y) k None v w
     (λ r. refl) (subst (λ (o : Option Reply). TurnTries k jobs.Land o v w)
     (ap landing_told c.in-Lacks.is) c.in_ok-land_order.ensures.turn) in
     IfOk-weaker c.write_by_turn.result _ _
@@ -74,7 +74,7 @@ returns-in-Lacks-clause-error g c = let h = c.args.h.n in let a = c.args.at in
     let b = c.args.bytes.now in let k = c.args.self.now.config in
     let v = record_of c.args.pass.now in let w = record_of c.land_order.new.pass in
     let u = record_of c.write_by_turn.new.pass in
-    let vain = turn_tries AtNone (IsWriteJob h a b) jobs.Land (inr (inr refl)) (λ j y. y) k _ v w
+    let vain = turn_tries AtNone (IsWriteJob h a b) jobs.Land (inr (inr refl)) (λ j y. y) k None v w
     (λ r. refl) (subst (λ (o : Option Reply). TurnTries k jobs.Land o v w)
     (ap landing_told c.in-Lacks.is) c.in_ok-land_order.ensures.turn) in
     on_err_weaker c.write_by_turn.result
