@@ -216,7 +216,7 @@ module _ (first : ℕ) (s : Script) (ok : IsAccepted s.config) (v : View) (count
       let told = room_told first c ok v count last one z.0 frames loose roomy_nodes z.1 z.2.0 in
       elim told.few [
         | inl spans ↦ false≢true (sym z.2.2 ∙ tried z.0 z.1 frames loose roomy_nodes z.2.0
-            told.frames_are spans (λ none. job_short h q z.0.job (short none) z.2.1))
+            told.frames_are spans (λ none. job_short h q _ z.0.job (short none) z.2.1))
         | inr places ↦ let least = enough z.0 z.1 in let counted = told.counted in
             omega (arith, places, least, counted)
       ]

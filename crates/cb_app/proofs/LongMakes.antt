@@ -22,7 +22,7 @@ use Rattle.cb_rule.specs.Lists.{Has}
 use Rattle.cb_record.specs.Backs.{Backs, happened_at, happened_for}
 use Rattle.cb_record.specs.Deeds.{Deed, deed, happened, happening}
 use Rattle.cb_record.specs.Lists.{newest_first}
-use Rattle.cb_record.specs.Needs.{IsJobFor, MayBringIn, own_job}
+use Rattle.cb_record.specs.Needs.{IsJobFor, IsWornLanding, MayBringIn, own_job}
 use Rattle.cb_record.specs.Told.{tolds}
 use Rattle.cb_record.specs.Upheld.{as_part}
 use Rattle.cb_lanes.specs.Asked.{asked}
@@ -157,13 +157,17 @@ own_short None q short = omega arith
 
 brought_short : (h : ℕ) (j : Job) → MayBringIn h j → MakesShort j
 brought_short h j (inl swap) = subst MakesShort (sym swap) (omega arith)
-brought_short h j (inr (inl fetch)) = subst MakesShort (sym fetch) (omega arith)
-brought_short h j (inr (inr land)) = subst MakesShort (sym land) (omega arith)
+brought_short h j (inr fetch) = subst MakesShort (sym fetch) (omega arith)
 
-pub job_short : (h : Option ℕ) (q : Request) (j : Job) → MakesNoneLong q
-    → IsJobFor (own_job h q) h j → MakesShort j
-job_short (Some h) q j short (inl is) =
+landed_short : (r : Reply) (j : Job) → IsWornLanding r j → MakesShort j
+landed_short answer.Worn j land = subst MakesShort (sym land) (omega arith)
+landed_short r j land = absurd land
+
+pub job_short : (h : Option ℕ) (q : Request) (r : Reply) (j : Job) → MakesNoneLong q
+    → IsJobFor (own_job h q) h r j → MakesShort j
+job_short (Some h) q r j short (inl is) =
     subst (λ (o : Option Job). length (bytes_if o) ≤ page_bytes) is (own_short (Some h) q short)
-job_short (Some h) q j short (inr brings) = brought_short h j brings
-job_short None q j short is =
+job_short (Some h) q r j short (inr (inl brings)) = brought_short h j brings
+job_short (Some h) q r j short (inr (inr land)) = landed_short r j land
+job_short None q r j short is =
     subst (λ (o : Option Job). length (bytes_if o) ≤ page_bytes) is (own_short None q short)

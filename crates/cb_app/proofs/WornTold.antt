@@ -69,13 +69,18 @@ own_turn (Some k) j none is = subst WritesNone (same_Some k j is) none
 
 brought_none : (h : ℕ) (j : Job) → MayBringIn h j → WritesNone j
 brought_none h j (inl swap) = subst WritesNone (sym swap) tt
-brought_none h j (inr (inl fetch)) = subst WritesNone (sym fetch) tt
-brought_none h j (inr (inr land)) = subst WritesNone (sym land) tt
+brought_none h j (inr fetch) = subst WritesNone (sym fetch) tt
 
-for_it : (own : Option Job) (h : Option ℕ) (j : Job) → IsNoWrite own → IsJobFor own h j → WritesNone j
+-- or a landing
+brought_or_landed : (h : ℕ) (j : Job) → MayBringIn h j ⊎ (j ≡ job.Land) → WritesNone j
+brought_or_landed h j (inl brings) = brought_none h j brings
+brought_or_landed h j (inr land) = subst WritesNone (sym land) tt
+
+for_it : (own : Option Job) (h : Option ℕ) (j : Job) → IsNoWrite own
+    → IsJobFor own h answer.Worn j → WritesNone j
 for_it own None j none is = own_turn own j none is
 for_it own (Some h) j none (inl is) = own_turn own j none is
-for_it own (Some h) j none (inr brings) = brought_none h j brings
+for_it own (Some h) j none (inr brings) = brought_or_landed h j brings
 
 -- ---- lists
 one_there : {A : Type 0} (P : A → Type 0) (xs : List A) → HasOne P xs → (x : A) × Has x xs × P x
@@ -303,9 +308,9 @@ module _ (c : Config) (v : View) (w : WorldState) (closed : IsClosed Did 1 c v w
       z : (t : Turn) × Has t v.turns × IsTurnFor (Some own) (Some h) answer.Worn t
       z = find_for (Some own) (Some h) answer.Worn v.turns x
 
-      by : IsJobFor (Some own) (Some h) z.0.job → 2 ^ 40 ≤ count
+      by : IsJobFor (Some own) (Some h) answer.Worn z.0.job → 2 ^ 40 ≤ count
       by (inl same) = its z.0 z.1 (sym (same_Some _ _ same)) z.2.0
-      by (inr brings) = unwriting z.0 z.1 (brought_none h z.0.job brings) z.2.0
+      by (inr brings) = unwriting z.0 z.1 (brought_or_landed h z.0.job brings) z.2.0
 
   -- a write may have found it in place
   write_line : (h at : ℕ) (bytes : List ℕ)

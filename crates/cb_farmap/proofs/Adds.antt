@@ -1,9 +1,10 @@
 -- What reads, writes and makes add to the entries that a record wrote and read.
-use Rattle.std.proofs.Common.{◌≡◌, ℕ, Bool, true, false, true≢false, List, [], ◌∷◌, ◌++◌, Ok, refl, sym, ap, ◌∙◌, subst, inl, inr}
+use Rattle.std.proofs.Common.{◌≡◌, ℕ, Bool, true, false, true≢false, List, [], ◌∷◌, ◌++◌, Option, Ok, refl, sym, ap, ◌∙◌, subst, inl, inr}
 use Rattle.std.proofs.lemmas.List.{append-nil}
 use Rattle.cb_types.specs.declared.config.Config.{Config}
 use Rattle.cb_types.specs.declared.job.Job.{Job}
 use Rattle.cb_types.specs.declared.job.Job.TheVariants as jobs
+use Rattle.cb_types.specs.declared.order.Kept.{Kept}
 use Rattle.cb_types.specs.declared.reply.Reply.{Reply}
 use Rattle.cb_types.specs.declared.reply.Reply.TheVariants as answer
 use Rattle.cb_mutate.specs.JobWrites.{TurnWrites, WriteWrites}
@@ -27,7 +28,8 @@ use Rattle.cb_shared.proofs.Laws.{by_read, by_write, of_read, of_write}
 use Rattle.cb_farmap.proofs.Lists.{has_back, has_front}
 
 -- ---- tries in vain, and what a call ends with
-pub vain_written : (on : ℕ → Type 0) (vain : Turn → Type 0) (d : Part) → IsInVain on vain d
+pub vain_written : {o : Option Kept} (on : ℕ → Type 0) (vain : Turn → Type 0) (d : Part)
+    → IsInVain o on vain d
     → d.written ≡ []
 vain_written on vain d x = ap (λ (p : Part). p.written) x.part
 

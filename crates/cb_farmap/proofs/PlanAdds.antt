@@ -13,7 +13,7 @@ use Rattle.cb_rule.specs.declared.view.View.{View}
 use Rattle.cb_rule.specs.History.{is_version}
 use Rattle.cb_rule.specs.Lists.{Each, Has, times}
 use Rattle.cb_rule.specs.TriesAgain.{tries_again}
-use Rattle.cb_shared.specs.Calls.{IsAnswer, IsAnswerTo, IsReadJob, IsWriteJob, the_handle}
+use Rattle.cb_shared.specs.Calls.{IsAnswer, IsAnswerTo, IsLack, IsReadJob, IsWriteJob, the_handle}
 use Rattle.cb_shared.specs.Making.{MakesNew}
 use Rattle.cb_map_text.specs.Plain.{Plain, after_said, calls_something, needs_object, objects, plain_after, plain_said}
 use Rattle.cb_map_text.specs.Tallied.{IsTallied}
@@ -432,7 +432,8 @@ place_off (AskMake bytes) r refusal calm x = x
 no_version : (again : Bool) (j : Job) (n : ℕ) → IsAnswerTo again j (answer.Version n)
     → (h : ℕ) → IsReadJob h j → ⊥
 no_version again j n answers h asked =
-    of_read h (λ (k : Job). IsAnswerTo again k (answer.Version n) → ⊥) (λ x. x) (λ x. x) (λ x. x)
+    of_read h (λ (k : Job). IsAnswerTo again k (answer.Version n) → ⊥) (λ x. x) (λ x. x)
+    (λ x. let e : answer.Version n ≡ answer.Worn = x in cc)
     (λ x. ⊎_elim (λ (y : ⊥). y) (λ (y : ⊥). y) x) j asked answers
 
 -- the replies that are out of place for an object
@@ -474,7 +475,7 @@ write_told : (again : Bool) (h at : ℕ) (bytes : List ℕ) (j : Job) (r : Reply
     → IsWriteJob h at bytes j → IsAnswerTo again j r → IsAnswer again r
 write_told again h at bytes j r asked =
     of_write h at bytes (λ (k : Job). IsAnswerTo again k r → IsAnswer again r) (λ x. x) (λ x. inr x)
-    (λ x. inr x) j asked
+    (λ x. inr (subst (IsLack again) (sym x) tt)) j asked
 
 read_off : (again : Bool) (k : KeptObject) (j : Job) (r : Reply) → IsRefusal (AskRead k) r
     → IsCalm (Some (cannot.Refused r)) → IsReadJob k.handle.n j → IsAnswerTo again j r → IsOfOwn r

@@ -4,6 +4,7 @@ use Rattle.std.proofs.lemmas.List.{append-nil}
 use Rattle.cb_types.specs.declared.config.Config.{Config}
 use Rattle.cb_types.specs.declared.job.Job.{Job}
 use Rattle.cb_types.specs.declared.job.Job.TheVariants as jobs
+use Rattle.cb_types.specs.declared.order.Kept.{Kept}
 use Rattle.cb_types.specs.declared.reply.Reply.{Reply}
 use Rattle.cb_types.specs.declared.reply.Reply.TheVariants as answer
 use Rattle.cb_mutate.specs.JobWrites.{MakeWrites}
@@ -121,7 +122,7 @@ make_none again bytes r off = refl
 
 vain_make : (bytes : List ℕ) (t : Turn) → IsUnanswered (OfThis (jobs.Make bytes)) t
     → made_in t ≡ 0
-vain_make bytes t (job, (r, reply, off)) = ap (λ (j : Job). length (made_by_turn j t.reply)) job
+vain_make bytes t (job, (r, reply, off, kept)) = ap (λ (j : Job). length (made_by_turn j t.reply)) job
     ∙ ap (λ (o : Option Reply). length (made_by_turn (jobs.Make bytes) o)) reply
     ∙ make_none (tries_again t) bytes r
     (subst (λ (j : Job). IsAnswerTo (tries_again t) j r → ⊥) job off)
@@ -282,17 +283,18 @@ module _ (c : Config) (ask : Ask) (r : Reply) (v w : View) (before last : Part)
         answers = is.answers;
       })
 
-vain_turns : (on : ℕ → Type 0) (vain : Turn → Type 0) (d : Part) → (x : IsInVain on vain d)
+vain_turns : {o : Option Kept} (on : ℕ → Type 0) (vain : Turn → Type 0) (d : Part)
+    → (x : IsInVain o on vain d)
     → d.turns ≡ x.turns
 vain_turns on vain d x = ap (λ (p : Part). p.turns) x.part
 
-vain_jobs : (on : ℕ → Type 0) (vain P : Turn → Type 0) → ((t : Turn) → vain t → P t) → (d : Part)
-    → IsInVain on vain d → Each P d.turns
+vain_jobs : {o : Option Kept} (on : ℕ → Type 0) (vain P : Turn → Type 0)
+    → ((t : Turn) → vain t → P t) → (d : Part) → IsInVain o on vain d → Each P d.turns
 vain_jobs on vain P f d x = subst (Each P) (sym (vain_turns on vain d x))
     (each_weaker vain P f x.turns x.of)
 
-vain_made : (on : ℕ → Type 0) (vain : Turn → Type 0) → ((t : Turn) → vain t → made_in t ≡ 0)
-    → (d : Part) → IsInVain on vain d → made_by_all d.turns ≡ 0
+vain_made : {o : Option Kept} (on : ℕ → Type 0) (vain : Turn → Type 0)
+    → ((t : Turn) → vain t → made_in t ≡ 0) → (d : Part) → IsInVain o on vain d → made_by_all d.turns ≡ 0
 vain_made on vain f d x = ap made_by_all (vain_turns on vain d x) ∙ none_made vain f x.turns x.of
 
 turns_of : (v w : View) (d before last : Part) → d ≡ sum before last → w.turns ≡ d.turns ++ v.turns

@@ -1,4 +1,5 @@
 -- What a part of a record backs of one answer.
+use Rattle.std.proofs.Common.{Bool}
 use Rattle.std.proofs.Common.{◌≡◌, ℕ, ◌≤◌, false, List, [], ◌∷◌, ◌++◌, map, Option, None, Some, Ok}
 use Rattle.std.proofs.Common.{inl, inr, sym, refl, ap, ◌∙◌, subst, arith}
 use Rattle.std.specs.List.{flat_map, sum_by}
@@ -6,6 +7,7 @@ use Rattle.std.proofs.lemmas.List.{append-nil}
 use Rattle.std.proofs.lemmas.List.Sums.{sum_by-cons}
 use Rattle.cb_types.specs.declared.config.Config.{Config}
 use Rattle.cb_types.specs.declared.job.Job.{Job}
+use Rattle.cb_types.specs.declared.order.Kept.{Kept}
 use Rattle.cb_types.specs.declared.reply.Reply.{Reply}
 use Rattle.cb_types.specs.declared.request.Request.{Request}
 use Rattle.cb_world.specs.declared.entry.Entry.{Entry}
@@ -20,11 +22,11 @@ use Rattle.cb_record.specs.Backs.{Backs, Enters, EntersAt, Tells, happened_at, h
 use Rattle.cb_record.specs.Backs.{pins_at, pins_for, turn_at, turn_needed}
 use Rattle.cb_record.specs.Deeds.{Deed, deed, happened, happening}
 use Rattle.cb_record.specs.Lists.{HasOne, IsSublist, ended}
-use Rattle.cb_record.specs.Needs.{IsJobFor, IsTurnFor, Meets, need_of}
+use Rattle.cb_record.specs.Needs.{IsJobFor, IsTurnFor, IsWornLanding, Meets, need_of}
 use Rattle.cb_record.specs.Parts.{Grows, Part, grown, nothing_more, sum}
 use Rattle.cb_record.specs.Told.{Told}
 use Rattle.cb_record.proofs.Laws.{backs_sum, grown-nothing_more, grown-sum, idle_backs}
-use Rattle.cb_shared.specs.Calls.{Brings, EndsAtLast, IsInVain, again_in}
+use Rattle.cb_shared.specs.Calls.{Brings, EndsAtLast, IsAnswerTo, IsInVain, again_in}
 use Rattle.cb_shared.specs.Turning.{TurnAdds, turn_part}
 use Rattle.cb_shared.proofs.Laws.{known_grown, part_again}
 
@@ -77,7 +79,8 @@ idle_turns (t ∷ ts) idle =
     ap (λ (l : List Deed). l ++ flat_map (λ (u : Turn). happened (deed u)) ts) idle.0
     ∙ idle_turns ts idle.1
 
-pub vain_backs : (on : ℕ → Type 0) (j : Turn → Type 0) (d : Part) → IsInVain on j d → Backs d []
+pub vain_backs : {o : Option Kept} (on : ℕ → Type 0) (j : Turn → Type 0) (d : Part)
+    → IsInVain o on j d → Backs d []
 vain_backs on j d x = idle_backs d (ap (λ (z : Part). z.written) x.part)
     (ap (λ (z : Part). flat_map (λ (u : Turn). happened (deed u)) z.turns) x.part
     ∙ idle_turns x.turns x.idle)
@@ -117,10 +120,19 @@ turn_backs c j h q r v d x by meets = subst (λ (z : Part). Backs z (t ∷ [])) 
     same : deed x.turn ≡ record { job = j; reply = Some r }
     same = λ i. record { job = x.job_is i; reply = x.reply_is i }
 
-pub job_for : (own : Option Job) (h : Option ℕ) (j k : Job) → own ≡ Some j → k ≡ j
-    → IsJobFor own h k
-job_for own (Some h) j k is same = inl (is ∙ ap (λ (z : Job). Some z) (sym same))
-job_for own None j k is same = is ∙ ap (λ (z : Job). Some z) (sym same)
+pub job_for : (own : Option Job) (h : Option ℕ) (r : Reply) (j k : Job) → own ≡ Some j → k ≡ j
+    → IsJobFor own h r k
+job_for own (Some h) r j k is same = inl (is ∙ ap (λ (z : Job). Some z) (sym same))
+job_for own None r j k is same = is ∙ ap (λ (z : Job). Some z) (sym same)
+
+-- a turn that brings an object in, and answers its call, is one on this object; or a landing that
+-- tells of wear by the count of turns
+brings_for : (own : Option Job) (h : ℕ) (again : Bool) (j : Job) (r : Reply) → Brings h j
+    → IsAnswerTo again j r → IsJobFor own (Some h) r j
+brings_for own h again j r (inl is) x = inr (inl (inl is))
+brings_for own h again j r (inr (inl is)) x = inr (inl (inr is))
+brings_for own h again j r (inr (inr is)) x = inr (inr (subst (λ (z : Reply). IsWornLanding z j)
+    (sym (subst (λ (k : Job). IsAnswerTo again k r) is x)) is))
 
 -- the turn itself is what the line needs, where it is not made again
 abbrev pub IsLast : Turn → Reply → Type 0
@@ -135,17 +147,16 @@ pub its_turn : (c : Config) (own : Option Job) (h : Option ℕ) (j : Job) (r : R
     → HasOne (IsTurnFor own h r) (x.turn ∷ [])
 its_turn c own h j r v d is x last = inl (
   x.reply_is,
-  job_for own h j x.turn.job is x.job_is,
+  job_for own h r j x.turn.job is x.job_is,
   last_turn x.turn r x.reply_is last,
 )
 
-pub its_bringing : (c : Config) (own : Option Job) (h : ℕ) (j : Job) (r : Reply) (v : View)
-    (d : Part)
-    → Brings h j → (x : TurnAdds c j (Ok r) v d) → IsLast x.turn r
+pub its_bringing : (c : Config) (own : Option Job) (h : ℕ) (again : Bool) (j : Job) (r : Reply)
+    (v : View) (d : Part) → Brings h j → IsAnswerTo again j r → (x : TurnAdds c j (Ok r) v d) → IsLast x.turn r
     → HasOne (IsTurnFor own (Some h) r) (x.turn ∷ [])
-its_bringing c own h j r v d brings x last = inl (
+its_bringing c own h again j r v d brings answers x last = inl (
   x.reply_is,
-  inr (subst (Brings h) (sym x.job_is) brings),
+  subst (IsJobFor own (Some h) r) (sym x.job_is) (brings_for own h again j r brings answers),
   last_turn x.turn r x.reply_is last,
 )
 

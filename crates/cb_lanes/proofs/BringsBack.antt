@@ -49,7 +49,8 @@ bring_backs c h q r v d by x = turn_backs c x.job (Some h) q r v d t (record {
       (sym (by.turned r)) (beside [] _ [] ended);
   happens = brings_idly h x.job r x.of ∙ sym (by.happens r);
 }) (by.needs (turn_part t.turn t.more t.within t.later) (again_in d.turns) r lack
-    (its_bringing c (own_job (Some h) q) h x.job r v d x.of t (lack_last c x.job r v d lack t)))
+    (its_bringing c (own_job (Some h) q) h (again_in d.turns) x.job r v d x.of x.ends.0 t
+    (lack_last c x.job r v d lack t)))
   where
     t : TurnAdds c x.job (Ok r) v d
     t = x.ends.1

@@ -1,6 +1,7 @@
 -- What a line found of an object: its newest version, or that it was freed.
 use Rattle.std.proofs.Common.{◌≡◌, ℕ, ◌<◌, List, [], ◌∷◌, ◌++◌, length, Some, Option, Ok, inl, inr}
 use Rattle.std.proofs.Common.{sym, refl, ap, ◌∙◌, subst}
+use Rattle.cb_types.specs.declared.order.Kept.{Kept}
 use Rattle.cb_types.specs.declared.config.Config.{Config}
 use Rattle.cb_types.specs.declared.job.Job.{Job}
 use Rattle.cb_types.specs.declared.job.Job.TheVariants as job
@@ -72,7 +73,8 @@ saw_grown h version v u before none grew newest = record {
   newest = newest;
 }
 
-vain_written : (on : ℕ → Type 0) (j : Turn → Type 0) (d : Part) → IsInVain on j d → d.written ≡ []
+vain_written : {o : Option Kept} (on : ℕ → Type 0) (j : Turn → Type 0) (d : Part)
+    → IsInVain o on j d → d.written ≡ []
 vain_written on j d x = ap (λ (z : Part). z.written) x.part
 
 -- ---- a part in which it was found freed

@@ -1,8 +1,10 @@
 -- What a call tells of an object that is its pass's own, from what its last try tells.
+use Rattle.std.proofs.Common.{Option}
 use Rattle.std.proofs.Common.{ℕ, Bool, List, Ok, inl, inr, sym, subst}
 use Rattle.cb_types.specs.declared.config.Config.{Config}
 use Rattle.cb_types.specs.declared.job.Job.{Job}
 use Rattle.cb_types.specs.declared.job.Job.TheVariants as job
+use Rattle.cb_types.specs.declared.order.Kept.{Kept}
 use Rattle.cb_types.specs.declared.reply.Reply.{Reply}
 use Rattle.cb_types.specs.declared.reply.Reply.TheVariants as answer
 use Rattle.cb_rule.specs.declared.turn.Turn.{Turn}
@@ -46,8 +48,8 @@ still (Calls (job.Free handle)) (answer.Pinned count) v looks turns x = x
 still (Calls (job.Free handle)) r v looks turns x = λ own. tt
 still ask r v looks turns x = tt
 
-in_vain : (on : ℕ → Type 0) (j : Turn → Type 0) (ask : Ask) (r : Reply) (v : View) (before : Part)
-    → IsInVain on j before → TellsOwn ask (grown before v) r → TellsOwn ask v r
+in_vain : {o : Option Kept} (on : ℕ → Type 0) (j : Turn → Type 0) (ask : Ask) (r : Reply) (v : View)
+    (before : Part) → IsInVain o on j before → TellsOwn ask (grown before v) r → TellsOwn ask v r
 in_vain on j ask r v before x tells = still ask r v x.looks x.turns
     (subst (λ (d : Part). TellsOwn ask (grown d v) r) x.part tells)
 

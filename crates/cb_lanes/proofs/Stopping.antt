@@ -8,6 +8,7 @@ use Rattle.cb_types.specs.declared.config.Config.{Config}
 use Rattle.cb_types.specs.declared.handle.Handle.{Handle}
 use Rattle.cb_types.specs.declared.job.Job.{Job}
 use Rattle.cb_types.specs.declared.job.Job.TheVariants as job
+use Rattle.cb_types.specs.declared.order.Kept.{Kept}
 use Rattle.cb_types.specs.declared.reply.Reply.{Reply}
 use Rattle.cb_types.specs.declared.reply.Reply.TheVariants as answer
 use Rattle.cb_types.specs.declared.request.Request.{Request}
@@ -108,7 +109,8 @@ idle_both v m w x y = record {
       ∙ grown_sum (idle_part x.looks x.turns) (idle_part y.looks y.turns) v;
 }
 
-idle_vain : (on : ℕ → Type 0) (vain : Turn → Type 0) (d : Part) (v w : View) → IsInVain on vain d
+idle_vain : {o : Option Kept} (on : ℕ → Type 0) (vain : Turn → Type 0) (d : Part) (v w : View)
+    → IsInVain o on vain d
     → Grows v d w → AddsIdly v w
 idle_vain on vain d v w x grew = record {
   looks = x.looks;

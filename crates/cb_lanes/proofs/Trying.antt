@@ -94,6 +94,7 @@ was_hindered c h (found.Raced saw other) v w is x = (
     at = (refl, (refl, tt));
     of = tt;
     idle = tt;
+    kept = tt;
     part = refl;
   },
   x.1 ∙ twice_part h saw other v,

@@ -1,8 +1,10 @@
 -- Worked calls and pins of a pass: what meets each definition, and what breaks one of its parts
 -- alone.
+use Rattle.std.proofs.Common.{Option}
 use Rattle.std.proofs.Common.{◌≡◌, ℕ, ◌+◌, List, [], ◌∷◌, ◌++◌, length, length-append, None, Some}
 use Rattle.std.proofs.Common.{Ok, inl, inr, refl, ap, ◌∙◌, lit<, arith, ⊎_elim}
 use Rattle.std.proofs.lemmas.Bool.{eqb-false}
+use Rattle.cb_types.specs.declared.order.Kept.{Kept}
 use Rattle.cb_types.specs.declared.handle.Handle.{Handle}
 use Rattle.cb_types.specs.declared.job.Job.{Job}
 use Rattle.cb_types.specs.declared.job.Job.TheVariants as job
@@ -70,8 +72,8 @@ abbrev last_state : View → ℕ
 last_state v = state_number (state_of (word_in v.looks))
 
 -- ---- calls: each job adds what its own call adds
-no_tries : (on : ℕ → Type 0) (j : Turn → Type 0) → IsInVain on j nothing_more
-no_tries on j = record { looks = []; turns = []; at = tt; of = tt; idle = tt; part = refl }
+no_tries : {o : Option Kept} (on : ℕ → Type 0) (j : Turn → Type 0) → IsInVain o on j nothing_more
+no_tries on j = record { looks = []; turns = []; at = tt; of = tt; idle = tt; kept = tt; part = refl }
 
 -- a read that found the object freed, with no turn
 reads : CallGives two (job.Read one) part answer.Freed
@@ -214,7 +216,7 @@ brings j of d adds = (
 )
   where
     lacks : (d : Part) → IsAnswerTo (again_in d.turns) j answer.Worn
-    lacks d = each_brings (λ (k : Job). IsAnswerTo (again_in d.turns) k answer.Worn) 1 j tt tt tt of
+    lacks d = each_brings (λ (k : Job). IsAnswerTo (again_in d.turns) k answer.Worn) 1 j tt tt refl of
 
 ends_refused : (d : Part) → TurnAdds two (job.Fetch one) (Ok answer.Worn) far d
     → PinEnds two 1 answer.Worn far (grown d far)
@@ -278,6 +280,7 @@ tries_in_vain = (
     at = (refl, tt);
     of = tt;
     idle = tt;
+    kept = tt;
     part = refl;
   },
   refl,

@@ -1,4 +1,5 @@
 -- Worked lines that rise: what a call tells of versions, and what lines may not be answered.
+use Rattle.std.proofs.Common.{Option}
 use Rattle.std.proofs.Common.{◌≡◌, ℕ, Bool, true, false, List, [], ◌∷◌, None, Some, inl, inr}
 use Rattle.std.proofs.Common.{refl, ap, ◌∙◌, arith, lit<, ⊎_elim}
 use Rattle.std.specs.Prelude.{if◌then◌else◌}
@@ -8,6 +9,7 @@ use Rattle.cb_types.specs.declared.handle.Handle.{Handle}
 use Rattle.cb_types.specs.declared.job.Job.TheVariants as job
 use Rattle.cb_types.specs.declared.request.Request.{Request}
 use Rattle.cb_types.specs.declared.request.Request.TheVariants.{Make, Pin, Peek}
+use Rattle.cb_types.specs.declared.order.Kept.{Kept}
 use Rattle.cb_types.specs.declared.reply.Reply.{Reply}
 use Rattle.cb_types.specs.declared.reply.Reply.TheVariants as answer
 use Rattle.cb_ptr.specs.Word.{len_of}
@@ -77,8 +79,8 @@ peeks_less x = let low = x 3 false has_third in omega (arith, low)
 abbrev first_pin : View
 first_pin = with_pin 1 calm 3 (2826 ∷ []) (with_look 1 calm part)
 
-no_tries : (h : ℕ) (j : Turn → Type 0) → IsInVain (λ k. k ≡ h) j nothing_more
-no_tries h j = record { looks = []; turns = []; at = tt; of = tt; idle = tt; part = refl }
+no_tries : {o : Option Kept} (h : ℕ) (j : Turn → Type 0) → IsInVain o (λ k. k ≡ h) j nothing_more
+no_tries h j = record { looks = []; turns = []; at = tt; of = tt; idle = tt; kept = tt; part = refl }
 
 shared : IsAlone 1 part → ⊥
 shared l = ⊎_elim (λ (e : 40 ≡ 64). omega (arith, e)) (λ (n : ⊥). n) l

@@ -11,6 +11,8 @@ use Rattle.cb_types.specs.declared.job.Job.TheVariants as job
 use Rattle.cb_types.specs.Jobs.{job_index}
 use Rattle.cb_types.specs.declared.request.Request.TheVariants.{Evict, Leave, Peek, Read}
 use Rattle.cb_types.specs.declared.reply.Reply.{Reply}
+use Rattle.cb_types.specs.declared.order.DecodeOrder.{DecodeOrder}
+use Rattle.cb_types.specs.declared.order.Kept.TheVariants.{Decode}
 use Rattle.cb_types.specs.declared.reply.Reply.TheVariants as answer
 use Rattle.cb_script.specs.declared.script.Line.{Line}
 use Rattle.cb_ptr.specs.Word.{state_number, state_of}
@@ -22,6 +24,7 @@ use Rattle.cb_rule.specs.Steps.{blank, look_at, with_look}
 use Rattle.cb_rule.specs.TriesAgain.{tries_again}
 use Rattle.cb_record.specs.Deeds.{Deed, deed, happened, happening}
 use Rattle.cb_record.specs.Parts.{Part, grown, nothing_more}
+use Rattle.cb_shared.specs.OrdersKept.{LeavesOrder}
 use Rattle.cb_shared.specs.Calls.{AtNone, AtThis, Brings, IsAnswerTo, IsInVain, IsUnanswered}
 use Rattle.cb_shared.specs.Calls.{TurnLacks, the_handle}
 use Rattle.cb_shared.proofs.Laws.{so_far, stops_idle}
@@ -147,10 +150,11 @@ no_memory : (w : View) → TurnLacks two (job.Fetch (the_handle 1)) far w
 no_memory w lacks = lacks_by (job.Fetch (the_handle 1)) (inr (inl refl)) w lacks
 
 -- or there was none for the row, behind a fetch that handed out its order
-no_memory_for_a_row : (t : Turn) → t.job ≡ job.Fetch (the_handle 1)
-    → t.reply ≡ Some (answer.Fetched (record { n = 3 }) 0)
+no_memory_for_a_row : (t : Turn) (o : DecodeOrder) → t.job ≡ job.Fetch (the_handle 1)
+    → t.reply ≡ Some (answer.Fetched (record { n = 3 }) 0) → t.order ≡ None
+    → t.keeps ≡ Some (Decode o) → o.set ≡ 3 → o.position ≡ 0
     → BringsNot two 1 (blank two) (grown (turned t) far)
-no_memory_for_a_row t is told = record {
+no_memory_for_a_row t o is told kept keeps set position = record {
   word = away;
   away = refl;
   lacks = record {
@@ -160,13 +164,26 @@ no_memory_for_a_row t is told = record {
   };
 }
   where
-    fetched : IsInVain AtNone (IsUnanswered (Brings 1)) (turned t)
+    fetched : IsInVain None AtNone (IsUnanswered (Brings 1)) (turned t)
     fetched = record {
       looks = [];
       turns = t ∷ [];
       at = tt;
-      of = ((inr (inl is), (answer.Fetched (record { n = 3 }) 0, told, no_answer)), tt);
+      of = (
+        (
+          inr (inl is),
+          (
+            answer.Fetched (record { n = 3 }) 0,
+            told,
+            no_answer,
+            subst (λ (j : Job). LeavesOrder j (answer.Fetched (record { n = 3 }) 0) t.order t.keeps)
+                (sym is) (o, keeps, set, position),
+          ),
+        ),
+        tt,
+      );
       idle = ((λ i. happening (is i) (told i)), tt);
+      kept = (kept, tt);
       part = refl;
     }
       where

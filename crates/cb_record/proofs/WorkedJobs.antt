@@ -3,6 +3,7 @@ use Rattle.std.proofs.Common.{◌≡◌, ℕ, ◌+◌, ◌*◌, true, false, Lis
 use Rattle.cb_ptr.specs.declared.word.State.TheVariants as state
 use Rattle.cb_types.specs.declared.job.Job.{Job}
 use Rattle.cb_types.specs.declared.job.Job.TheVariants as job
+use Rattle.cb_types.specs.declared.reply.Reply.{Reply}
 use Rattle.cb_types.specs.declared.reply.Reply.TheVariants as answer
 use Rattle.cb_types.specs.declared.request.Request.{Request}
 use Rattle.cb_types.specs.declared.request.Request.TheVariants as request
@@ -14,7 +15,7 @@ use Rattle.cb_rule.specs.declared.view.Seen.{Seen}
 use Rattle.cb_rule.specs.declared.view.View.{View}
 use Rattle.cb_record.specs.Backs.{pins_at, turn_at}
 use Rattle.cb_record.specs.Deeds.{happening}
-use Rattle.cb_record.specs.Needs.{FindsEmpty, FindsPast, FindsPins, IsFreedAs, IsJobFor, IsOwnTurn, IsPinnedAs, MayBringIn, Meets, need_of, own_job, the_object}
+use Rattle.cb_record.specs.Needs.{FindsEmpty, FindsPast, FindsPins, IsFreedAs, IsJobFor, IsOwnTurn, IsPinnedAs, IsWornLanding, MayBringIn, Meets, need_of, own_job, the_object}
 use Rattle.cb_record.specs.Needs.Need.{Nothing, AFreed, APinned, ATurn}
 use Rattle.cb_record.specs.Parts.{Part, grown, nothing_more, sum}
 use Rattle.cb_record.specs.Upheld.{as_part}
@@ -56,29 +57,55 @@ no_own_jobs : (own (request.Pin name) ≡ None) × (own (request.Peek name) ≡ 
 no_own_jobs = (refl, refl, refl, refl, refl, refl, refl, refl)
 
 -- ---- a job for a line is its own, or may bring its object in
-for_its_own : IsJobFor (Some job.Evict) None job.Evict
+abbrev unroomed : Reply
+unroomed = answer.NoRoom 1 0 7
+
+for_its_own : IsJobFor (Some job.Evict) None unroomed job.Evict
 for_its_own = refl
 
-its_own_on_an_object : IsJobFor (Some (job.Free (the_object 3))) (Some 3) (job.Free (the_object 3))
+its_own_on_an_object : IsJobFor (Some (job.Free (the_object 3))) (Some 3) unroomed
+    (job.Free (the_object 3))
 its_own_on_an_object = inl refl
 
-for_its_object : IsJobFor None (Some 3) (job.Swap (the_object 3))
-    × IsJobFor None (Some 3) (job.Fetch (the_object 3)) × IsJobFor None (Some 3) job.Land
-for_its_object = (inr (inl refl), inr (inr (inl refl)), inr (inr (inr refl)))
+for_its_object : IsJobFor None (Some 3) unroomed (job.Swap (the_object 3))
+    × IsJobFor None (Some 3) unroomed (job.Fetch (the_object 3))
+for_its_object = (inr (inl (inl refl)), inr (inl (inr refl)))
 
-for_another_s : IsJobFor (Some job.Evict) None job.Begin → ⊥
+for_another_s : IsJobFor (Some job.Evict) None unroomed job.Begin → ⊥
 for_another_s i = absurd (let e = i in cc)
 
 -- a line without an object brings none in
-for_no_object : (IsJobFor None None (job.Swap (the_object 3)) → ⊥)
-    × (IsJobFor None None (job.Fetch (the_object 3)) → ⊥) × (IsJobFor None None job.Land → ⊥)
+for_no_object : (IsJobFor None None unroomed (job.Swap (the_object 3)) → ⊥)
+    × (IsJobFor None None unroomed (job.Fetch (the_object 3)) → ⊥)
+    × (IsJobFor None None answer.Worn job.Land → ⊥)
 for_no_object = (
   λ i. absurd (let e = i in cc),
   λ i. absurd (let e = i in cc),
   λ i. absurd (let e = i in cc),
 )
 
--- another object is brought in by other jobs, but for a landing, which may be that of any
+-- a landing names no object: it tells of wear, and neither of too little room nor of lost shards
+worn_by_landing : IsJobFor None (Some 3) answer.Worn job.Land
+worn_by_landing = inr (inr refl)
+
+other_landing : (r : Reply) → (IsWornLanding r job.Land → ⊥)
+    → IsJobFor None (Some 3) r job.Land → ⊥
+other_landing r off (inl is) = absurd (let e = is in cc)
+other_landing r off (inr (inl (inl is))) = absurd (let e = is in cc)
+other_landing r off (inr (inl (inr is))) = absurd (let e = is in cc)
+other_landing r off (inr (inr is)) = off is
+
+no_room_by_landing : IsJobFor None (Some 3) unroomed job.Land → ⊥
+no_room_by_landing = other_landing unroomed (λ x. x)
+
+unavailable_by_landing : IsJobFor None (Some 3) (answer.Unavailable (record { n = 2 }) []) job.Land
+    → ⊥
+unavailable_by_landing = other_landing (answer.Unavailable (record { n = 2 }) []) (λ x. x)
+
+worn_by_an_install : IsWornLanding answer.Worn job.Install → ⊥
+worn_by_an_install is = absurd (let e = is in cc)
+
+-- another object is brought in by other jobs
 abbrev object_in : Job → ℕ
 object_in (job.Swap handle) = handle.n
 object_in (job.Fetch handle) = handle.n
@@ -86,27 +113,20 @@ object_in other = 0
 
 pub swaps_another : MayBringIn 3 (job.Swap (the_object 4)) → ⊥
 swaps_another (inl is) = let e : 4 ≡ 3 = ap object_in is in omega (arith, e)
-swaps_another (inr (inl is)) = absurd (let e = is in cc)
-swaps_another (inr (inr is)) = absurd (let e = is in cc)
+swaps_another (inr is) = absurd (let e = is in cc)
 
 fetches_another : MayBringIn 3 (job.Fetch (the_object 4)) → ⊥
 fetches_another (inl is) = absurd (let e = is in cc)
-fetches_another (inr (inl is)) = let e : 4 ≡ 3 = ap object_in is in omega (arith, e)
-fetches_another (inr (inr is)) = absurd (let e = is in cc)
-
-lands_any : (h : ℕ) → MayBringIn h job.Land
-lands_any h = inr (inr refl)
+fetches_another (inr is) = let e : 4 ≡ 3 = ap object_in is in omega (arith, e)
 
 -- no other job brings one in, not even one that names it or takes an order
 a_read_does_not : MayBringIn 3 (job.Read (the_object 3)) → ⊥
 a_read_does_not (inl is) = absurd (let e = is in cc)
-a_read_does_not (inr (inl is)) = absurd (let e = is in cc)
-a_read_does_not (inr (inr is)) = absurd (let e = is in cc)
+a_read_does_not (inr is) = absurd (let e = is in cc)
 
-an_install_does_not : MayBringIn 3 job.Install → ⊥
-an_install_does_not (inl is) = absurd (let e = is in cc)
-an_install_does_not (inr (inl is)) = absurd (let e = is in cc)
-an_install_does_not (inr (inr is)) = absurd (let e = is in cc)
+a_landing_does_not : MayBringIn 3 job.Land → ⊥
+a_landing_does_not (inl is) = absurd (let e = is in cc)
+a_landing_does_not (inr is) = absurd (let e = is in cc)
 
 -- ---- the turns that refusals need, and what needs nothing
 turns_needed : {lost : _} →

@@ -244,18 +244,29 @@ module _ (t : Turn) where
   }
 
   brought_in : IsTurnFor None (Some 3) (answer.NoRoom 1 0 7) (swap_told 1)
-  brought_in = (refl, inr (inl refl), refl)
+  brought_in = (refl, inr (inl (inl refl)), refl)
 
   not_fetched : {lost : _}
       → IsTurnFor None (Some 3) (answer.Unavailable (record { n = 2 }) lost) (record t {
         job = job.Fetch (the_object 3);
         reply = Some (answer.Unavailable (record { n = 2 }) lost);
       })
-  not_fetched = (refl, inr (inr (inl refl)), refl)
+  not_fetched = (refl, inr (inl (inr refl)), refl)
+
+  -- a landing tells of wear, and of nothing that it lacks
+  landed_worn : IsTurnFor None (Some 3) answer.Worn
+      (record t { job = job.Land; reply = Some answer.Worn })
+  landed_worn = (refl, inr (inr refl), refl)
 
   not_landed : IsTurnFor None (Some 3) (answer.NoRoom 1 0 7)
-      (record (swap_told 1) { job = job.Land })
-  not_landed = (refl, inr (inr (inr refl)), refl)
+      (record (swap_told 1) { job = job.Land }) → ⊥
+  not_landed i = by i.1
+    where
+      by : IsJobFor None (Some 3) (answer.NoRoom 1 0 7) job.Land → ⊥
+      by (inl e) = cc
+      by (inr (inl (inl e))) = cc
+      by (inr (inl (inr e))) = cc
+      by (inr (inr e)) = e
 
   -- one that is made again tells no line of too little room
   made_again : IsTurnFor None (Some 3) (answer.NoRoom 362 0 7) (swap_told 362) → ⊥
@@ -271,7 +282,12 @@ module _ (t : Turn) where
 
   other_object : IsTurnFor None (Some 3) (answer.NoRoom 1 0 7)
       (record t { job = job.Swap (the_object 4); reply = Some (answer.NoRoom 1 0 7) }) → ⊥
-  other_object i = ⊎_elim (λ (e : None ≡ Some (job.Swap (the_object 4))). cc) swaps_another i.1
+  other_object i = by i.1
+    where
+      by : IsJobFor None (Some 3) (answer.NoRoom 1 0 7) (job.Swap (the_object 4)) → ⊥
+      by (inl e) = cc
+      by (inr (inl x)) = swaps_another x
+      by (inr (inr x)) = x
 
   -- the end is told by a turn of its own job alone
   end_told : Meets (record nothing_more {
@@ -288,7 +304,7 @@ module _ (t : Turn) where
   worn_by_a_fetch : Meets (record nothing_more {
     turns = record t { job = job.Fetch (the_object 3); reply = Some answer.Worn } ∷ [];
   }) (AWorn (Some (job.Write (the_object 3) 2 (1 ∷ []))) 3)
-  worn_by_a_fetch = inr (inl (refl, inr (inr (inl refl)), refl))
+  worn_by_a_fetch = inr (inl (refl, inr (inl (inr refl)), refl))
 
   worn_by_an_eviction : Meets (record nothing_more {
     turns = record t { job = job.Evict; reply = Some answer.Worn } ∷ [];
@@ -296,11 +312,12 @@ module _ (t : Turn) where
   worn_by_an_eviction (inl m) = m
   worn_by_an_eviction (inr (inl i)) = by i.1
     where
-      by : IsJobFor (Some (job.Write (the_object 3) 2 (1 ∷ []))) (Some 3) job.Evict → ⊥
+      by : IsJobFor (Some (job.Write (the_object 3) 2 (1 ∷ []))) (Some 3) answer.Worn job.Evict
+          → ⊥
       by (inl e) = cc
-      by (inr (inl e)) = cc
-      by (inr (inr (inl e))) = cc
-      by (inr (inr (inr e))) = cc
+      by (inr (inl (inl e))) = cc
+      by (inr (inl (inr e))) = cc
+      by (inr (inr e)) = cc
   worn_by_an_eviction (inr (inr m)) = m
 
   end_by_a_swap : IsOwnTurn (Some (job.Write (the_object 3) 2 (1 ∷ []))) (answer.Range 2)

@@ -126,20 +126,26 @@ IsLastOf h s = (s.handle ≡ h) × (s.version ≡ 2 ^ 64 - 1)
 abbrev pub IsOwnTurn : Option Job → Reply → Turn → Type 0
 IsOwnTurn own reply t = (t.reply ≡ Some reply) × (own ≡ Some t.job)
 
--- The job may bring the object in: in one turn, or by two, of which one fetches its row and one lands
--- it. A landing names no object, so it may be that of any.
+-- The job may bring the object in: in one turn; or as the first of two, which hands out the rows of
+-- which its own is made.
 abbrev pub MayBringIn : ℕ → Job → Type 0
-MayBringIn h j = (j ≡ job.Swap (the_object h)) ⊎ ((j ≡ job.Fetch (the_object h)) ⊎ (j ≡ job.Land))
+MayBringIn h j = (j ≡ job.Swap (the_object h)) ⊎ (j ≡ job.Fetch (the_object h))
 
--- the job is the line's own, or may bring its object in
-abbrev pub IsJobFor : Option Job → Option ℕ → Job → Type 0
-IsJobFor own (Some h) j = (own ≡ Some j) ⊎ MayBringIn h j
-IsJobFor own None j = own ≡ Some j
+-- The second of the two lands that row, and names no object: it tells of wear by the count of turns
+-- alone.
+abbrev pub IsWornLanding : Reply → Job → Type 0
+IsWornLanding answer.Worn j = j ≡ job.Land
+IsWornLanding reply j = ⊥
+
+-- the job is the line's own, or may bring its object in, or is such a landing
+abbrev pub IsJobFor : Option Job → Option ℕ → Reply → Job → Type 0
+IsJobFor own (Some h) reply j = (own ≡ Some j) ⊎ (MayBringIn h j ⊎ IsWornLanding reply j)
+IsJobFor own None reply j = own ≡ Some j
 
 -- so of a turn with this reply that is not made again
 abbrev pub IsTurnFor : Option Job → Option ℕ → Reply → Turn → Type 0
 IsTurnFor own h reply t =
-    (t.reply ≡ Some reply) × IsJobFor own h t.job × (tries_again t ≡ false)
+    (t.reply ≡ Some reply) × IsJobFor own h reply t.job × (tries_again t ≡ false)
 
 -- A part of a record has what is needed. Pins are found by a look, and the last version by a claim,
 -- or by a turn for the line; an end by a look, or by a turn of the line's own.

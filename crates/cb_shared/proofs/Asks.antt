@@ -90,7 +90,7 @@ writes_none (asks.Land done) (Ok r) more none = none
 writes_none asked (Err e) more none = none
 
 -- ---- which replies tell of an order, of a set that is lost, and of no room
-abbrev kind_of : Reply → ℕ
+abbrev pub kind_of : Reply → ℕ
 kind_of (answer.Batch id) = 1
 kind_of (answer.Unavailable id losses) = 2
 kind_of (answer.Fetched id p) = 3
@@ -100,20 +100,20 @@ kind_of r = 0
 no_want : (r : Reply) → (kind_of r ≡ 4 → ⊥) → IsNoWant r
 no_want r not frames loose nodes e = not (ap kind_of e)
 
-plain_gather : (g : Gathered) → (kind_of (gathered_reply g) ≡ 1 → ⊥) → IsPlainGather (Ok g)
+pub plain_gather : (g : Gathered) → (kind_of (gathered_reply g) ≡ 1 → ⊥) → IsPlainGather (Ok g)
 plain_gather (gathered.Order o) not = tt
 plain_gather (gathered.Answer r) not = λ id e. not (ap kind_of e)
 
-plain_fetch : (g : Fetching) → (kind_of (fetching_reply g) ≡ 3 → ⊥) → IsPlainFetch (Ok g)
+pub plain_fetch : (g : Fetching) → (kind_of (fetching_reply g) ≡ 3 → ⊥) → IsPlainFetch (Ok g)
 plain_fetch (fetching.Order o) not = tt
 plain_fetch (fetching.Answer r) not = λ id p e. not (ap kind_of e)
 
 -- one that was kept was handed out
-gather_kept : (g : Gathered) (x : Kept) → gathered_order None g ≡ Some x → IsPlainGather (Ok g)
+pub gather_kept : (g : Gathered) (x : Kept) → gathered_order None g ≡ Some x → IsPlainGather (Ok g)
 gather_kept (gathered.Order o) x e = tt
 gather_kept (gathered.Answer r) x e = absurd (cc)
 
-fetch_kept : (g : Fetching) (x : Kept) → fetching_order None g ≡ Some x → IsPlainFetch (Ok g)
+pub fetch_kept : (g : Fetching) (x : Kept) → fetching_order None g ≡ Some x → IsPlainFetch (Ok g)
 fetch_kept (fetching.Order o) x e = tt
 fetch_kept (fetching.Answer r) x e = absurd (cc)
 
@@ -129,12 +129,12 @@ none_some : (h : ℕ) → (let x : Option ℕ = None in x) ≡ Some h → ⊥
 none_some h e = cc
 
 -- the reply of a begin is a refusal, or Batch, where so much is so of some rows
-record IsBatchOf (so : List (List ℕ) → Type 0) (r : Reply) : Type 0 where
+pub record IsBatchOf (so : List (List ℕ) → Type 0) (r : Reply) : Type 0 where
   pub kind : kind_of r ≡ 1
   pub rows : List (List ℕ)
   pub given : so rows
 
-begun_kind : (far new : FarState) (made : Bool) (so : List (List ℕ) → Type 0) (r : Reply)
+pub begun_kind : (far new : FarState) (made : Bool) (so : List (List ℕ) → Type 0) (r : Reply)
     (es : List Access) → BeginsBy far new made so r es → (kind_of r ≡ 0) ⊎ IsBatchOf so r
 begun_kind far new made so r es (inl x) = inl (ap kind_of x.reply)
 begun_kind far new made so r es (inr x) = elim x.answered [
@@ -167,7 +167,7 @@ empty_kind : (v : ℕ) (r : Reply) → EmptyAnswer v r → kind_of r ≡ 0
 empty_kind zero r e = ap kind_of e
 empty_kind (suc v) r e = ap kind_of e
 
-find_kind : (state : State) (w h : ℕ) (es : List Access) (r : Reply)
+pub find_kind : (state : State) (w h : ℕ) (es : List Access) (r : Reply)
     → AnsweredAs state (λ w. r ≡ answer.Stays) w h es r → kind_of r ≡ 0
 find_kind word.Empty w h es r x = empty_kind x.0 r x.2
 find_kind word.Far w h es r x = ap kind_of x
@@ -180,7 +180,7 @@ unfetched_kind : (broken : Bool) (id : SetId) (losses : List Loss) (r : Reply)
 unfetched_kind true id losses r e = inr (ap kind_of e)
 unfetched_kind false id losses r e = inl (ap kind_of e)
 
-fetched_kind : (id p : ℕ) (far new : FarState) (set : SetState) (g : Fetching)
+pub fetched_kind : (id p : ℕ) (far new : FarState) (set : SetState) (g : Fetching)
     → FetchFar far new id p set g
     → ((kind_of (fetching_reply g) ≡ 0) ⊎ (kind_of (fetching_reply g) ≡ 2))
     ⊎ ((o : DecodeOrder) × (g ≡ fetching.Order o))

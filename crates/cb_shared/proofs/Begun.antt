@@ -3,6 +3,7 @@ use Rattle.std.proofs.Common.{◌≡◌, ℕ, zero, suc, ◌≤◌, List, length
 use Rattle.std.proofs.Common.{◌∙◌, arith}
 use Rattle.cb_types.specs.declared.config.Config.{Config}
 use Rattle.cb_rule.specs.Steps.{opener}
+use Rattle.cb_shared.specs.OrdersKept.{begun}
 use Rattle.cb_shared.specs.Passes.{IsAtRest}
 
 same_each : (n i z : ℕ) → get_or (replicate n z) i z ≡ z
@@ -31,4 +32,5 @@ rest_opener c = record {
   written = tt;
   seen = tt;
   pins = tt;
+  orders = begun;
 }

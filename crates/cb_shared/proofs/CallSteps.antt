@@ -8,6 +8,7 @@ use Rattle.cb_types.specs.declared.config.Config.{Config}
 use Rattle.cb_types.specs.declared.handle.Handle.{Handle}
 use Rattle.cb_types.specs.declared.job.Job.{Job}
 use Rattle.cb_types.specs.declared.job.Job.TheVariants as jobs
+use Rattle.cb_types.specs.declared.order.Kept.{Kept}
 use Rattle.cb_types.specs.declared.reply.Reply.{Reply}
 use Rattle.cb_types.specs.declared.reply.Reply.TheVariants as answer
 use Rattle.cb_ptr.specs.declared.word.State.TheVariants as state
@@ -27,7 +28,8 @@ use Rattle.cb_shared.specs.Calls.{OfThis, ReadCallEnds, ReadGives, ReadStops, Re
 use Rattle.cb_shared.specs.Calls.{ReadsInPlace, StopsBy, TellsWhatIs, TriesInVain, TurnEnds}
 use Rattle.cb_shared.specs.Calls.{TurnGives, TurnLacks, TurnStops, TurnTries, again_in}
 use Rattle.cb_record.specs.Deeds.{happening}
-use Rattle.cb_record.specs.Parts.{Part, Grows, grown, nothing_more, sum}
+use Rattle.cb_record.specs.Parts.{Part, Grows, grown, keeps_after, nothing_more, sum}
+use Rattle.cb_shared.specs.OrdersKept.{KeepInTurn}
 use Rattle.cb_shared.specs.declared.reading.ReadAnswer.{ReadAnswer}
 use Rattle.cb_shared.specs.declared.reading.ReadAnswer.TheVariants as found
 use Rattle.cb_shared.specs.Making.{MakesNew, TriesNew}
@@ -35,6 +37,7 @@ use Rattle.cb_shared.specs.Reading.{ReadFinds, looked}
 use Rattle.cb_shared.specs.Turning.{FindsAtLast, FindsFreedAfter, JobReads, KnowsIt}
 use Rattle.cb_shared.specs.Turning.{TurnAdds, TurnBy, answer_of, freed_of, made_by_turn, made_in}
 use Rattle.cb_shared.specs.Turning.{object_of, turn_part, with_own}
+use Rattle.cb_shared.proofs.LeavesOrders.{turn_leaves}
 use Rattle.cb_shared.proofs.ReadParts.{grown_nothing, grown_sum}
 
 pub each_both : {A : Type 0} (P : A → Type 0) (xs ys : List A) → Each P xs → Each P ys
@@ -47,30 +50,53 @@ pub each_map : {A : Type 0} (P Q : A → Type 0) → ((x : A) → P x → Q x) �
 each_map P Q f [] all = tt
 each_map P Q f (x ∷ xs) all = (f x all.0, each_map P Q f xs all.1)
 
-module _ (on : ℕ → Type 0) (vain : Turn → Type 0) where
-  pub vain_none : IsInVain on vain nothing_more
-  vain_none = record { looks = []; turns = []; at = tt; of = tt; idle = tt; part = refl }
+-- the order that is kept behind some turns, and behind more of them
+keeps_more : (us ts : List Turn) (o : Option Kept)
+    → keeps_after us (keeps_after ts o) ≡ keeps_after (us ++ ts) o
+keeps_more [] ts o = refl
+keeps_more (u ∷ us) ts o = refl
 
-  pub vain_sum : (d e : Part) → IsInVain on vain d → IsInVain on vain e
-      → IsInVain on vain (sum d e)
-  vain_sum d e x y = record {
+kept_more : (us ts : List Turn) (o : Option Kept) → KeepInTurn (keeps_after ts o) us
+    → KeepInTurn o ts → KeepInTurn o (us ++ ts)
+kept_more [] ts o x y = y
+kept_more (u ∷ us) ts o x y = (x.0 ∙ keeps_more us ts o, kept_more us ts o x.1 y)
+
+module _ (on : ℕ → Type 0) (vain : Turn → Type 0) where
+  pub vain_none : {o : Option Kept} → IsInVain o on vain nothing_more
+  vain_none = record { looks = []; turns = []; at = tt; of = tt; idle = tt; kept = tt; part = refl }
+
+  pub vain_sum : (o : Option Kept) (d e : Part) → IsInVain o on vain d
+      → IsInVain (keeps_after d.turns o) on vain e → IsInVain o on vain (sum d e)
+  vain_sum o d e x y = record {
     looks = y.looks ++ x.looks;
     turns = y.turns ++ x.turns;
     at = each_both (λ (l : Look). on l.handle) y.looks x.looks y.at x.at;
     of = each_both vain y.turns x.turns y.of x.of;
     idle = each_both _ y.turns x.turns y.idle x.idle;
+    kept = kept_more y.turns x.turns o
+        (subst (λ (p : Part). KeepInTurn (keeps_after p.turns o) y.turns) x.part y.kept) x.kept;
     part = λ i. sum (x.part i) (y.part i);
   }
 
+  -- by the order that the record keeps behind a part of it
+  vain_behind : (v w : View) (d e : Part) → Grows v d w → IsInVain w.order on vain e
+      → IsInVain (keeps_after d.turns v.order) on vain e
+  vain_behind v w d e is x =
+      subst (λ (o : Option Kept). IsInVain o on vain e) (ap (λ (z : View). z.order) is) x
+
   -- one try more that came to nothing
-  pub tries_after : (v w u : View) (d : Part) → IsInVain on vain d → Grows v d w
+  pub tries_after : (v w u : View) (d : Part) → IsInVain v.order on vain d → Grows v d w
       → TriesInVain on vain w u → TriesInVain on vain v u
   tries_after v w u d x is (e, y, next) =
-      (sum d e, vain_sum d e x y, next ∙ ap (grown e) is ∙ grown_sum d e v)
+      (
+        sum d e,
+        vain_sum v.order d e x (vain_behind v w d e is y),
+        next ∙ ap (grown e) is ∙ grown_sum d e v,
+      )
 
   -- or one that ends the call
   pub ends_after : (P : View → Part → Type 0) (f : View → View) (v w u : View) (d e : Part)
-      → IsInVain on vain d → Grows v d w → P w e → u ≡ f (grown e w)
+      → IsInVain v.order on vain d → Grows v d w → P w e → u ≡ f (grown e w)
       → (x : Part) × EndsAtLast on vain P v x × (u ≡ f (grown x v))
   ends_after P f v w u d e x is last next = (
     sum d e,
@@ -108,7 +134,7 @@ module _ (on : ℕ → Type 0) (vain : Turn → Type 0) where
         record {
           before = sum d x.before;
           last = x.last;
-          in_vain = vain_sum d x.before vain_so x.in_vain;
+          in_vain = vain_sum v.order d x.before vain_so (vain_behind v w d x.before is x.in_vain);
           ends_so = subst (λ (z : View). P z x.last) at x.ends_so;
           part = refl;
         },
@@ -117,15 +143,17 @@ module _ (on : ℕ → Type 0) (vain : Turn → Type 0) where
       )
 
 -- tries of one kind are tries of a wider one
-pub vain_wider : (on all : ℕ → Type 0) (vain wide : Turn → Type 0) → ((h : ℕ) → on h → all h)
-    → ((t : Turn) → vain t → wide t) → (d : Part) → IsInVain on vain d → IsInVain all wide d
-vain_wider on all vain wide looks turns d x = record {
+pub vain_wider : (o : Option Kept) (on all : ℕ → Type 0) (vain wide : Turn → Type 0)
+    → ((h : ℕ) → on h → all h) → ((t : Turn) → vain t → wide t) → (d : Part)
+    → IsInVain o on vain d → IsInVain o all wide d
+vain_wider o on all vain wide looks turns d x = record {
   looks = x.looks;
   turns = x.turns;
   at = each_map (λ (l : Look). on l.handle) (λ (l : Look). all l.handle) (λ l. looks l.handle)
       x.looks x.at;
   of = each_map vain wide turns x.turns x.of;
   idle = x.idle;
+  kept = x.kept;
   part = x.part;
 }
 
@@ -133,20 +161,22 @@ pub tries_wider : (on all : ℕ → Type 0) (vain wide : Turn → Type 0) → ((
     → ((t : Turn) → vain t → wide t) → (v w : View) → TriesInVain on vain v w
     → TriesInVain all wide v w
 tries_wider on all vain wide looks turns v w (d, x, grew) =
-    (d, vain_wider on all vain wide looks turns d x, grew)
+    (d, vain_wider v.order on all vain wide looks turns d x, grew)
 
 -- turns of fewer jobs are turns of more
 pub unanswered_wider : (may all : Job → Type 0) → ((job : Job) → may job → all job) → (t : Turn)
     → IsUnanswered may t → IsUnanswered all t
 unanswered_wider may all wider t x = (wider t.job x.0, x.1)
 
-pub vain_look : (h word : ℕ) (vain : Turn → Type 0) → IsInVain (AtThis h) vain (looked h word)
+pub vain_look : {o : Option Kept} (h word : ℕ) (vain : Turn → Type 0)
+    → IsInVain o (AtThis h) vain (looked h word)
 vain_look h word vain = record {
   looks = look_at h word ∷ [];
   turns = [];
   at = (refl, tt);
   of = tt;
   idle = tt;
+  kept = tt;
   part = refl;
 }
 
@@ -194,13 +224,14 @@ no_looks on d is = ([], tt, is)
 module _ (c : Config) (job : Job) (vain : Turn → Type 0) (r : Result Reply NoMemory) (v : View)
     (d : Part) (x : TurnAdds c job r v d) where
   vain_turn : x.more ≡ [] → LooksAlone (LooksOf job) x.within → x.later ≡ nothing_more
-      → happening job (answer_of r) ≡ [] → vain x.turn → IsInVain (LooksOf job) vain d
+      → happening job (answer_of r) ≡ [] → vain x.turn → IsInVain v.order (LooksOf job) vain d
   vain_turn more within later idle is = record {
     looks = within.0;
     turns = x.turn ∷ [];
     at = within.1;
     of = (is, tt);
     idle = ((λ i. happening (x.job_is i) (x.reply_is i)) ∙ idle, tt);
+    kept = (x.before, tt);
     part = x.part ∙ (λ i. turn_part x.turn (more i) (within.2 i) (later i));
   }
 
@@ -236,13 +267,15 @@ unanswered c job r v d x off = (
   (
     r,
     x.reply_is,
-    λ y. off (subst (λ (j : Job). IsAnswerTo (tries_again x.turn) j r) x.job_is y),
+    (λ y. off (subst (λ (j : Job). IsAnswerTo (tries_again x.turn) j r) x.job_is y)),
+    turn_leaves c x.turn r x.reply_is x.did,
   ),
 )
 
 pub turn_vain : (c : Config) (job : Job) (r : Reply) (v : View) (d : Part) → IsCalled job
     → (x : TurnAdds c job (Ok r) v d) → (IsAnswerTo (tries_again x.turn) job r → ⊥)
-    → IsInVain (LooksOf job) (IsUnanswered (OfThis job)) d × (made_by_turn job (Some r) ≡ [])
+    → IsInVain v.order (LooksOf job) (IsUnanswered (OfThis job)) d
+    × (made_by_turn job (Some r) ≡ [])
 turn_vain c (jobs.Make bytes) r v d called x off =
     let other : (h : Handle) (w : ℕ) → r ≡ answer.Made h w → ⊥ =
     λ h w e. off (subst (IsAnswerTo (tries_again x.turn) (jobs.Make bytes)) (sym e) (inl tt)) in (
@@ -420,6 +453,7 @@ turn_idle c job v w (e, (d, x, is)) =
         at = z.1;
         of = (tt, tt);
         idle = ((λ i. happening (x.job_is i) (x.reply_is i)) ∙ none_happened job, tt);
+        kept = (x.before, tt);
         part = x.part ∙ (λ i. turn_part x.turn (x.wrote i) (z.2 i) (x.finds i));
       },
       grows_own (made_by_turn job None) v w d (none_made job) is,
@@ -442,7 +476,7 @@ stops_idle c on may v w x = behind x.lacks
 one_look : (h word : ℕ) (vain : Turn → Type 0) (v w : View) (d : Part) → Grows v d w
     → d ≡ looked h word → TriesInVain (AtThis h) vain v w
 one_look h word vain v w d grew is =
-    (d, subst (IsInVain (AtThis h) vain) (sym is) (vain_look h word vain), grew)
+    (d, subst (IsInVain v.order (AtThis h) vain) (sym is) (vain_look h word vain), grew)
 
 pub look_tries : (h word : ℕ) (vain : Turn → Type 0) (v w u : View) (d : Part) → d ≡ looked h word
     → Grows v d w → TriesInVain (AtThis h) vain w u → TriesInVain (AtThis h) vain v u
@@ -533,6 +567,7 @@ found_hindered h vain (found.Raced saw other) v w is (d, grew, f) = (
     at = (refl, (refl, tt));
     of = tt;
     idle = tt;
+    kept = tt;
     part = f.1;
   },
   grew,
@@ -566,7 +601,8 @@ pub brings_lacks : (h : ℕ) (again : Bool) (job : Job) (r : Reply) → Brings h
     → IsAnswerTo again job r → IsLack again r
 brings_lacks h again job r (inl is) x = subst (λ (j : Job). IsAnswerTo again j r) is x
 brings_lacks h again job r (inr (inl is)) x = subst (λ (j : Job). IsAnswerTo again j r) is x
-brings_lacks h again job r (inr (inr is)) x = subst (λ (j : Job). IsAnswerTo again j r) is x
+brings_lacks h again job r (inr (inr is)) x = subst (IsLack again)
+    (sym (subst (λ (j : Job). IsAnswerTo again j r) is x)) tt
 
 read_asked : (h : ℕ) (again : Bool) (job : Job) (r : Reply) → IsReadJob h job
     → IsAnswerTo again job r → TellsWhatIs r ⊎ IsLack again r

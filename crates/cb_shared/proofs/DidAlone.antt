@@ -69,7 +69,7 @@ pub turn_alone : (c : Config) (t : Turn) → NeedsNoOrder t.job → Did c t
 turn_alone c t alone did =
     did_alone c t.job t.order t.reply t.keeps t.start t.acts t.took t.gave alone did
 
-kept_alone : (c : Config) (job : Job) (order : Option Kept) (reply : Option Reply)
+pub kept_alone : (c : Config) (job : Job) (order : Option Kept) (reply : Option Reply)
     (keeps : Option Kept) (start : Shown) (es : List Access) (took gave : FarState)
     → NeedsNoOrder job → DidWith c job order reply keeps start es took gave → keeps ≡ order
 kept_alone c job order (Some r) keeps start es took gave alone (worn_with last is kept same ran) =

@@ -9,6 +9,7 @@ use Rattle.cb_types.specs.declared.handle.SetId.{SetId}
 use Rattle.cb_types.specs.declared.job.Job.{Job}
 use Rattle.cb_types.specs.declared.job.Job.TheVariants as jobs
 use Rattle.cb_types.specs.declared.order.DecodeOrder.{DecodeOrder}
+use Rattle.cb_types.specs.declared.order.Kept.{Kept}
 use Rattle.cb_types.specs.declared.order.Kept.TheVariants.{Decode}
 use Rattle.cb_types.specs.declared.reply.Reply.{Reply}
 use Rattle.cb_types.specs.declared.reply.Reply.TheVariants as answer
@@ -28,6 +29,8 @@ use Rattle.cb_shared.specs.declared.answers.WriteAnswer.{WriteAnswer}
 use Rattle.cb_shared.specs.declared.answers.WriteAnswer.TheVariants as place
 use Rattle.cb_shared.specs.declared.reading.ReadAnswer.{ReadAnswer}
 use Rattle.cb_shared.specs.declared.reading.ReadAnswer.TheVariants as found
+use Rattle.cb_shared.specs.declared.ways.Landing.{Landing}
+use Rattle.cb_shared.specs.declared.ways.Landing.TheVariants as landing
 use Rattle.cb_shared.specs.declared.ways.Way.{Way}
 use Rattle.cb_shared.specs.declared.ways.Way.TheVariants as ways
 use Rattle.cb_shared.specs.Calls.{AnswersBy, AsksFor, AtNone, AtThis, Brings, EndsAtLast, FoundFar}
@@ -35,12 +38,13 @@ use Rattle.cb_shared.specs.Calls.{IsInVain, IsLack, IsReadJob, IsUnanswered, IsW
 use Rattle.cb_shared.specs.Calls.{OfThis, ReadCallEnds, ReadTries, StopsBy, TriesBy}
 use Rattle.cb_shared.specs.Calls.{TriesInVain, TurnStops, TurnTries, WriteCallEnds}
 use Rattle.cb_shared.specs.Calls.{WriteTries, again_in, the_handle}
-use Rattle.cb_shared.specs.Fetching.{GetsTurns, brings, job_behind_fetch}
+use Rattle.cb_shared.specs.Fetching.{GetsTurns, brings, job_after_land, job_behind_fetch}
 use Rattle.cb_core.specs.Ordered.{fetch_answer}
 use Rattle.cb_shared.specs.Ordering.{IsPlainFetch}
 use Rattle.cb_shared.specs.Reading.{ReadFinds, looked}
 use Rattle.cb_shared.specs.Turning.{TurnBy, made_by_turn}
-use Rattle.cb_shared.specs.Ways.{HasWay, IsFound, IsWayBy, IsWayOf, IsWayTold, way_told}
+use Rattle.cb_shared.specs.Ways.{HasWay, IsFound, IsLandedBy, IsLandingOf, IsLandingTold, IsWayBy}
+use Rattle.cb_shared.specs.Ways.{IsWayOf, IsWayTold, LandingLacks, landing_told, way_told}
 use Rattle.cb_shared.specs.Writing.{WriteGives}
 use Rattle.cb_shared.proofs.CallSteps.{Found, ends_after, ends_then, grows_own, known_still}
 use Rattle.cb_shared.proofs.CallSteps.{look_stops, look_tries, stops_then, stops_wider, tries_then, tries_wider}
@@ -64,7 +68,7 @@ module _ (may all : Job → Type 0) (wide : (job : Job) → may job → all job)
     record {
       before = x.before;
       last = x.last;
-      in_vain = vain_wider AtNone AtNone (IsUnanswered may) (IsUnanswered all) (λ k none. none)
+      in_vain = vain_wider v.order AtNone AtNone (IsUnanswered may) (IsUnanswered all) (λ k none. none)
           (unanswered_wider may all wide) x.before x.in_vain;
       ends_so = record {
         job = x.ends_so.job;
@@ -162,8 +166,9 @@ module _ (c : Config) (h at : ℕ) (bytes : List ℕ) (told : Option Reply) (job
 abbrev pub LooksFar : ℕ → View → View → Type 0
 LooksFar h v w = (word : ℕ) × (state_of word ≡ state.Far) × Grows v (looked h word) w
 
-none_looked : (vain : Turn → Type 0) (d : Part) → IsInVain AtNone vain d → d.looks ≡ []
-none_looked vain d x = ap (λ (p : Part). p.looks) x.part ∙ none x.looks x.at
+none_looked : (o : Option Kept) (vain : Turn → Type 0) (d : Part) → IsInVain o AtNone vain d
+    → d.looks ≡ []
+none_looked o vain d x = ap (λ (p : Part). p.looks) x.part ∙ none x.looks x.at
   where
     none : (ls : List Look) → Each (λ (l : Look). ⊥) ls → ls ≡ []
     none [] each = refl
@@ -182,12 +187,12 @@ far_at_last c h may r P ends v w u (word, far, grew) (e, x, next) =
       record {
         before = x.before;
         last = x.last;
-        in_vain = vain_wider AtNone (AtThis h) (IsUnanswered may) (IsUnanswered may)
+        in_vain = vain_wider w.order AtNone (AtThis h) (IsUnanswered may) (IsUnanswered may)
             (λ k none. absurd none) (λ t z. z) x.before x.in_vain;
         ends_so = ends (grown x.before w) x.last (record {
           away = subst (FoundFar h)
               (sym (ap (λ (ls : List Look). ls ++ w.looks)
-              (none_looked (IsUnanswered may) x.before x.in_vain)
+              (none_looked w.order (IsUnanswered may) x.before x.in_vain)
               ∙ ap (λ (z : View). z.looks) grew)) (refl, far);
           turned = x.ends_so;
         });
@@ -299,7 +304,6 @@ module _ (c : Config) (h : ℕ) (again before after : Bool) (v w : View) where
   -- ---- and by its reply
   -- a lack brings nothing in
   lack_brings : (r : Reply) → IsLack again r → brings (Some r) ≡ false
-  lack_brings answer.Stays x = absurd x
   lack_brings (answer.Swapped frame) x = absurd x
   lack_brings r x = refl
 
@@ -346,3 +350,57 @@ module _ (c : Config) (h : ℕ) (again before after : Bool) (v w : View) where
   way_found (Ok f) (Err g) by plain is = tt
   way_found (Err e) (Err g) by plain is = tt
   way_found (Err e) (Ok way) by plain is = absurd is
+
+-- ---- what the call comes to by the reply of a landing
+module _ (c : Config) (before after : Bool) where
+  pub landing_tries : (r : Reply) (l : Landing) (v w : View) → TurnBy c jobs.Land (Ok r) v w
+      → IsLandingOf before after r l → TurnTries c jobs.Land (landing_told l) v w
+  landing_tries r landing.Lacks v w by is = turn_in_vain c jobs.Land r (again_in w.turns) v w tt refl
+      (λ e. subst LandingLacks e is.0) by
+  landing_tries r (landing.Told None) v w by is =
+      turn_in_vain c jobs.Land r (again_in w.turns) v w tt refl is.1 by
+  landing_tries r (landing.Told (Some q)) v w by is =
+      subst (λ (z : Reply). TurnTries c jobs.Land (Some z) v w) (sym is.0)
+      (turn_ends c jobs.Land r (again_in w.turns) v w refl is.1 by)
+
+  -- a landing that lacks something brings nothing in, and asks for a turn on the object
+  lacks_brings : (r : Reply) → LandingLacks r → brings (Some r) ≡ false
+  lacks_brings (answer.Swapped frame) x = absurd x
+  lacks_brings r x = refl
+
+  lacks_asks : (r : Reply) → LandingLacks r
+      → (h : ℕ) → job_after_land h (Some r) ≡ jobs.Swap (the_handle h)
+  lacks_asks (answer.Unavailable set lost) x h = refl
+  lacks_asks (answer.NoRoom frames loose nodes) x h = refl
+  lacks_asks r x h = absurd x
+
+  else_asks : (r : Reply) → (LandingLacks r → ⊥)
+      → (h : ℕ) → job_after_land h (Some r) ≡ jobs.Fetch (the_handle h)
+  else_asks (answer.Unavailable set lost) off h = absurd (off tt)
+  else_asks (answer.NoRoom frames loose nodes) off h = absurd (off tt)
+  else_asks r off h = refl
+
+  one_landed : (r : Reply) (l : Landing) (v w : View) → TurnBy c jobs.Land (Ok r) v w
+      → IsLandingTold l (Some r) → after ≡ (brings (Some r) || before)
+      → GetsTurns (IsLandedBy l before after) v w
+  one_landed r l v w (d, x, is) told knows = (
+    x.turn ∷ [],
+    ap (λ (z : View). z.turns) is ∙ ap (λ (e : Part). e.turns ++ v.turns) x.part,
+    (
+      x.turn,
+      refl,
+      x.job_is,
+      subst (IsLandingTold l) (sym x.reply_is) told,
+      knows ∙ ap (λ (o : Option Reply). brings o || before) (sym x.reply_is),
+    ),
+  )
+
+  pub landed_by : (r : Reply) (l : Landing) (v w : View) → TurnBy c jobs.Land (Ok r) v w
+      → IsLandingOf before after r l → GetsTurns (IsLandedBy l before after) v w
+  landed_by r landing.Lacks v w by is = one_landed r landing.Lacks v w by (lacks_asks r is.0)
+      (is.1 ∙ ap (λ (b : Bool). b || before) (sym (lacks_brings r is.0)))
+  landed_by r (landing.Told None) v w by is =
+      one_landed r (landing.Told None) v w by (else_asks r is.0) is.2
+  landed_by r (landing.Told (Some q)) v w by is = one_landed r (landing.Told (Some q)) v w by
+      (λ h. ap (λ (z : Reply). job_after_land h (Some z)) is.1)
+      (is.2 ∙ ap (λ (z : Reply). brings (Some z) || before) (sym is.1))

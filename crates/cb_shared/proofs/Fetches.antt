@@ -1,13 +1,11 @@
 -- The turns of a read have the job that its tries before ask for.
 use Rattle.std.proofs.Common.{◌≡◌, ℕ, ◌||◌, Bool, true, false, List, [], ◌∷◌, ◌++◌, Option}
-use Rattle.std.proofs.Common.{Some, Result, Ok, sym, refl, ap, ◌∙◌, subst, inr}
+use Rattle.std.proofs.Common.{Some, Result, Ok, sym, refl, ap, ◌∙◌, subst, inl, inr}
 use Rattle.cb_member.specs.declared.no_memory.NoMemory.{NoMemory}
 use Rattle.cb_types.specs.declared.config.Config.{Config}
 use Rattle.cb_types.specs.declared.job.Job.{Job}
 use Rattle.cb_types.specs.declared.job.Job.TheVariants as jobs
-use Rattle.cb_types.specs.declared.order.DecodeOrder.{DecodeOrder}
 use Rattle.cb_types.specs.declared.reply.Reply.{Reply}
-use Rattle.cb_types.specs.declared.reply.Reply.TheVariants as answer
 use Rattle.cb_ptr.specs.declared.word.State.TheVariants as state
 use Rattle.cb_ptr.specs.Word.{state_of}
 use Rattle.cb_rule.specs.declared.turn.Turn.{Turn}
@@ -15,19 +13,20 @@ use Rattle.cb_rule.specs.declared.view.View.{View}
 use Rattle.cb_record.specs.Parts.{Part, Grows}
 use Rattle.cb_shared.specs.declared.reading.ReadAnswer.{ReadAnswer}
 use Rattle.cb_shared.specs.declared.reading.ReadAnswer.TheVariants as found
+use Rattle.cb_shared.specs.declared.ways.Landing.{Landing}
+use Rattle.cb_shared.specs.declared.ways.Landing.TheVariants as landing
 use Rattle.cb_shared.specs.declared.ways.Way.{Way}
 use Rattle.cb_shared.specs.declared.ways.Way.TheVariants as ways
 use Rattle.cb_shared.specs.Calls.{the_handle}
 use Rattle.cb_shared.specs.Fetching.{AreBringingTo, AreDone, AreFetches, AreFetchesTo, AreOneTry}
-use Rattle.cb_shared.specs.Fetching.{GetsTurns, IsOfTry, IsOneAtMost, IsOneMore, IsOneOf, brings}
-use Rattle.cb_shared.specs.Fetching.{brought_in_by}
-use Rattle.cb_shared.specs.Fetching.{job_behind_fetch, job_behind_turn, job_to_fetch}
+use Rattle.cb_shared.specs.Fetching.{GetsTurns, IsOneAtMost, IsOneMore, IsOneOf, TriesOnward}
+use Rattle.cb_shared.specs.Fetching.{TriesOnwardTo, brings, brought_in_by}
+use Rattle.cb_shared.specs.Fetching.{job_behind_turn, job_onward, job_to_fetch}
 use Rattle.cb_shared.specs.Reading.{ReadFinds, looked}
 use Rattle.cb_shared.specs.Turning.{TurnBy}
-use Rattle.cb_shared.specs.Ways.{IsFound, IsWayTold}
-use Rattle.cb_shared.proofs.InOrder.{IsFetchTold, behind_more, done_behind, done_more}
-use Rattle.cb_shared.proofs.InOrder.{fetch_in_order, in_order_more, one_at_most, told_behind}
-use Rattle.cb_shared.proofs.InOrder.{told_direct, told_made, try_fetches, turns_then, two_in_order}
+use Rattle.cb_shared.specs.Ways.{IsFound, IsLandedBy, IsLandingTold, IsWayTold}
+use Rattle.cb_shared.proofs.InOrder.{IsTurnTo, asked_by, behind_more, done_more, in_order_more}
+use Rattle.cb_shared.proofs.InOrder.{not_here, onward_more, tries_more, try_fetches, turns_then}
 
 -- ---- one turn after the other
 job_more : (h : ℕ) (b : Bool) (us ts : List Turn) → AreDone h ts
@@ -162,9 +161,36 @@ bringing_first h b m v w is (ts, got, (are, after, done)) = (
   (subst (λ (z : Bool). AreFetches h z ts) (sym is) (try_fetches h ts are), after, done),
 )
 
+-- one turn of the job that comes first, and one at the most
+one_tries_of : (h : ℕ) (job : Job) (ts : List Turn) → IsOneOf job ts → TriesOnward h job ts
+one_tries_of h job ts (t, one, of) = subst (TriesOnward h job) (sym one) ((of, refl), tt)
+
+pub one_tries : (h : ℕ) (job : Job) (v w : View) → GetsTurns (IsOneOf job) v w
+    → GetsTurns (TriesOnward h job) v w
+one_tries h job v w (ts, got, one) = (ts, got, one_tries_of h job ts one)
+
+pub few_tries : (h : ℕ) (job : Job) (v w : View) → GetsTurns (IsOneAtMost job) v w
+    → GetsTurns (TriesOnward h job) v w
+few_tries h job v w (ts, got, inl none) = (ts, got, subst (TriesOnward h job) (sym none) tt)
+few_tries h job v w (ts, got, inr one) = (ts, got, one_tries_of h job ts one)
+
+-- so where the call goes on behind it whatever it was told
+pub one_tries_to : (h : ℕ) (job : Job) (b m : Bool) (v w : View)
+    → ((r : Option Reply) → job_behind_turn h job r ≡ jobs.Fetch (the_handle h))
+    → GetsTurns (IsOneMore job b m) v w → GetsTurns (TriesOnwardTo h job b m) v w
+one_tries_to h job b m v w last (ts, got, ((t, one, of), after)) = (
+  ts,
+  got,
+  (
+    one_tries_of h job ts (t, one, of),
+    after,
+    ap (job_onward h job) one ∙ ap (λ (j : Job). job_behind_turn h j t.reply) of ∙ last t.reply,
+  ),
+)
+
 pub fetch_first : (h : ℕ) (v w : View) → GetsTurns (IsOneOf (jobs.Fetch (the_handle h))) v w
     → GetsTurns (AreOneTry h) v w
-fetch_first h v w x = fetch_in_order h (IsOfTry h) (refl, refl) v w x
+fetch_first h v w x = one_tries h (jobs.Fetch (the_handle h)) v w x
 
 pub found_first : (h : ℕ) (way : Way) (b m : Bool) (v w : View)
     → GetsTurns (IsFound h way b m) v w → GetsTurns (AreOneTry h) v w
@@ -184,63 +210,44 @@ found_told h r way b m v w is (ts, got, (t, one, of, told, after)) = (
   ),
 )
 
--- one behind a fetch that was told so, after which it is fetched again
-module _ (h : ℕ) (next : Job) (told : Option Reply) (none : brings told ≡ false)
-    (behind : next ≡ job_behind_fetch h told)
-    (last : (r : Option Reply) → job_behind_turn h next r ≡ jobs.Fetch (the_handle h)) where
-  of_try : (t : Turn) → t.job ≡ jobs.Fetch (the_handle h) → t.reply ≡ told
-      → IsOfTry h (t ∷ []) next
-  of_try t fetch reply = (
-    behind ∙ told_behind h told t fetch reply,
-    ap (λ (r : Option Reply). brings r || false) reply ∙ ap (λ (x : Bool). x || false) none,
+-- a landing behind which the call goes on
+pub landed_told : (h : ℕ) (r : Option Reply) (l : Landing) (b m : Bool) (v w : View)
+    → l ≡ landing.Told r → GetsTurns (IsLandedBy l b m) v w
+    → GetsTurns (TriesOnwardTo h jobs.Land b m) v w
+landed_told h r l b m v w is (ts, got, (t, one, of, told, after)) = (
+  ts,
+  got,
+  (
+    one_tries_of h jobs.Land ts (t, one, of),
+    after ∙ ap (brought_in_by b) (sym one),
+    ap (job_onward h jobs.Land) one ∙ ap (λ (j : Job). job_behind_turn h j t.reply) of
+        ∙ subst (λ (z : Landing). IsLandingTold z t.reply) is told h,
+  ),
+)
+
+-- ---- a turn that asks for a job, and a try of which that job comes first
+module _ (h : ℕ) (first next : Job) (b m : Bool) (v w u : View)
+    (x : GetsTurns (IsTurnTo h first next b m) v w) where
+  pub tries_behind : GetsTurns (TriesOnward h next) w u → GetsTurns (TriesOnward h first) v u
+  tries_behind (us, more, y) = (
+    us ++ x.0,
+    turns_then x.0 us v w u x.1 more,
+    tries_more h first next us x.0 (asked_by h first next b m x.0 x.2)
+        (not_here h first next b m x.0 x.2) y
+        (one_tries_of h first x.0 (x.2.turn, x.2.one, x.2.of)),
   )
 
-  second_at_most : (v w u : View) → GetsTurns (IsFetchTold h told) v w
-      → GetsTurns (IsOneAtMost next) w u → GetsTurns (AreOneTry h) v u
-  second_at_most v w u x y =
-      one_at_most h (IsOfTry h) (refl, refl) next told of_try v w u x y
-
-  second_more : (b m n : Bool) (v w u : View) → GetsTurns (λ ts. (t : Turn) × (ts ≡ t ∷ [])
-      × (t.job ≡ jobs.Fetch (the_handle h)) × (t.reply ≡ told) × (m ≡ (brings t.reply || b))) v w
-      → GetsTurns (IsOneMore next m n) w u → GetsTurns (AreBringingTo h b n) v u
-  second_more b m n v w u (ts, got, (t, one, of, reply, knows)) (us, more, ((s, is, job), after)) =
-      let all : us ++ ts ≡ s ∷ t ∷ [] = (λ i. is i ++ one i) in (
-        us ++ ts,
-        turns_then ts us v w u got more,
-        (
-          subst (AreOneTry h) (sym all)
-              (two_in_order h (IsOfTry h) (refl, refl) next told of_try t s of reply job),
-          after ∙ (λ i. brought_in_by (knows i) (is i)) ∙ ap (brought_in_by b) (sym all),
-          subst (AreDone h) (sym all) (done_behind h next last s (t ∷ []) job),
-        ),
-      )
-
--- so a row that is landed, and one that is swapped in
-module _ (h : ℕ) (way : Way) (b m : Bool) (v w u : View) (x : GetsTurns (IsFound h way b m) v w)
-  where
-    found_as : (z : Way) → way ≡ z → GetsTurns (IsFound h z b m) v w
-    found_as z is = subst (λ (y : Way). GetsTurns (IsFound h y b m) v w) is x
-
-    pub landed_at_most : (o : DecodeOrder) → way ≡ ways.Made o
-        → GetsTurns (IsOneAtMost jobs.Land) w u → GetsTurns (AreOneTry h) v u
-    landed_at_most o is y = second_at_most h jobs.Land
-        (Some (answer.Fetched (record { n = o.set }) o.position)) refl refl (λ r. refl) v w u
-        (told_made h way o b m v w is x) y
-
-    pub landed_more : (o : DecodeOrder) (n : Bool) → way ≡ ways.Made o
-        → GetsTurns (IsOneMore jobs.Land m n) w u → GetsTurns (AreBringingTo h b n) v u
-    landed_more o n is y = second_more h jobs.Land
-        (Some (answer.Fetched (record { n = o.set }) o.position)) refl refl (λ r. refl) b m n v w u
-        (found_as (ways.Made o) is) y
-
-    pub swapped_one : way ≡ ways.Direct → GetsTurns (IsOneOf (jobs.Swap (the_handle h))) w u
-        → GetsTurns (AreOneTry h) v u
-    swapped_one is y = second_at_most h (jobs.Swap (the_handle h)) (Some answer.Direct)
-        refl refl (λ r. refl) v w u (told_direct h way b m v w is x)
-        (at_most_one (jobs.Swap (the_handle h)) w u y)
-
-    pub swapped_more : (n : Bool) → way ≡ ways.Direct
-        → GetsTurns (IsOneMore (jobs.Swap (the_handle h)) m n) w u
-        → GetsTurns (AreBringingTo h b n) v u
-    swapped_more n is y = second_more h (jobs.Swap (the_handle h)) (Some answer.Direct) refl refl
-        (λ r. refl) b m n v w u (found_as ways.Direct is) y
+  pub tries_behind_to : (n : Bool) → GetsTurns (TriesOnwardTo h next m n) w u
+      → GetsTurns (TriesOnwardTo h first b n) v u
+  tries_behind_to n (us, more, (y, after, on)) = (
+    us ++ x.0,
+    turns_then x.0 us v w u x.1 more,
+    (
+      tries_more h first next us x.0 (asked_by h first next b m x.0 x.2)
+          (not_here h first next b m x.0 x.2) y
+          (one_tries_of h first x.0 (x.2.turn, x.2.one, x.2.of)),
+      after ∙ ap (λ (k : Bool). brought_in_by k us)
+          (x.2.knows ∙ ap (brought_in_by b) (sym x.2.one)) ∙ brought_more b us x.0,
+      sym (onward_more h first next us x.0 (asked_by h first next b m x.0 x.2)) ∙ on,
+    ),
+  )

@@ -1,22 +1,27 @@
--- Turns that come in order: a wider order, more of them behind those that are done, and a fetch
--- with the turn that it asks for.
-use Rattle.std.proofs.Common.{◌≡◌, ℕ, Bool, false, List, [], ◌∷◌, ◌++◌, Option, Some, append_assoc}
-use Rattle.std.proofs.Common.{sym, refl, ap, ◌∙◌, subst, inl, inr}
+-- Turns that come in order: a wider order, more of them behind those that ask for these, and one
+-- with the job that it asks for.
+use Rattle.std.proofs.Common.{◌≡◌, ℕ, Bool, true, false, ◌||◌, List, [], ◌∷◌, ◌++◌, Option, Some}
+use Rattle.std.proofs.Common.{append_assoc, sym, refl, ap, ◌∙◌, subst, true≢false}
+use Rattle.std.proofs.lemmas.Bool.{eqb-false}
 use Rattle.cb_types.specs.declared.job.Job.{Job}
 use Rattle.cb_types.specs.declared.job.Job.TheVariants as jobs
+use Rattle.cb_types.specs.Jobs.{job_index}
 use Rattle.cb_types.specs.declared.order.DecodeOrder.{DecodeOrder}
 use Rattle.cb_types.specs.declared.reply.Reply.{Reply}
 use Rattle.cb_types.specs.declared.reply.Reply.TheVariants as answer
 use Rattle.cb_rule.specs.declared.turn.Turn.{Turn}
 use Rattle.cb_rule.specs.declared.view.View.{View}
+use Rattle.cb_shared.specs.declared.ways.Landing.{Landing}
+use Rattle.cb_shared.specs.declared.ways.Landing.TheVariants as landing
 use Rattle.cb_shared.specs.declared.ways.Way.{Way}
 use Rattle.cb_shared.specs.declared.ways.Way.TheVariants as ways
 use Rattle.cb_shared.specs.Calls.{the_handle}
 use Rattle.cb_shared.specs.Fetching.{AreBringing, AreBringingTo, AreDone, AreFetches, AreOneTry}
-use Rattle.cb_shared.specs.Fetching.{AreTried, ComeInOrder, GetsTurns, IsOfTry, IsOneAtMost}
-use Rattle.cb_shared.specs.Fetching.{IsOneOf, brought_in_by, job_behind, job_behind_fetch}
-use Rattle.cb_shared.specs.Fetching.{job_behind_turn, job_to_fetch}
-use Rattle.cb_shared.specs.Ways.{IsFound, IsWayTold}
+use Rattle.cb_shared.specs.Fetching.{AreTried, ComeInOrder, GetsTurns, IsOfTry, TriesOnward}
+use Rattle.cb_shared.specs.Fetching.{brings, brought_in_by, finds_here, found_here_by}
+use Rattle.cb_shared.specs.Fetching.{job_after_land, job_behind, job_behind_fetch}
+use Rattle.cb_shared.specs.Fetching.{job_behind_turn, job_onward, job_to_fetch}
+use Rattle.cb_shared.specs.Ways.{IsFound, IsLandedBy, IsLandingTold, IsWayTold}
 
 -- ---- a wider order
 pub in_order_wider : (may more : List Turn → Job → Type 0)
@@ -25,14 +30,43 @@ pub in_order_wider : (may more : List Turn → Job → Type 0)
 in_order_wider may more f [] x = tt
 in_order_wider may more f (t ∷ ts) x = (f ts t.job x.0, in_order_wider may more f ts x.1)
 
+-- ---- what did not find the object here has not brought it in
+or_left_false : (a b : Bool) → (a || b) ≡ false → a ≡ false
+or_left_false true b e = e
+or_left_false false b e = refl
+
+or_right_false : (a b : Bool) → (a || b) ≡ false → b ≡ false
+or_right_false true b e = absurd (true≢false e)
+or_right_false false b e = e
+
+here_brings : (o : Option Reply) → finds_here o ≡ false → brings o ≡ false
+here_brings (Some answer.Stays) e = refl
+here_brings o e = e
+
+not_brought : (ts : List Turn) → found_here_by ts ≡ false → brought_in_by false ts ≡ false
+not_brought [] e = refl
+not_brought (t ∷ ts) e =
+    let a = here_brings t.reply (or_left_false (finds_here t.reply) (found_here_by ts) e) in
+    let b = not_brought ts (or_right_false (finds_here t.reply) (found_here_by ts) e) in
+    λ i. a i || b i
+
+here_more : (us ts : List Turn) → found_here_by ts ≡ false → found_here_by us ≡ false
+    → found_here_by (us ++ ts) ≡ false
+here_more [] ts x e = x
+here_more (u ∷ us) ts x e =
+    let a = or_left_false (finds_here u.reply) (found_here_by us) e in
+    let b = here_more us ts x (or_right_false (finds_here u.reply) (found_here_by us) e) in
+    λ i. a i || b i
+
 -- one try is of a read, and of a call that never reads
 pub try_fetches : (h : ℕ) (ts : List Turn) → AreOneTry h ts → AreFetches h false ts
-try_fetches h ts x = in_order_wider (IsOfTry h)
+try_fetches h ts x = in_order_wider (IsOfTry h (jobs.Fetch (the_handle h)))
     (λ us j. j ≡ job_to_fetch h (brought_in_by false us) us)
-    (λ us j is. is.0 ∙ sym (ap (λ (b : Bool). job_to_fetch h b us) is.1)) ts x
+    (λ us j is. is.0 ∙ sym (ap (λ (b : Bool). job_to_fetch h b us) (not_brought us is.1))) ts x
 
 try_brings : (h : ℕ) (ts : List Turn) → AreOneTry h ts → AreBringing h ts
-try_brings h ts x = in_order_wider (IsOfTry h) (λ us j. j ≡ job_behind h us) (λ us j is. is.0) ts x
+try_brings h ts x = in_order_wider (IsOfTry h (jobs.Fetch (the_handle h)))
+    (λ us j. j ≡ job_behind h us) (λ us j is. is.0) ts x
 
 -- ---- one turn after the other
 pub in_order_more : (may more : List Turn → Job → Type 0) (us ts : List Turn)
@@ -41,20 +75,31 @@ pub in_order_more : (may more : List Turn → Job → Type 0) (us ts : List Turn
 in_order_more may more [] ts f x y = y
 in_order_more may more (u ∷ us) ts f x y = (f us u.job x.0, in_order_more may more us ts f x.1 y)
 
--- behind turns that are done the first one has the job that it has without these
+-- behind turns that ask for this job the first one has the job that it has where this one comes first
+pub onward_more : (h : ℕ) (first next : Job) (us ts : List Turn) → job_onward h first ts ≡ next
+    → job_onward h next us ≡ job_onward h first (us ++ ts)
+onward_more h first next [] ts on = sym on
+onward_more h first next (u ∷ us) ts on = refl
+
 pub behind_more : (h : ℕ) (us ts : List Turn) → AreDone h ts
     → job_behind h us ≡ job_behind h (us ++ ts)
-behind_more h [] ts done = sym done
-behind_more h (u ∷ us) ts done = refl
+behind_more h us ts done =
+    onward_more h (jobs.Fetch (the_handle h)) (jobs.Fetch (the_handle h)) us ts done
 
 -- where its job is as that one asks
-pub order_more : (h : ℕ) (may : Job → Job → Type 0) (us ts : List Turn) → AreDone h ts
-    → ComeInOrder (λ xs j. may (job_behind h xs) j) us
-    → ComeInOrder (λ xs j. may (job_behind h xs) j) ts
-    → ComeInOrder (λ xs j. may (job_behind h xs) j) (us ++ ts)
-order_more h may us ts done x y = in_order_more (λ xs j. may (job_behind h xs) j)
-    (λ xs j. may (job_behind h xs) j) us ts
-    (λ xs j is. subst (λ (k : Job). may k j) (behind_more h xs ts done) is) x y
+pub order_more : (h : ℕ) (first next : Job) (may : Job → Job → Type 0) (us ts : List Turn)
+    → job_onward h first ts ≡ next → ComeInOrder (λ xs j. may (job_onward h next xs) j) us
+    → ComeInOrder (λ xs j. may (job_onward h first xs) j) ts
+    → ComeInOrder (λ xs j. may (job_onward h first xs) j) (us ++ ts)
+order_more h first next may us ts on x y = in_order_more
+    (λ xs j. may (job_onward h next xs) j) (λ xs j. may (job_onward h first xs) j) us ts
+    (λ xs j is. subst (λ (k : Job). may k j) (onward_more h first next xs ts on) is) x y
+
+pub tries_more : (h : ℕ) (first next : Job) (us ts : List Turn) → job_onward h first ts ≡ next
+    → found_here_by ts ≡ false → TriesOnward h next us → TriesOnward h first ts
+    → TriesOnward h first (us ++ ts)
+tries_more h first next us ts on here x y = in_order_more (IsOfTry h next) (IsOfTry h first) us ts
+    (λ xs j is. (is.0 ∙ onward_more h first next xs ts on, here_more xs ts here is.1)) x y
 
 pub done_more : (h : ℕ) (us ts : List Turn) → AreDone h ts → AreDone h us → AreDone h (us ++ ts)
 done_more h us ts x y = sym (behind_more h us ts x) ∙ y
@@ -67,7 +112,8 @@ turns_then ts us v w u got more =
 -- those of a call that brings the object in: its tries so far, and a try behind them
 bringing_more : (h : ℕ) (us ts : List Turn) → AreTried h ts → AreBringing h us
     → AreBringing h (us ++ ts)
-bringing_more h us ts (are, done) new = order_more h (λ k j. j ≡ k) us ts done new are
+bringing_more h us ts (are, done) new = order_more h (jobs.Fetch (the_handle h))
+    (jobs.Fetch (the_handle h)) (λ k j. j ≡ k) us ts done new are
 
 pub bringing_then : (h : ℕ) (v m w : View) → GetsTurns (AreTried h) v m
     → GetsTurns (AreBringing h) m w → GetsTurns (AreBringing h) v w
@@ -93,68 +139,79 @@ pub gets_tried : (h : ℕ) (b m : Bool) (v w : View) → GetsTurns (AreBringingT
     → GetsTurns (AreTried h) v w
 gets_tried h b m v w (ts, got, (x, after, done)) = (ts, got, (try_brings h ts x, done))
 
--- ---- one fetch that was told so
-abbrev pub IsFetchTold : ℕ → Option Reply → List Turn → Type 0
-IsFetchTold h told ts =
-    (t : Turn) × (ts ≡ t ∷ []) × (t.job ≡ jobs.Fetch (the_handle h)) × (t.reply ≡ told)
+-- ---- one turn, and the job that it asks for: it neither brought the object in nor found it here
+pub record IsTurnTo (h : ℕ) (first next : Job) (before after : Bool) (ts : List Turn) : Type 0 where
+  pub turn : Turn
+  pub one : ts ≡ turn ∷ []
+  pub of : turn.job ≡ first
+  pub asks : job_behind_turn h first turn.reply ≡ next
+  pub knows : after ≡ (brings turn.reply || before)
+  pub here : finds_here turn.reply ≡ false
 
-told_as : (h : ℕ) (way : Way) (told : Option Reply) (b m : Bool) (v w : View)
+-- a fetch, by its way: an order was handed out, or the row is not lost
+told_to : (h : ℕ) (way : Way) (told : Option Reply) (next : Job) (b m : Bool) (v w : View)
+    → job_behind_fetch h told ≡ next → finds_here told ≡ false
     → ((r : Option Reply) → IsWayTold way r → r ≡ told) → GetsTurns (IsFound h way b m) v w
-    → GetsTurns (IsFetchTold h told) v w
-told_as h way told b m v w only (ts, got, (t, one, of, reply, after)) =
-    (ts, got, (t, one, of, only t.reply reply))
+    → GetsTurns (IsTurnTo h (jobs.Fetch (the_handle h)) next b m) v w
+told_to h way told next b m v w asks here only (ts, got, (t, one, of, reply, after)) = (
+  ts,
+  got,
+  record {
+    turn = t;
+    one = one;
+    of = of;
+    asks = ap (job_behind_fetch h) (only t.reply reply) ∙ asks;
+    knows = after;
+    here = ap finds_here (only t.reply reply) ∙ here;
+  },
+)
 
--- by the way: an order was handed out, or the row is not lost
-pub told_made : (h : ℕ) (way : Way) (o : DecodeOrder) (b m : Bool) (v w : View) → way ≡ ways.Made o
+pub made_to : (h : ℕ) (way : Way) (o : DecodeOrder) (b m : Bool) (v w : View) → way ≡ ways.Made o
     → GetsTurns (IsFound h way b m) v w
-    → GetsTurns (IsFetchTold h (Some (answer.Fetched (record { n = o.set }) o.position))) v w
-told_made h way o b m v w is x = told_as h way _ b m v w
+    → GetsTurns (IsTurnTo h (jobs.Fetch (the_handle h)) jobs.Land b m) v w
+made_to h way o b m v w is x =
+    told_to h way (Some (answer.Fetched (record { n = o.set }) o.position)) jobs.Land b m v w refl
+    refl (λ r y. subst (λ (z : Way). IsWayTold z r) is y) x
+
+pub direct_to : (h : ℕ) (way : Way) (b m : Bool) (v w : View) → way ≡ ways.Direct
+    → GetsTurns (IsFound h way b m) v w
+    → GetsTurns (IsTurnTo h (jobs.Fetch (the_handle h)) (jobs.Swap (the_handle h)) b m) v w
+direct_to h way b m v w is x =
+    told_to h way (Some answer.Direct) (jobs.Swap (the_handle h)) b m v w refl refl
     (λ r y. subst (λ (z : Way). IsWayTold z r) is y) x
 
-pub told_direct : (h : ℕ) (way : Way) (b m : Bool) (v w : View) → way ≡ ways.Direct
-    → GetsTurns (IsFound h way b m) v w → GetsTurns (IsFetchTold h (Some answer.Direct)) v w
-told_direct h way b m v w is x = told_as h way _ b m v w
-    (λ r y. subst (λ (z : Way). IsWayTold z r) is y) x
+-- a landing that lacks something
+lacks_not_here : (h : ℕ) (o : Option Reply) → job_after_land h o ≡ jobs.Swap (the_handle h)
+    → finds_here o ≡ false
+lacks_not_here h (Some answer.Stays) e = absurd (eqb-false 21 4 refl (ap job_index e))
+lacks_not_here h (Some (answer.Swapped frame)) e =
+    absurd (eqb-false 21 4 refl (ap job_index e))
+lacks_not_here h o e = refl
 
--- it asks for this job
-pub told_behind : (h : ℕ) (told : Option Reply) (t : Turn) → t.job ≡ jobs.Fetch (the_handle h)
-    → t.reply ≡ told → job_behind_fetch h told ≡ job_behind h (t ∷ [])
-told_behind h told t fetch reply = sym (λ i. job_behind_turn h (fetch i) (reply i))
-
--- ---- in an order in which a fetch comes first
-module _ (h : ℕ) (may : List Turn → Job → Type 0) (first : may [] (jobs.Fetch (the_handle h))) where
-  fetch_alone : (t : Turn) → t.job ≡ jobs.Fetch (the_handle h) → ComeInOrder may (t ∷ [])
-  fetch_alone t of = (subst (may []) (sym of) first, tt)
-
-  pub fetch_in_order : (v w : View) → GetsTurns (IsOneOf (jobs.Fetch (the_handle h))) v w
-      → GetsTurns (ComeInOrder may) v w
-  fetch_in_order v w (ts, got, (t, one, of)) =
-      (ts, got, subst (ComeInOrder may) (sym one) (fetch_alone t of))
-
-  -- and behind one that was told so this job
-  module _ (next : Job) (told : Option Reply)
-      (of : (t : Turn) → t.job ≡ jobs.Fetch (the_handle h) → t.reply ≡ told
-      → may (t ∷ []) next) where
-    pub two_in_order : (t s : Turn) → t.job ≡ jobs.Fetch (the_handle h) → t.reply ≡ told
-        → s.job ≡ next → ComeInOrder may (s ∷ t ∷ [])
-    two_in_order t s fetch reply is =
-        (subst (may (t ∷ [])) (sym is) (of t fetch reply), fetch_alone t fetch)
-
-    pub one_at_most : (v w u : View) → GetsTurns (IsFetchTold h told) v w
-        → GetsTurns (IsOneAtMost next) w u → GetsTurns (ComeInOrder may) v u
-    one_at_most v w u (ts, got, (t, one, fetch, reply)) (us, more, inl is) = (
-      us ++ ts,
-      turns_then ts us v w u got more,
-      subst (ComeInOrder may) (sym (λ i. is i ++ one i)) (fetch_alone t fetch),
-    )
-    one_at_most v w u (ts, got, (t, one, fetch, reply)) (us, more, inr (s, is, job)) = (
-      us ++ ts,
-      turns_then ts us v w u got more,
-      subst (ComeInOrder may) (sym (λ i. is i ++ one i)) (two_in_order t s fetch reply job),
+pub lacks_to : (h : ℕ) (l : Landing) (b m : Bool) (v w : View) → l ≡ landing.Lacks
+    → GetsTurns (IsLandedBy l b m) v w
+    → GetsTurns (IsTurnTo h jobs.Land (jobs.Swap (the_handle h)) b m) v w
+lacks_to h l b m v w is (ts, got, (t, one, of, told, after)) =
+    let asks = subst (λ (z : Landing). IsLandingTold z t.reply) is told h in (
+      ts,
+      got,
+      record {
+        turn = t;
+        one = one;
+        of = of;
+        asks = asks;
+        knows = after;
+        here = lacks_not_here h t.reply asks;
+      },
     )
 
--- nothing is left to be done behind one of this job
-pub done_behind : (h : ℕ) (next : Job)
-    → ((r : Option Reply) → job_behind_turn h next r ≡ jobs.Fetch (the_handle h))
-    → (s : Turn) (ts : List Turn) → s.job ≡ next → AreDone h (s ∷ ts)
-done_behind h next last s ts is = ap (λ (j : Job). job_behind_turn h j s.reply) is ∙ last s.reply
+-- behind it that job comes
+pub asked_by : (h : ℕ) (first next : Job) (b m : Bool) (ts : List Turn)
+    → IsTurnTo h first next b m ts → job_onward h first ts ≡ next
+asked_by h first next b m ts x = ap (job_onward h first) x.one
+    ∙ ap (λ (j : Job). job_behind_turn h j x.turn.reply) x.of ∙ x.asks
+
+pub not_here : (h : ℕ) (first next : Job) (b m : Bool) (ts : List Turn)
+    → IsTurnTo h first next b m ts → found_here_by ts ≡ false
+not_here h first next b m ts x =
+    ap found_here_by x.one ∙ ap (λ (z : Bool). z || false) x.here

@@ -18,6 +18,8 @@ pub use Rattle.cb_shared.proofs.Known.{left_keeps, peek_has, peek_keeps, pin_kee
 pub use Rattle.cb_shared.proofs.Known.{right_keeps, turn_keeps, turn_made, turned_keeps, turns_keep}
 pub use Rattle.cb_shared.proofs.Known.{unpin_keeps, write_keeps}
 pub use Rattle.cb_shared.proofs.MadeFirst.{makes_backed, makes_first, makes_full}
+pub use Rattle.cb_shared.proofs.LeavesOrders.{turn_leaves}
+pub use Rattle.cb_shared.proofs.OrdersStay.{call_keeps_order, stop_keeps_order, tries_keep_order}
 pub use Rattle.cb_shared.proofs.ReadParts.{grown_nothing, grown_sum}
 pub use Rattle.cb_shared.proofs.Resting.{known_below}
 pub use Rattle.cb_shared.proofs.ReadSteps.{freed_part, look_part, twice_part}

@@ -23,6 +23,7 @@ mod Rights
 mod AfterTurn
 mod Mapped
 mod Asks
+mod LeavesOrders
 mod Turns
 mod LockAlone
 mod Standing
@@ -37,6 +38,7 @@ mod Glanced
 mod Seeking
 mod CallSteps
 mod AskedTurns
+mod OrdersStay
 mod FarSteps
 mod InOrder
 mod Fetches

@@ -12,6 +12,7 @@ use Rattle.cb_rule.specs.Lists.{Each}
 use Rattle.cb_rule.specs.Records.{seen_of}
 use Rattle.cb_rule.specs.Steps.{joined, right_of}
 use Rattle.cb_shared.specs.Joining.{unpinned_all}
+use Rattle.cb_shared.specs.OrdersKept.{begun, took_in}
 use Rattle.cb_shared.specs.Passes.{IsAtRest}
 use Rattle.cb_shared.specs.Trying.{newest_tries, tries_of}
 
@@ -51,6 +52,7 @@ rest_right c given v rest some less = record {
       (subst (λ (l : List Entry). Each (λ (e : Entry). e.handle < c.handles) (l ++ v.written))
       (sym rest.fresh) rest.written)) rest.seen;
   pins = tt;
+  orders = begun;
 }
 
 pub rest_joined : (c : Config) (v w : View) → IsAtRest c v → IsAtRest c w → v.share + w.share ≤ 64
@@ -65,6 +67,7 @@ rest_joined c v w a b most = record {
   written = each_both (λ (e : Entry). e.handle < c.handles) w.written v.written b.written a.written;
   seen = each_both (λ (s : Seen). s.handle < c.handles) w.seen v.seen b.seen a.seen;
   pins = a.pins;
+  orders = took_in w.turns v.turns w.order v.order b.orders a.orders;
 }
 
 -- the newest turn is the other one's, if that had any

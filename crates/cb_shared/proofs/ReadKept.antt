@@ -15,7 +15,8 @@ use Rattle.cb_rule.specs.Slot.{Sat}
 use Rattle.cb_shared.specs.declared.reading.ReadAnswer.{ReadAnswer}
 use Rattle.cb_shared.specs.declared.reading.ReadAnswer.TheVariants.{Bytes, Freed, NotHere, Moving}
 use Rattle.cb_shared.specs.declared.reading.ReadAnswer.TheVariants.{Crowded, Raced}
-use Rattle.cb_record.specs.Parts.{Part, grown}
+use Rattle.cb_record.specs.Parts.{Part, grown, keeps_after}
+use Rattle.cb_shared.specs.OrdersKept.{AreOfPasses}
 use Rattle.cb_shared.specs.Passes.{IsAtRest}
 use Rattle.cb_shared.specs.Reading.{ReadFinds, ReadMoves, looked}
 use Rattle.cb_shared.specs.Seats.{Moves, SeatAt, record_at}
@@ -77,6 +78,8 @@ kept_part c p q d rest m x = record {
     seen = each_both (λ (s : Seen). s.handle < c.handles) d.seen (record_at p).seen
         x.seen rest.seen;
     pins = rest.pins;
+    orders = subst (λ (l : List Turn). AreOfPasses (l ++ (record_at p).turns)
+        (keeps_after l (record_at p).order)) (sym x.turns) rest.orders;
   };
 }
 

@@ -67,6 +67,7 @@ rest_look c h w v rest = record {
   written = rest.written;
   seen = rest.seen;
   pins = rest.pins;
+  orders = rest.orders;
 }
 
 pub rest_freed : (c : Config) (h n w : ℕ) (v : View) → IsAtRest c v → h < c.handles
@@ -81,6 +82,7 @@ rest_freed c h n w v rest below = record {
   written = rest.written;
   seen = (below, rest.seen);
   pins = rest.pins;
+  orders = rest.orders;
 }
 
 pub rest_pin : (c : Config) (h w n : ℕ) (words : List ℕ) (v : View) → IsAtRest c v → h < c.handles
@@ -95,6 +97,7 @@ rest_pin c h w n words v rest below inside = record {
   written = rest.written;
   seen = (below, rest.seen);
   pins = ((below, inside), rest.pins);
+  orders = rest.orders;
 }
 
 pub rest_unpin : (c : Config) (h : ℕ) (v : View) → IsAtRest c v → IsAtRest c (without_pin h v)
@@ -108,6 +111,7 @@ rest_unpin c h v rest = record {
   written = rest.written;
   seen = rest.seen;
   pins = each_removed (PinFits c) (pins_it h) v.pins rest.pins;
+  orders = rest.orders;
 }
 
 -- so after a look

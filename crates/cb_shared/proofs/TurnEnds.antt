@@ -18,6 +18,7 @@ use Rattle.cb_rule.specs.Slot.{Sat}
 use Rattle.cb_rule.specs.Steps.{Knows}
 use Rattle.cb_shared.specs.Handles.{handles_of}
 use Rattle.cb_record.specs.Parts.{Part, grown, keeps_after, nothing_more}
+use Rattle.cb_shared.specs.OrdersKept.{AreOfPasses, turned}
 use Rattle.cb_shared.specs.Passes.{IsAtRest}
 use Rattle.cb_shared.specs.Seats.{SeatAt, record_at}
 use Rattle.cb_shared.specs.Trying.{tries_of}
@@ -112,6 +113,8 @@ module _ (c : Config) (job : Job) (r : Result Reply NoMemory) (keeps : Option Ke
         each_both P (f.0.seen ++ t.within.seen) v.seen
         (each_both P f.0.seen t.within.seen f.3 t.range) rest.seen;
     pins = rest.pins;
+    orders = turned t.turn v.turns
+        (subst (λ (o : Option Kept). AreOfPasses v.turns o) (sym t.before) rest.orders);
   }
 
   pub share_turned : (record_at q).share ≡ v.share

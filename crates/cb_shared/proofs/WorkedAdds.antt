@@ -52,7 +52,7 @@ use Rattle.cb_shared.proofs.WorkedUnder.{beginner, far, known, last}
 
 -- ---- tries in vain make turns of their job alone
 turned_in_vain : (t : Turn) → t.job ≡ jobs.Evict
-    → IsInVain AtNone (IsUnanswered (OfThis (jobs.Make []))) (record nothing_more { turns = t ∷ [] }) → ⊥
+    → IsInVain None AtNone (IsUnanswered (OfThis (jobs.Make []))) (record nothing_more { turns = t ∷ [] }) → ⊥
 turned_in_vain t work x = absurd (let e = sym work
     ∙ (subst (Each (IsUnanswered (OfThis (jobs.Make [])))) (sym (ap (λ (d : Part). d.turns) x.part))
     x.of).0.0 in cc)
@@ -377,7 +377,9 @@ ends_writing_moving v d (inr asks) = asks_no_more asks
     no_answer again j (inl is) x =
         answers_none again (subst (λ (k : Job). IsAnswerTo again k answer.Moving) is x)
     no_answer again j (inr (inl is)) x = subst (λ (k : Job). IsAnswerTo again k answer.Moving) is x
-    no_answer again j (inr (inr is)) x = subst (λ (k : Job). IsAnswerTo again k answer.Moving) is x
+    no_answer again j (inr (inr is)) x =
+        let e : answer.Moving ≡ answer.Worn =
+        subst (λ (k : Job). IsAnswerTo again k answer.Moving) is x in cc
 
     asks_no_more : AsksFor two (IsWriteJob 1 1 (12 ∷ [])) answer.Moving 1 v d → ⊥
     asks_no_more a = no_answer (again_in d.turns) a.turned.job a.turned.of a.turned.ends.0

@@ -1,5 +1,6 @@
 -- Worked calls that try again: what meets each definition, and what breaks one of its parts alone.
-use Rattle.std.proofs.Common.{◌≡◌, ℕ, Bool, true, false, List, [], ◌∷◌, ◌++◌, length, Some, refl}
+use Rattle.std.proofs.Common.{◌≡◌, ℕ, Bool, true, false, List, [], ◌∷◌, ◌++◌, length, None, Some}
+use Rattle.std.proofs.Common.{refl}
 use Rattle.std.proofs.Common.{sym, ap, ◌∙◌, subst, inl, inr, arith, lit≤}
 use Rattle.std.proofs.lemmas.Bool.{eqb-false, false≢true}
 use Rattle.std.proofs.lemmas.Option.{same_Some}
@@ -21,6 +22,7 @@ use Rattle.cb_shared.specs.Calls.{ReadCallEnds, SaysAs, TurnEnds, TurnGives, Wri
 use Rattle.cb_shared.specs.Calls.{again_in, the_handle, written_once}
 use Rattle.cb_record.specs.Deeds.{Deed, deed, happened, happening}
 use Rattle.cb_record.specs.Parts.{Part, grown, nothing_more, sum}
+use Rattle.cb_shared.specs.OrdersKept.{LeavesOrder}
 use Rattle.cb_shared.specs.Reading.{looked, looked_freed}
 use Rattle.cb_shared.proofs.CallSteps.{read_lacks}
 use Rattle.cb_shared.proofs.WorkedGround.{a_stand, away, calm, knows_made, made, moving}
@@ -60,21 +62,22 @@ roomless job t = (t.job ≡ job) × (t.reply ≡ Some (answer.NoRoom 364 1 3))
 
 -- a read goes on where it is made again
 goes_on : (t : Turn) → roomless (jobs.Swap (the_handle 1)) t → tries_again t ≡ true
-    → IsUnanswered (IsReadJob 1) t
-goes_on t (work, reply) again = (
+    → t.keeps ≡ t.order → IsUnanswered (IsReadJob 1) t
+goes_on t (work, reply) again kept = (
   inl (inl work),
   (
     answer.NoRoom 364 1 3,
     reply,
-    λ lacks. false≢true (sym (subst (λ (j : Job). IsAnswerTo (tries_again t) j
-        (answer.NoRoom 364 1 3)) work lacks) ∙ again),
+    (λ lacks. false≢true (sym (subst (λ (j : Job). IsAnswerTo (tries_again t) j
+        (answer.NoRoom 364 1 3)) work lacks) ∙ again)),
+    subst (λ (j : Job). LeavesOrder j (answer.NoRoom 364 1 3) t.order t.keeps) (sym work) kept,
   ),
 )
 
 -- and not for ever
 goes_on_for_ever : (t : Turn) → roomless (jobs.Swap (the_handle 1)) t → tries_again t ≡ false
     → IsUnanswered (OfThis (jobs.Swap (the_handle 1))) t → ⊥
-goes_on_for_ever t (work, reply) off (job, (r, is, none)) =
+goes_on_for_ever t (work, reply) off (job, (r, is, none, kept)) =
     none (subst (λ (j : Job). IsAnswerTo (tries_again t) j r) (sym work)
     (subst (IsLack (tries_again t)) (same_Some _ _ (sym reply ∙ is)) off))
 
@@ -85,31 +88,32 @@ hands_out v d t only again (lacks, adds) =
     false≢true (sym lacks ∙ ap again_in only ∙ again)
 
 -- ---- tries that came to nothing
-pub in_vain : IsInVain (AtThis 1) (IsUnanswered (IsReadJob 1)) (looked 1 moving)
+pub in_vain : IsInVain None (AtThis 1) (IsUnanswered (IsReadJob 1)) (looked 1 moving)
 in_vain = record {
   looks = look_at 1 moving ∷ [];
   turns = [];
   at = (refl, tt);
   of = tt;
   idle = tt;
+  kept = tt;
   part = refl;
 }
 
-at_another : IsInVain (AtThis 1) (IsUnanswered (IsReadJob 1)) (looked 0 moving) → ⊥
+at_another : IsInVain None (AtThis 1) (IsUnanswered (IsReadJob 1)) (looked 0 moving) → ⊥
 at_another x = eqb-false 0 1 refl (subst (Each (λ (l : Look). AtThis 1 l.handle))
     (sym (ap (λ (d : Part). d.looks) x.part)) x.at).0
 
-wrote_in_vain : IsInVain (AtThis 1) (IsUnanswered (IsReadJob 1))
+wrote_in_vain : IsInVain None (AtThis 1) (IsUnanswered (IsReadJob 1))
     (record (looked 1 moving) { written = made ∷ [] }) → ⊥
 wrote_in_vain x = eqb-false 1 0 refl (ap (λ (d : Part). length d.written) x.part)
 
-pinned_in_vain : IsInVain (AtThis 1) (IsUnanswered (IsReadJob 1))
+pinned_in_vain : IsInVain None (AtThis 1) (IsUnanswered (IsReadJob 1))
     (record (looked 1 moving) { ever = 1 }) → ⊥
 pinned_in_vain x = eqb-false 1 0 refl (ap (λ (d : Part). d.ever) x.part)
 
 made_in_vain : (t : Turn) → t.job ≡ jobs.Make (7 ∷ [])
     → t.reply ≡ Some (answer.Made (the_handle 0) 1)
-    → IsInVain AtNone (IsUnanswered (OfThis (jobs.Make (7 ∷ []))))
+    → IsInVain None AtNone (IsUnanswered (OfThis (jobs.Make (7 ∷ []))))
     (record nothing_more { turns = t ∷ [] }) → ⊥
 made_in_vain t work reply x =
     let idle = subst (Each (λ (u : Turn). happened (deed u) ≡ []))
@@ -194,7 +198,7 @@ gives_worn = (
   record {
     before = nothing_more;
     last = worn_part (jobs.Make (10 ∷ []));
-    in_vain = record { looks = []; turns = []; at = tt; of = tt; idle = tt; part = refl };
+    in_vain = record { looks = []; turns = []; at = tt; of = tt; idle = tt; kept = tt; part = refl };
     ends_so = (
       inr tt,
       adds_worn (jobs.Make (10 ∷ [])) part refl refl knows_made
@@ -263,6 +267,7 @@ writes_at_last = (
       at = (refl, tt);
       of = tt;
       idle = tt;
+      kept = tt;
       part = refl;
     };
     ends_so = inl (

@@ -1,9 +1,11 @@
 -- Worked examples of what the closing of a runtime comes to: what meets each definition, and what
 -- breaks one of its parts alone.
 use Rattle.std.proofs.Common.{◌≡◌, ◌∙◌, ℕ, [], ◌∷◌, length, replicate, refl, sym, ap, subst, lit<}
-use Rattle.std.proofs.Common.{arith}
+use Rattle.std.proofs.Common.{arith, Some}
 use Rattle.std.proofs.lemmas.Bool.{eqb-false}
+use Rattle.std.proofs.lemmas.Option.{none-some}
 use Rattle.cb_types.specs.declared.config.Config.{Config}
+use Rattle.cb_types.specs.declared.order.Kept.{Kept}
 use Rattle.cb_world.specs.Empty.{empty_far, empty_words}
 use Rattle.cb_world.specs.Seats.{idle_seat}
 use Rattle.cb_world.specs.World.{WorldState}
@@ -16,10 +18,12 @@ use Rattle.cb_shared.specs.declared.seal.Seal.{Seal}
 use Rattle.cb_shared.specs.declared.sealed.Sealed.{Sealed}
 use Rattle.cb_shared.specs.Closing.{IsClosedBy, RefusesToClose}
 use Rattle.cb_shared.specs.Joining.{unpinned_all}
+use Rattle.cb_shared.specs.OrdersKept.{AreOfPasses, begun}
 use Rattle.cb_shared.specs.Passes.{record_of}
 use Rattle.cb_shared.specs.Sealing.{least_config, sealed, sealed_record, sealed_world, unsealed}
 use Rattle.cb_shared.specs.Turning.{Did}
 use Rattle.cb_shared.proofs.WorkedGround.{a_stand, part, two, whole}
+use Rattle.cb_shared.proofs.WorkedPasses.{none_kept}
 
 -- ---- what stands under a seal
 abbrev a_world : ℕ → WorldState
@@ -53,7 +57,14 @@ module _ (s : Shared) (p : Pass) (seal : Seal) where
     world = ap (λ (x : Sealed). x.world) under;
     closed = subst (λ (v : View).
         IsClosed Did s.board.shared.key.first s.config v (a_world 3)) (sym (ap unpinned_all e)) k;
+    orders = subst (λ (v : View). AreOfPasses v.turns v.order) (sym e) begun;
   }
+
+  -- with an order that no turn of its record left
+  closes_with_an_order : (o : Kept) → record_of p ≡ record whole { order = Some o }
+      → IsClosedBy s p (a_world 3) seal → ⊥
+  closes_with_an_order o e k = none-some o (sym (none_kept [] (Some o)
+      (subst (λ (v : View). AreOfPasses v.turns v.order) e k.orders) refl))
 
   closes_with_a_part : record_of p ≡ part → IsClosedBy s p (a_world 3) seal → ⊥
   closes_with_a_part e k = eqb-false 40 64 refl (ap (λ (v : View). v.share) (sym e) ∙ k.whole)

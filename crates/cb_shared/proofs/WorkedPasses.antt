@@ -1,11 +1,13 @@
 -- Worked passes and claims: what meets each definition, and what breaks one of its parts alone.
 use Rattle.std.proofs.Common.{◌≡◌, ℕ, zero, suc, ◌+◌, ◌^◌, ◌<◌, ◌≤◌, true, List, [], ◌∷◌, length}
 use Rattle.std.proofs.Common.{replicate, get_or, refl, sym, ap, ◌∙◌, subst, inr, true≢false, lit<}
-use Rattle.std.proofs.Common.{lit≤, arith}
+use Rattle.std.proofs.Common.{lit≤, arith, ◌++◌, Option, None, Some}
 use Rattle.std.proofs.lemmas.Bool.{eqb-false}
+use Rattle.std.proofs.lemmas.Option.{none-some}
 use Rattle.atomic_table.specs.Seated.{TableId}
 use Rattle.atomic_table.specs.Table.{Step}
 use Rattle.cb_types.specs.declared.config.Config.{Config}
+use Rattle.cb_types.specs.declared.order.Kept.{Kept}
 use Rattle.cb_ptr.specs.Word.{state_number}
 use Rattle.cb_world.specs.declared.access.Access.{Access}
 use Rattle.cb_world.specs.declared.access.Access.TheVariants.{Looked}
@@ -13,6 +15,7 @@ use Rattle.cb_world.specs.declared.shown.Shown.{Shown}
 use Rattle.cb_world.specs.Empty.{empty_far, empty_shown}
 use Rattle.cb_world.specs.FarState.{FarState}
 use Rattle.cb_world.specs.Written.{entry}
+use Rattle.cb_rule.specs.declared.turn.Turn.{Turn}
 use Rattle.cb_rule.specs.declared.view.Held.{Held}
 use Rattle.cb_rule.specs.declared.view.View.{View}
 use Rattle.cb_rule.specs.Slot.{LockSlot, Sat}
@@ -22,6 +25,7 @@ use Rattle.cb_shared.specs.declared.runtime.Shared.{Shared}
 use Rattle.cb_shared.specs.Claims.{IsAsClaimed, IsFreshClaim, IsNextOf, IsWithin}
 use Rattle.cb_shared.specs.Handles.{IsFirstAt}
 use Rattle.cb_shared.specs.Joining.{IsSpare, unpinned_all}
+use Rattle.cb_shared.specs.OrdersKept.{AreOfPasses, begun, took_in, turned}
 use Rattle.cb_shared.specs.Passes.{IsAtRest, IsPassOf, IsRuntimeBegun, record_of}
 use Rattle.cb_shared.specs.Seats.{SeatAt, record_at}
 use Rattle.cb_shared.specs.Tallies.{tallied}
@@ -49,6 +53,7 @@ at_rest = record {
   written = (lit< tt, tt);
   seen = tt;
   pins = ((lit< tt, λ j below. lies 5 j (lit< tt) below), tt);
+  orders = begun;
 }
 
 another_config : IsAtRest roomy part → ⊥
@@ -107,6 +112,25 @@ pins_no_object r = let e : 2 < 2 = r.pins.0.0 in omega (arith, e)
 
 pins_past_memory : IsAtRest two record part { pins = stand 1 8 512 3 (2826 ∷ []) ∷ [] } → ⊥
 pins_past_memory r = let e : 512 + 0 < 512 = r.pins.0.1 0 (lit< tt) in omega (arith, e)
+
+-- the turns of a record, and the order that its pass keeps: none where there is no turn
+pub none_kept : (ts : List Turn) (o : Option Kept) → AreOfPasses ts o → ts ≡ [] → o ≡ None
+none_kept _ _ begun none = refl
+none_kept _ _ (turned t ts x) none = absurd (let e = none in cc)
+none_kept _ _ (took_in us ts other own x y) none = none_kept ts own y (last_none us ts none)
+  where
+    last_none : (us ts : List Turn) → us ++ ts ≡ [] → ts ≡ []
+    last_none [] ts e = e
+    last_none (u ∷ us) ts e = absurd (let z = e in cc)
+
+keeps_an_order_of_no_turn : (o : Kept) → IsAtRest two record part { order = Some o } → ⊥
+keeps_an_order_of_no_turn o r = none-some o (sym (none_kept [] (Some o) r.orders refl))
+
+-- a pass that took another one in keeps its own order, and has the turns of both
+took_another_in : (t u : Turn) → t.order ≡ None → u.order ≡ None → AreOfPasses (u ∷ t ∷ []) t.keeps
+took_another_in t u first other = took_in (u ∷ []) (t ∷ []) u.keeps t.keeps
+    (turned u [] (subst (AreOfPasses []) (sym other) begun))
+    (turned t [] (subst (AreOfPasses []) (sym first) begun))
 
 -- ---- a pass of a runtime: each part is one that cannot be left out
 of_another_table : (s : Shared) (p : Pass) → (p.seat.table_id ≡ s.board.shared.table_id → ⊥)

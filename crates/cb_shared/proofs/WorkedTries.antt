@@ -166,6 +166,7 @@ tried = (
     at = (refl, tt);
     of = tt;
     idle = tt;
+    kept = tt;
     part = refl;
   },
   refl,
@@ -192,7 +193,7 @@ reads_freed = (
   record {
     before = nothing_more;
     last = looked_freed 1 3 0;
-    in_vain = record { looks = []; turns = []; at = tt; of = tt; idle = tt; part = refl };
+    in_vain = record { looks = []; turns = []; at = tt; of = tt; idle = tt; kept = tt; part = refl };
     ends_so = inl (0, 3, refl, newest_made, refl);
     part = refl;
   },
@@ -237,7 +238,7 @@ tries_a_write = (
   record {
     before = nothing_more;
     last = looked 1 calm;
-    in_vain = record { looks = []; turns = []; at = tt; of = tt; idle = tt; part = refl };
+    in_vain = record { looks = []; turns = []; at = tt; of = tt; idle = tt; kept = tt; part = refl };
     ends_so = inl (
       place.Range 8,
       refl,

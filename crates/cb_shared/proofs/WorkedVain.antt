@@ -11,6 +11,9 @@ use Rattle.cb_types.specs.declared.config.Config.{Config}
 use Rattle.cb_types.specs.declared.job.Job.{Job}
 use Rattle.cb_types.specs.declared.job.Job.TheVariants as jobs
 use Rattle.cb_types.specs.Jobs.{job_index}
+use Rattle.cb_types.specs.declared.order.DecodeOrder.{DecodeOrder}
+use Rattle.cb_types.specs.declared.order.Kept.{Kept}
+use Rattle.cb_types.specs.declared.order.Kept.TheVariants.{Decode}
 use Rattle.cb_types.specs.declared.reply.Reply.{Reply}
 use Rattle.cb_types.specs.declared.reply.Reply.TheVariants as answer
 use Rattle.cb_rule.specs.declared.turn.Turn.{Turn}
@@ -23,6 +26,7 @@ use Rattle.cb_shared.specs.Calls.{AnswersBy, AsksFor, AtNone, AtThis, Brings, Fo
 use Rattle.cb_shared.specs.Calls.{IsInVain, IsReadJob, IsUnanswered, IsWriteJob, LooksOf, OfThis}
 use Rattle.cb_shared.specs.Calls.{ReadCallEnds, ReadStops, ReadsInPlace, StopsBy, TellsWhatIs}
 use Rattle.cb_shared.specs.Calls.{TriesBy, TurnLacks, the_handle}
+use Rattle.cb_shared.specs.OrdersKept.{FetchKeeps, KeepInTurn, LeavesOrder}
 use Rattle.cb_shared.specs.Reading.{looked, looked_freed}
 use Rattle.cb_shared.specs.Trying.{again_in}
 use Rattle.cb_shared.specs.Turning.{Did, NotesWritten, TurnAdds}
@@ -76,10 +80,21 @@ fetches_in_vain : IsAnswerTo false fetch answer.Freed → ⊥
 fetches_in_vain x = x
 
 lands_in_vain : IsAnswerTo false jobs.Land (answer.Swapped 0) → ⊥
-lands_in_vain x = x
+lands_in_vain x = let e = x in cc
 
 lacks_all : IsAnswerTo true fetch answer.Worn × IsAnswerTo true jobs.Land answer.Worn
-lacks_all = (tt, tt)
+lacks_all = (tt, refl)
+
+-- what a landing lacks is a set's, and answers no call on an object
+a_landing_lacks_shards : IsAnswerTo false jobs.Land (answer.Unavailable (record { n = 3 }) []) → ⊥
+a_landing_lacks_shards x = let e = x in cc
+
+a_landing_lacks_room : IsAnswerTo false jobs.Land (answer.NoRoom 1 0 7) → ⊥
+a_landing_lacks_room x = let e = x in cc
+
+a_swap_lacks_both : IsAnswerTo false swap (answer.Unavailable (record { n = 3 }) [])
+    × IsAnswerTo false swap (answer.NoRoom 1 0 7)
+a_swap_lacks_both = (tt, refl)
 
 -- ---- the jobs of calls
 abbrev number : Job → ℕ
@@ -140,33 +155,33 @@ a_swap_looks_at_none x = x
 
 -- ---- a turn that was told no answer, and one that was
 swapped : IsUnanswered (OfThis swap) (told swap (Some (answer.Swapped 0)))
-swapped = (refl, (answer.Swapped 0, refl, λ x. x))
+swapped = (refl, (answer.Swapped 0, refl, (λ x. x), refl))
 
 of_another_job : IsUnanswered (OfThis swap) (told jobs.Evict (Some (answer.Swapped 0))) → ⊥
 of_another_job (e, x) = eqb-false 9 1 refl (ap number e)
 
 -- worn is an answer, and so it is the one reply that this turn may not have
 worn_answers : IsUnanswered (OfThis swap) (worn_turn swap) → ⊥
-worn_answers (e, (r, is, off)) =
+worn_answers (e, (r, is, off, kept)) =
     off (subst (IsAnswerTo false swap) (same_Some _ _ is) tt)
 
 without_memory : IsUnanswered (OfThis swap) (told swap None) → ⊥
-without_memory (e, (r, is, off)) = none-some r is
+without_memory (e, (r, is, off, kept)) = none-some r is
 
 pinned_waits : IsUnanswered (OfThis (jobs.Free (the_handle 1)))
     (told (jobs.Free (the_handle 1)) (Some (answer.Pinned 1))) → ⊥
-pinned_waits (e, (r, is, off)) =
+pinned_waits (e, (r, is, off, kept)) =
     off (subst (IsAnswerTo false (jobs.Free (the_handle 1))) (same_Some _ _ is) (inl tt))
 
 read_moving : IsUnanswered (IsReadJob 1) (told read (Some answer.Moving))
-read_moving = (inr refl, (answer.Moving, refl, λ x. no_answer x))
+read_moving = (inr refl, (answer.Moving, refl, (λ x. no_answer x), refl))
   where
     no_answer : IsAnswerTo false read answer.Moving → ⊥
     no_answer (inl x) = x
     no_answer (inr x) = x
 
 fetched_in_vain : IsUnanswered (Brings 1) (told fetch (Some answer.Direct))
-fetched_in_vain = (inr (inl refl), (answer.Direct, refl, λ x. x))
+fetched_in_vain = (inr (inl refl), (answer.Direct, refl, (λ x. x), refl))
 
 read_of_another : IsUnanswered (IsReadJob 1) (told (jobs.Read (the_handle 0)) (Some answer.Moving))
     → ⊥
@@ -192,16 +207,110 @@ stops_at_a_look = record {
   lacks = inl refl;
 }
 
-abbrev fetched : Turn
-fetched = told fetch (Some (answer.Fetched (record { n = 3 }) 0))
+-- the row at a position of the third set, of one data row and two parities
+abbrev order : ℕ → DecodeOrder
+order p = record {
+  set = 3;
+  position = p;
+  k = 1;
+  r = 2;
+  present = 1 ∷ [];
+  rows = [] ∷ [];
+}
 
-a_fetch : IsInVain AtNone (IsUnanswered (Brings 1)) (turned fetched)
+abbrev fetched : Turn
+fetched = record (told fetch (Some (answer.Fetched (record { n = 3 }) 0))) {
+  keeps = Some (Decode (order 0));
+}
+
+a_fetch : IsInVain None AtNone (IsUnanswered (Brings 1)) (turned fetched)
 a_fetch = record {
   looks = [];
   turns = fetched ∷ [];
   at = tt;
-  of = ((inr (inl refl), (answer.Fetched (record { n = 3 }) 0, refl, λ x. x)), tt);
+  of = (
+    (
+      inr (inl refl),
+      (answer.Fetched (record { n = 3 }) 0, refl, (λ x. x), (order 0, refl, refl, refl)),
+    ),
+    tt,
+  );
   idle = (refl, tt);
+  kept = (refl, tt);
+  part = refl;
+}
+
+-- the order that a fetch handed out is kept; one that stays is not dropped by a turn in vain, nor
+-- taken by a landing that was not done
+abbrev keeping : Job → Reply → Option Kept → Turn
+keeping j r o = record (told j (Some r)) { order = Some (Decode (order 0)); keeps = o }
+
+abbrev IsLeft : Turn → Type 0
+IsLeft t = (r : Reply) × (t.reply ≡ Some r) × LeavesOrder t.job r t.order t.keeps
+
+drops_nothing : IsLeft (keeping swap answer.Moving (Some (Decode (order 0))))
+drops_nothing = (answer.Moving, refl, refl)
+
+drops_its_order : IsLeft (keeping swap answer.Moving None) → ⊥
+drops_its_order (r, is, left) = none-some _ left
+
+drops_what_a_fetch_handed_out : IsLeft
+    (keeping fetch (answer.Fetched (record { n = 3 }) 1) None) → ⊥
+drops_what_a_fetch_handed_out (r, is, left) =
+    none-some _ (subst (λ (q : Reply). FetchKeeps q (Some (Decode (order 0))) None)
+    (sym (same_Some _ _ is)) left).1
+
+abbrev position_in : Option Kept → ℕ
+position_in (Some (Decode o)) = o.position
+position_in o = 9
+
+keeps_another_position : IsLeft
+    (keeping fetch (answer.Fetched (record { n = 3 }) 1) (Some (Decode (order 0)))) → ⊥
+keeps_another_position (r, is, left) =
+    let x = subst (λ (q : Reply). FetchKeeps q (Some (Decode (order 0))) (Some (Decode (order 0))))
+    (sym (same_Some _ _ is)) left in eqb-false 0 1 refl (ap position_in x.1 ∙ x.3)
+
+takes_its_order : IsLeft (keeping jobs.Land (answer.Swapped 0) None)
+takes_its_order = (answer.Swapped 0, refl, refl)
+
+keeps_what_was_landed : IsLeft
+    (keeping jobs.Land (answer.Swapped 0) (Some (Decode (order 0)))) → ⊥
+keeps_what_was_landed (r, is, left) = none-some _
+    (sym (subst (λ (q : Reply). LeavesOrder jobs.Land q (Some (Decode (order 0)))
+    (Some (Decode (order 0)))) (sym (same_Some _ _ is)) left))
+
+takes_it_unlanded : IsLeft (keeping jobs.Land (answer.Changed (record { n = 3 })) None) → ⊥
+takes_it_unlanded (r, is, left) = none-some _
+    (subst (λ (q : Reply). LeavesOrder jobs.Land q (Some (Decode (order 0))) None)
+    (sym (same_Some _ _ is)) left)
+
+-- each turn begins with what the one before it left, and the first one with what was kept
+one_behind_the_other : KeepInTurn None (keeping swap answer.Moving None ∷ fetched ∷ [])
+one_behind_the_other = (refl, (refl, tt))
+
+begins_with_another : KeepInTurn (Some (Decode (order 0))) (fetched ∷ []) → ⊥
+begins_with_another x = none-some _ x.0
+
+goes_on_with_another : KeepInTurn None (told swap (Some answer.Moving) ∷ fetched ∷ []) → ⊥
+goes_on_with_another x = none-some _ x.0
+
+vain_with_another : IsInVain (Some (Decode (order 0))) AtNone (IsUnanswered (Brings 1))
+    (turned fetched) → ⊥
+vain_with_another x = none-some _ (subst (KeepInTurn (Some (Decode (order 0))))
+    (sym (ap (λ (d : Part). d.turns) x.part)) x.kept).0
+
+-- a fetch of an object whose row is at hand
+abbrev direct : Turn
+direct = told fetch (Some answer.Direct)
+
+a_direct_one : IsInVain None AtNone (IsUnanswered (Brings 1)) (turned direct)
+a_direct_one = record {
+  looks = [];
+  turns = direct ∷ [];
+  at = tt;
+  of = (fetched_in_vain, tt);
+  idle = (refl, tt);
+  kept = (refl, tt);
   part = refl;
 }
 
@@ -348,11 +457,11 @@ ends_swapped v d x = read_lacks two 1 (answer.Swapped 0) v d (λ t. t) x
 
 -- ---- turns of one bringing in: a fetch, and a swap-in that is answered
 abbrev both : Part
-both = sum (turned fetched) (worn_part swap)
+both = sum (turned direct) (worn_part swap)
 
 -- the record keeps no order behind them
 abbrev behind_fetch : View
-behind_fetch = grown (turned fetched) part
+behind_fetch = grown (turned direct) part
 
 tries_by : ((h : ℕ) → Knows h behind_fetch → 1 ≡ h)
     → NotesWritten (worn_turn swap) [] behind_fetch
@@ -360,9 +469,9 @@ tries_by : ((h : ℕ) → Knows h behind_fetch → 1 ≡ h)
 tries_by knows notes = (
   both,
   record {
-    before = turned fetched;
+    before = turned direct;
     last = worn_part swap;
-    in_vain = a_fetch;
+    in_vain = a_direct_one;
     ends_so = record {
       job = swap;
       of = inl refl;
@@ -374,7 +483,7 @@ tries_by knows notes = (
 )
 
 tries_in_vain : TriesBy two AtNone (Brings 1) None part behind_fetch
-tries_in_vain = (turned fetched, a_fetch, refl)
+tries_in_vain = (turned direct, a_direct_one, refl)
 
 tries_and_looks : TriesBy two AtNone (Brings 1) None part (grown (looked 1 away) part) → ⊥
 tries_and_looks (d, x, is) = no_look x.looks (ap (λ (v : View). length v.looks) is

@@ -1,7 +1,8 @@
 -- Worked turns that bring a far object in: what meets each definition, and what breaks one of its
 -- parts alone.
 use Rattle.std.proofs.Common.{◌≡◌, ℕ, zero, suc, ◌<◌, true, false, List, [], ◌∷◌, ◌++◌, length, get_or}
-use Rattle.std.proofs.Common.{Option, None, Some, Ok, Err, refl, sym, ap, ◌∙◌, inl, inr, lit<, lit≤, arith}
+use Rattle.std.proofs.Common.{Option, None, Some, Ok, Err, refl, sym, ap, ◌∙◌, subst, inl, inr}
+use Rattle.std.proofs.Common.{lit<, lit≤, arith}
 use Rattle.std.proofs.lemmas.Bool.{eqb-false, false≢true}
 use Rattle.cb_member.specs.declared.no_memory.NoMemory.{NoMemory}
 use Rattle.cb_types.specs.declared.job.Job.{Job}
@@ -20,14 +21,17 @@ use Rattle.cb_rule.specs.declared.turn.Turn.{Turn}
 use Rattle.cb_rule.specs.declared.view.Look.{Look}
 use Rattle.cb_rule.specs.declared.view.View.{View}
 use Rattle.cb_rule.specs.Steps.{look_at, with_look}
+use Rattle.cb_shared.specs.declared.ways.Landing.TheVariants as landing
 use Rattle.cb_shared.specs.declared.ways.Way.TheVariants as ways
 use Rattle.cb_shared.specs.Fetching.{AreBringing, AreBringingTo, AreDone, AreFetches, AreFetchesTo}
 use Rattle.cb_shared.specs.Fetching.{AreOneTry, AreTried, AreWrites, AreWritesOn, FoundInside}
 use Rattle.cb_shared.specs.Fetching.{FoundPast, GetsBoth, GetsTurns, GoAsWrite, GoesOnAsWrite}
-use Rattle.cb_shared.specs.Fetching.{IsOneAtMost, IsOneMore, IsWriteFor, brought_in_by, job_behind}
-use Rattle.cb_shared.specs.Fetching.{job_to_fetch}
+use Rattle.cb_shared.specs.Fetching.{IsOneAtMost, IsOneMore, IsWriteFor, LandsOn, LandsOnward}
+use Rattle.cb_shared.specs.Fetching.{TriesOnward, brought_in_by, found_here_by, job_behind}
+use Rattle.cb_shared.specs.Fetching.{job_onward, job_to_fetch}
 use Rattle.cb_shared.specs.Ordering.{CanRun}
-use Rattle.cb_shared.specs.Ways.{HasWay, IsFound, IsWayBy, IsWayOf, IsWayTold, way_told}
+use Rattle.cb_shared.specs.Ways.{HasWay, IsFound, IsLandedBy, IsLandingOf, IsLandingTold, IsWayBy}
+use Rattle.cb_shared.specs.Ways.{IsWayOf, IsWayTold, landing_told, way_told}
 use Rattle.cb_shared.specs.Writing.{FoundFarAs}
 use Rattle.cb_shared.proofs.WorkedGround.{away, calm, moving, part}
 use Rattle.cb_shared.proofs.WorkedVain.{fetch, read, swap, told}
@@ -55,12 +59,23 @@ landed = told jobs.Land (Some (answer.Swapped 0))
 abbrev swapped : Turn
 swapped = told swap (Some (answer.Swapped 0))
 
--- ---- a turn that brought the object in, or found it there
+-- a fetch that found the object here, and landings that were told what they lack
+abbrev stays : Turn
+stays = told fetch (Some answer.Stays)
+
+abbrev unavailable : Turn
+unavailable = told jobs.Land (Some (answer.Unavailable (record { n = 3 }) []))
+
+abbrev unroomed : Turn
+unroomed = told jobs.Land (Some (answer.NoRoom 1 0 7))
+
+-- ---- a turn that brought the object in; where another pass had it in, this call did not
 brings_it_in : brought_in_by false (swapped ∷ direct ∷ []) ≡ true
 brings_it_in = refl
 
-was_there : brought_in_by false (told fetch (Some answer.Stays) ∷ []) ≡ true
-was_there = refl
+was_there : (brought_in_by false (stays ∷ []) ≡ false) × (found_here_by (stays ∷ []) ≡ true)
+    × (found_here_by (swapped ∷ direct ∷ []) ≡ true) × (found_here_by (direct ∷ []) ≡ false)
+was_there = (refl, refl, refl, refl)
 
 brings_nothing : brought_in_by false (told swap (Some answer.Moving) ∷ told fetch None ∷ []) ≡ false
 brings_nothing = refl
@@ -80,6 +95,16 @@ then_fetches : (job_behind 1 (landed ∷ fetched ∷ []) ≡ fetch)
     × (job_behind 1 (told read (Some (answer.Fetched (record { n = 3 }) 2)) ∷ []) ≡ fetch)
 then_fetches = (refl, refl, refl)
 
+then_goes_by_its_object : (job_behind 1 (unavailable ∷ fetched ∷ []) ≡ swap)
+    × (job_behind 1 (unroomed ∷ fetched ∷ []) ≡ swap)
+    × (job_behind 1 (told jobs.Land (Some answer.Worn) ∷ fetched ∷ []) ≡ fetch)
+then_goes_by_its_object = (refl, refl, refl)
+
+-- with this job first
+onward : (job_onward 1 jobs.Land [] ≡ jobs.Land)
+    × (job_onward 1 jobs.Land (unavailable ∷ []) ≡ swap)
+onward = (refl, refl)
+
 then_reads : (job_to_fetch 1 true (fetched ∷ []) ≡ read) × (job_to_fetch 1 false (fetched ∷ []) ≡ jobs.Land)
 then_reads = (refl, refl)
 
@@ -93,6 +118,20 @@ swaps_in = (refl, (refl, tt))
 fetches_again : AreFetches 1 false
     (fetched ∷ told jobs.Land (Some (answer.Changed (record { n = 3 }))) ∷ fetched ∷ [])
 fetches_again = (refl, (refl, (refl, tt)))
+
+-- where another pass had it in, the read fetches it again once it has left
+fetches_what_has_left : AreFetches 1 false (fetched ∷ stays ∷ [])
+fetches_what_has_left = (refl, (refl, tt))
+
+reads_what_another_had_in : AreFetches 1 false (told read (Some answer.Moving) ∷ stays ∷ []) → ⊥
+reads_what_another_had_in x = eqb-false 1 21 refl (ap job_index x.0)
+
+-- behind what a landing lacks comes a turn on the object, and no other one
+swaps_behind_a_landing : AreFetches 1 false (swapped ∷ unavailable ∷ fetched ∷ [])
+swaps_behind_a_landing = (refl, (refl, (refl, tt)))
+
+fetches_behind_a_lack : AreFetches 1 false (fetched ∷ unavailable ∷ fetched ∷ []) → ⊥
+fetches_behind_a_lack x = eqb-false 21 4 refl (ap job_index x.0)
 
 swaps_at_once : AreFetches 1 false (swapped ∷ []) → ⊥
 swaps_at_once x = eqb-false 4 21 refl (ap job_index x.0)
@@ -167,12 +206,30 @@ tries_once = ((refl, refl), ((refl, refl), tt))
 tries_out_of_order : AreOneTry 1 (landed ∷ direct ∷ []) → ⊥
 tries_out_of_order x = eqb-false 22 4 refl (ap job_index x.0.0)
 
+tries_by_its_object : AreOneTry 1 (swapped ∷ unroomed ∷ fetched ∷ [])
+tries_by_its_object = ((refl, refl), ((refl, refl), ((refl, refl), tt)))
+
+tries_onward : TriesOnward 1 jobs.Land (swapped ∷ unavailable ∷ [])
+tries_onward = ((refl, refl), ((refl, refl), tt))
+
+tries_onward_otherwise : TriesOnward 1 jobs.Land (swapped ∷ []) → ⊥
+tries_onward_otherwise x = eqb-false 4 22 refl (ap job_index x.0.0)
+
+goes_on_behind_what_found_it : AreOneTry 1 (fetched ∷ stays ∷ []) → ⊥
+goes_on_behind_what_found_it x = false≢true (sym x.0.1)
+
 goes_on_behind_what_brought_it : AreOneTry 1 (direct ∷ landed ∷ fetched ∷ []) → ⊥
 goes_on_behind_what_brought_it x = false≢true (sym x.0.1)
 
 -- ---- behind which nothing is left to be done
 done : AreDone 1 (landed ∷ fetched ∷ [])
 done = refl
+
+done_where_it_was_here : AreDone 1 (stays ∷ [])
+done_where_it_was_here = refl
+
+left_to_swap_in : AreDone 1 (unavailable ∷ fetched ∷ []) → ⊥
+left_to_swap_in e = eqb-false 4 21 refl (ap job_index e)
 
 left_to_land : AreDone 1 (fetched ∷ []) → ⊥
 left_to_land e = eqb-false 22 21 refl (ap job_index e)
@@ -319,8 +376,8 @@ told_after_all f = left_to_swap (f 1)
 finds_an_order : IsFound 1 (ways.Made (order 2)) false false (fetched ∷ [])
 finds_an_order = (fetched, refl, refl, refl, refl)
 
-finds_it_there : IsFound 1 (ways.Told None) false true (told fetch (Some answer.Stays) ∷ [])
-finds_it_there = (told fetch (Some answer.Stays), refl, refl, (λ h. refl), refl)
+finds_it_there : IsFound 1 (ways.Told None) false false (stays ∷ [])
+finds_it_there = (stays, refl, refl, (λ h. refl), refl)
 
 abbrev newest_told : List Turn → Option Reply
 newest_told [] = None
@@ -335,9 +392,75 @@ finds_by_a_swap x = eqb-false 4 21 refl (ap job_index (ap newest_job x.1 ∙ x.2
 finds_another : IsFound 1 (ways.Made (order 1)) false false (fetched ∷ []) → ⊥
 finds_another x = eqb-false 2 1 refl (ap number (ap newest_told x.1 ∙ x.3))
 
-finds_and_forgets : IsFound 1 (ways.Told None) false false (told fetch (Some answer.Stays) ∷ []) → ⊥
-finds_and_forgets x = false≢true (x.4
+finds_and_brings : IsFound 1 (ways.Told None) false true (stays ∷ []) → ⊥
+finds_and_brings x = false≢true (sym (x.4
+    ∙ sym (ap (λ (ts : List Turn). brought_in_by false ts) x.1)))
+
+-- ---- a landing, by what it was told
+abbrev lost : Reply
+lost = answer.Unavailable (record { n = 3 }) []
+
+answers_by_wear : (landing_told (landing.Told (Some answer.Worn)) ≡ Some answer.Worn)
+    × (landing_told landing.Lacks ≡ None)
+answers_by_wear = (refl, refl)
+
+lands_or_goes_on : IsLandingTold landing.Lacks (Some lost)
+    × IsLandingTold (landing.Told None) (Some (answer.Swapped 0))
+    × IsLandingTold (landing.Told (Some answer.Worn)) (Some answer.Worn)
+lands_or_goes_on = ((λ h. refl), (λ h. refl), (λ h. refl))
+
+lacks_when_landed : IsLandingTold landing.Lacks (Some (answer.Swapped 0)) → ⊥
+lacks_when_landed f = eqb-false 21 4 refl (ap job_index (f 1))
+
+goes_on_when_lost : IsLandingTold (landing.Told None) (Some lost) → ⊥
+goes_on_when_lost f = eqb-false 4 21 refl (ap job_index (f 1))
+
+lands_it : IsLandedBy (landing.Told None) false true (landed ∷ [])
+lands_it = (landed, refl, refl, (λ h. refl), refl)
+
+lands_two : IsLandedBy (landing.Told None) false true (landed ∷ landed ∷ []) → ⊥
+lands_two x = eqb-false 2 1 refl (ap (λ (ts : List Turn). length ts) x.1)
+
+lands_by_a_swap : IsLandedBy (landing.Told None) false true (swapped ∷ []) → ⊥
+lands_by_a_swap x = eqb-false 4 22 refl (ap job_index (ap newest_job x.1 ∙ x.2))
+
+lands_what_is_lost : IsLandedBy (landing.Told None) false false (unavailable ∷ []) → ⊥
+lands_what_is_lost x = goes_on_when_lost
+    (subst (IsLandingTold (landing.Told None)) (sym (ap newest_told x.1)) x.3)
+
+lands_and_forgets : IsLandedBy (landing.Told None) false false (landed ∷ []) → ⊥
+lands_and_forgets x = false≢true (x.4
     ∙ sym (ap (λ (ts : List Turn). brought_in_by false ts) x.1))
+
+landings : IsLandingOf true true lost landing.Lacks
+    × IsLandingOf false false answer.Worn (landing.Told (Some answer.Worn))
+    × IsLandingOf false true (answer.Swapped 0) (landing.Told None)
+landings = (
+  (tt, refl),
+  (refl, refl, refl),
+  ((λ x. x), (λ e. let z = e in cc), refl),
+)
+
+hands_a_lack_on : IsLandingOf false false lost (landing.Told (Some lost)) → ⊥
+hands_a_lack_on x = let e = x.1 in cc
+
+hands_another_on : IsLandingOf false false answer.Worn (landing.Told (Some lost)) → ⊥
+hands_another_on x = let e = x.0 in cc
+
+lacks_at_another : IsLandingOf false false answer.Moving landing.Lacks → ⊥
+lacks_at_another x = x.0
+
+lacks_and_brings : IsLandingOf false true lost landing.Lacks → ⊥
+lacks_and_brings x = false≢true (sym x.1)
+
+goes_on_lost : IsLandingOf false false lost (landing.Told None) → ⊥
+goes_on_lost x = x.0 tt
+
+goes_on_worn : IsLandingOf false false answer.Worn (landing.Told None) → ⊥
+goes_on_worn x = x.1 refl
+
+goes_on_and_forgets : IsLandingOf false false (answer.Swapped 0) (landing.Told None) → ⊥
+goes_on_and_forgets x = false≢true x.2
 
 -- ---- and by what it was answered
 module _ (e f : NoMemory) where
@@ -364,8 +487,8 @@ moving_is_told x = x.2
 moving_looks_again : IsWayBy false true true answer.Moving (ways.Told None)
 moving_looks_again = ((λ e. eqb-false 8 7 refl (ap (λ r. number (Some r)) e)), (λ x. x), refl)
 
-stays_is_forgotten : IsWayBy false false false answer.Stays (ways.Told None) → ⊥
-stays_is_forgotten x = false≢true x.2
+stays_brings : IsWayBy false false true answer.Stays (ways.Told None) → ⊥
+stays_brings x = false≢true (sym x.2)
 
 direct_looks_again : IsWayBy false true true answer.Direct (ways.Told None) → ⊥
 direct_looks_again x = x.0 refl
@@ -413,6 +536,23 @@ goes_direct = (refl, (refl, tt))
 
 lands_and_goes_on : GoAsWrite 1 (own 7) yes ⊥ (fetched ∷ landed ∷ fetched ∷ [])
 lands_and_goes_on = (refl, (inl (refl, tt), (refl, tt)))
+
+-- what a landing lacks is made up for by a turn of its own
+lands_and_writes : GoAsWrite 1 (own 7) yes ⊥ (wrote 7 ∷ unavailable ∷ fetched ∷ [])
+lands_and_writes = (refl, (inl (refl, tt), (refl, tt)))
+
+lands_and_swaps : GoAsWrite 1 (own 7) yes yes (swapped ∷ unroomed ∷ fetched ∷ []) → ⊥
+lands_and_swaps x = eqb-false 4 2 refl (ap job_index x.0)
+
+lands_onward : LandsOn 1 (own 7) (wrote 7 ∷ unavailable ∷ [])
+lands_onward = ((refl, (inl (refl, tt), tt)), refl)
+
+lands_onward_at_once : LandsOnward 1 (own 7) (wrote 7 ∷ []) → ⊥
+lands_onward_at_once ((inl x), y) = eqb-false 2 22 refl (ap job_index x.0)
+lands_onward_at_once ((inr x), y) = x.1
+
+lands_onward_in_part : LandsOn 1 (own 7) (unavailable ∷ []) → ⊥
+lands_onward_in_part x = eqb-false 4 21 refl (ap job_index x.1)
 
 writes_at_once : GoAsWrite 1 (own 7) yes yes (wrote 7 ∷ []) → ⊥
 writes_at_once x = eqb-false 2 21 refl (ap job_index x.0)

@@ -110,6 +110,7 @@ write_vain h at bytes vain (place.Raced saw found) v w none here (other, left, w
     at = (refl, (refl, tt));
     of = tt;
     idle = tt;
+    kept = tt;
     part = refl;
   },
   left ∙ twice_part h saw found v,

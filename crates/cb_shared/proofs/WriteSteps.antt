@@ -54,6 +54,7 @@ rest_worn c h n s v rest below = record {
   written = rest.written;
   seen = (below, rest.seen);
   pins = rest.pins;
+  orders = rest.orders;
 }
 
 rest_written : (c : Config) (h n : ℕ) (e : Entry) (v : View) → IsAtRest c v → e.handle < c.handles
@@ -68,6 +69,7 @@ rest_written c h n e v rest below = record {
   written = (below, rest.written);
   seen = rest.seen;
   pins = rest.pins;
+  orders = rest.orders;
 }
 
 pub written_at : (c : Config) (h word at : ℕ) (bytes : List ℕ) (a : WriteAnswer) (p m q : SeatAt)

@@ -17,19 +17,20 @@ use Rattle.cb_record.specs.Parts.{Part}
 use Rattle.cb_record.proofs.Laws.{has_one_left, has_one_right}
 use Rattle.cb_shared.specs.declared.answers.WriteAnswer.{WriteAnswer}
 use Rattle.cb_shared.specs.declared.answers.WriteAnswer.TheVariants as place
+use Rattle.cb_shared.specs.declared.ways.Landing.{Landing}
+use Rattle.cb_shared.specs.declared.ways.Landing.TheVariants as landing
 use Rattle.cb_shared.specs.declared.ways.Way.{Way}
 use Rattle.cb_shared.specs.declared.ways.Way.TheVariants as ways
 use Rattle.cb_shared.specs.Calls.{StopsBy, TriesBy, WriteFinds, the_handle}
 use Rattle.cb_shared.specs.Fetching.{AreDone, AreWrites, AreWritesOn, FoundInside, FoundPast}
 use Rattle.cb_shared.specs.Fetching.{GetsBoth, GetsTurns, GoAsWrite, GoesOnAsWrite, IsOneAtMost}
-use Rattle.cb_shared.specs.Fetching.{IsOneMore, IsOneOf, IsWriteFor, job_behind, job_behind_fetch}
-use Rattle.cb_shared.specs.Fetching.{job_behind_turn}
-use Rattle.cb_shared.specs.Ways.{IsFound, IsWayTold}
+use Rattle.cb_shared.specs.Fetching.{IsOneMore, IsOneOf, IsWriteFor, LandsOn, LandsOnward}
+use Rattle.cb_shared.specs.Fetching.{WritesOnward, job_behind_turn, job_onward}
+use Rattle.cb_shared.specs.Ways.{IsFound, IsLandedBy, IsLandingTold, IsWayTold}
 use Rattle.cb_shared.specs.Writing.{FoundFarAs, WriteGives}
 use Rattle.cb_shared.proofs.CallSteps.{stops_idle}
-use Rattle.cb_shared.proofs.InOrder.{IsFetchTold, done_behind, done_more, fetch_in_order}
-use Rattle.cb_shared.proofs.InOrder.{in_order_wider, one_at_most, order_more, told_behind}
-use Rattle.cb_shared.proofs.InOrder.{turns_then, two_in_order}
+use Rattle.cb_shared.proofs.InOrder.{IsTurnTo, asked_by, done_more, in_order_wider}
+use Rattle.cb_shared.proofs.InOrder.{onward_more, order_more, turns_then}
 use Rattle.cb_shared.proofs.WriteParts.{write_finds}
 
 pub is_one : (job : Job) (b m : Bool) (v w : View) → GetsTurns (IsOneMore job b m) v w
@@ -45,24 +46,56 @@ module _ (own : Job) (inside past more over : Type 0) (f : inside → more) (g :
   write_wider jobs.Land job (inr (is, b)) = inr (is, g b)
   write_wider read job x = x
 
-  goes_wider : (h : ℕ) (ts : List Turn) → GoAsWrite h own inside past ts
-      → GoAsWrite h own more over ts
-  goes_wider h ts x = in_order_wider (λ us j. IsWriteFor own inside past (job_behind h us) j)
-      (λ us j. IsWriteFor own more over (job_behind h us) j)
-      (λ us j y. write_wider (job_behind h us) j y) ts x
+  pub goes_wider : (h : ℕ) (first : Job) (ts : List Turn)
+      → WritesOnward h own inside past first ts → WritesOnward h own more over first ts
+  goes_wider h first ts x =
+      in_order_wider (λ us j. IsWriteFor own inside past (job_onward h first us) j)
+      (λ us j. IsWriteFor own more over (job_onward h first us) j)
+      (λ us j y. write_wider (job_onward h first us) j y) ts x
 
 module _ (h : ℕ) (own : Job) (inside past : Type 0) where
-  abbrev IsNext : List Turn → Job → Type 0
-  IsNext ts j = IsWriteFor own inside past (job_behind h ts) j
+  go_more : (first next : Job) (us ts : List Turn) → job_onward h first ts ≡ next
+      → WritesOnward h own inside past next us → WritesOnward h own inside past first ts
+      → WritesOnward h own inside past first (us ++ ts)
+  go_more first next us ts on x y =
+      order_more h first next (IsWriteFor own inside past) us ts on x y
 
-  go_more : (us ts : List Turn) → AreDone h ts → GoAsWrite h own inside past us
-      → GoAsWrite h own inside past ts → GoAsWrite h own inside past (us ++ ts)
-  go_more us ts done x y = order_more h (IsWriteFor own inside past) us ts done x y
+  -- ---- a turn that comes where a read would make this one first, and one at the most
+  module _ (first job : Job) (of : IsWriteFor own inside past first job) where
+    one_goes : (ts : List Turn) → IsOneOf job ts → WritesOnward h own inside past first ts
+    one_goes ts (t, one, is) = subst (WritesOnward h own inside past first) (sym one)
+        (subst (IsWriteFor own inside past first) (sym is) of, tt)
+
+    pub one_writes : (v w : View) → GetsTurns (IsOneOf job) v w
+        → GetsTurns (WritesOnward h own inside past first) v w
+    one_writes v w (ts, got, one) = (ts, got, one_goes ts one)
+
+    pub few_writes : (v w : View) → GetsTurns (IsOneAtMost job) v w
+        → GetsTurns (WritesOnward h own inside past first) v w
+    few_writes v w (ts, got, inl none) =
+        (ts, got, subst (WritesOnward h own inside past first) (sym none) tt)
+    few_writes v w (ts, got, inr one) = (ts, got, one_goes ts one)
+
+    -- so where the call goes on behind it whatever it was told
+    pub one_writes_on : (v w : View)
+        → ((r : Option Reply) → job_behind_turn h job r ≡ jobs.Fetch (the_handle h))
+        → GetsTurns (IsOneOf job) v w → GetsTurns (λ ts. WritesOnward h own inside past first ts
+        × (job_onward h first ts ≡ jobs.Fetch (the_handle h))) v w
+    one_writes_on v w last (ts, got, (t, one, is)) = (
+      ts,
+      got,
+      (
+        one_goes ts (t, one, is),
+        ap (job_onward h first) one ∙ ap (λ (j : Job). job_behind_turn h j t.reply) is
+            ∙ last t.reply,
+      ),
+    )
 
   -- ---- a fetch comes first
   pub write_first : (v w : View) → GetsTurns (IsOneOf (jobs.Fetch (the_handle h))) v w
       → GetsTurns (GoAsWrite h own inside past) v w
-  write_first v w x = fetch_in_order h IsNext refl v w x
+  write_first v w x =
+      one_writes (jobs.Fetch (the_handle h)) (jobs.Fetch (the_handle h)) refl v w x
 
   pub write_told : (r : Option Reply) (way : Way) (b m : Bool) (v w : View) → way ≡ ways.Told r
       → GetsTurns (IsFound h way b m) v w → GetsTurns (GoesOnAsWrite h own inside past) v w
@@ -76,31 +109,59 @@ module _ (h : ℕ) (own : Job) (inside past : Type 0) where
     ),
   )
 
-  -- ---- and behind one that was told so a turn of this job
-  module _ (next : Job) (told : Option Reply)
-      (of : IsWriteFor own inside past (job_behind_fetch h told) next)
-      (last : (r : Option Reply) → job_behind_turn h next r ≡ jobs.Fetch (the_handle h)) where
-    of_write : (t : Turn) → t.job ≡ jobs.Fetch (the_handle h) → t.reply ≡ told
-        → IsNext (t ∷ []) next
-    of_write t fetch reply = subst (λ (j : Job). IsWriteFor own inside past j next)
-        (told_behind h told t fetch reply) of
+  -- ---- a turn that asks for a job, and those of which that job comes first
+  module _ (first next : Job) (b m : Bool) (v w u : View) (head : IsWriteFor own inside past first first)
+      (x : GetsTurns (IsTurnTo h first next b m) v w) where
+    goes_behind : (us : List Turn) → WritesOnward h own inside past next us
+        → WritesOnward h own inside past first (us ++ x.0)
+    goes_behind us y = go_more first next us x.0 (asked_by h first next b m x.0 x.2) y
+        (one_goes first first head x.0 (x.2.turn, x.2.one, x.2.of))
 
-    pub behind_at_most : (v w u : View) → GetsTurns (IsFetchTold h told) v w
-        → GetsTurns (IsOneAtMost next) w u → GetsTurns (GoAsWrite h own inside past) v u
-    behind_at_most v w u x y = one_at_most h IsNext refl next told of_write v w u x y
+    pub writes_behind : GetsTurns (WritesOnward h own inside past next) w u
+        → GetsTurns (WritesOnward h own inside past first) v u
+    writes_behind (us, more, y) =
+        (us ++ x.0, turns_then x.0 us v w u x.1 more, goes_behind us y)
 
-    pub behind_one : (v w u : View) → GetsTurns (IsFetchTold h told) v w
-        → GetsTurns (IsOneOf next) w u → GetsTurns (GoesOnAsWrite h own inside past) v u
-    behind_one v w u (ts, got, (t, one, fetch, reply)) (us, more, (s, is, job)) =
-        let all : us ++ ts ≡ s ∷ t ∷ [] = (λ i. is i ++ one i) in (
-          us ++ ts,
-          turns_then ts us v w u got more,
-          (
-            subst (GoAsWrite h own inside past) (sym all)
-                (two_in_order h IsNext refl next told of_write t s fetch reply job),
-            subst (AreDone h) (sym all) (done_behind h next last s (t ∷ []) job),
-          ),
-        )
+    pub writes_behind_on : GetsTurns (λ ts. WritesOnward h own inside past next ts
+        × (job_onward h next ts ≡ jobs.Fetch (the_handle h))) w u
+        → GetsTurns (λ ts. WritesOnward h own inside past first ts
+        × (job_onward h first ts ≡ jobs.Fetch (the_handle h))) v u
+    writes_behind_on (us, more, (y, on)) = (
+      us ++ x.0,
+      turns_then x.0 us v w u x.1 more,
+      (
+        goes_behind us y,
+        sym (onward_more h first next us x.0 (asked_by h first next b m x.0 x.2)) ∙ on,
+      ),
+    )
+
+-- a landing behind which the call goes on
+pub landed_on : (h : ℕ) (own : Job) (r : Option Reply) (l : Landing) (b m : Bool) (v w : View)
+    → l ≡ landing.Told r → GetsTurns (IsLandedBy l b m) v w → GetsTurns (LandsOn h own) v w
+landed_on h own r l b m v w is (ts, got, (t, one, of, told, after)) = (
+  ts,
+  got,
+  (
+    subst (LandsOnward h own) (sym one) (inl (of, tt), tt),
+    ap (job_onward h jobs.Land) one ∙ ap (λ (j : Job). job_behind_turn h j t.reply) of
+        ∙ subst (λ (z : Landing). IsLandingTold z t.reply) is told h,
+  ),
+)
+
+-- one of bytes that lie inside of the object
+pub lands_inside : (h : ℕ) (own : Job) (inside past : Type 0) (v w : View) → inside
+    → GetsTurns (LandsOnward h own) v w → GetsTurns (WritesOnward h own inside past jobs.Land) v w
+lands_inside h own inside past v w a (ts, got, x) =
+    (ts, got, goes_wider own (Unit {0}) ⊥ inside past (λ y. a) (λ y. absurd y) h jobs.Land ts x)
+
+pub lands_inside_on : (h : ℕ) (own : Job) (inside past : Type 0) (v w : View) → inside
+    → GetsTurns (LandsOn h own) v w → GetsTurns (λ ts. WritesOnward h own inside past jobs.Land ts
+    × (job_onward h jobs.Land ts ≡ jobs.Fetch (the_handle h))) v w
+lands_inside_on h own inside past v w a (ts, got, (x, on)) = (
+  ts,
+  got,
+  (goes_wider own (Unit {0}) ⊥ inside past (λ y. a) (λ y. absurd y) h jobs.Land ts x, on),
+)
 
 -- ---- the looks beside them
 module _ (h at : ℕ) (bytes : List ℕ) where
@@ -133,7 +194,8 @@ module _ (h at : ℕ) (bytes : List ℕ) where
 
     go_far : (ts : List Turn) → GoAsWrite h own (at + length bytes ≤ len_of word)
         (len_of word < at + length bytes) ts → AreWrites h at bytes all ts
-    go_far ts x = goes_wider own _ _ _ _ has_inside has_past h ts x
+    go_far ts x =
+        goes_wider own _ _ _ _ has_inside has_past h (jobs.Fetch (the_handle h)) ts x
 
     pub far_writes : GetsTurns (GoAsWrite h own (at + length bytes ≤ len_of word)
         (len_of word < at + length bytes)) w u → GetsBoth (AreWrites h at bytes) v u
@@ -156,17 +218,18 @@ module _ (h at : ℕ) (bytes : List ℕ) where
       → AreWrites h at bytes (ms ++ ls) ts
   left_writes ms ls ts x = goes_wider own _ _ _ _
       (λ y. has_one_left (FoundInside h at (length bytes)) ms ls y)
-      (λ y. has_one_left (FoundPast h at (length bytes)) ms ls y) h ts x
+      (λ y. has_one_left (FoundPast h at (length bytes)) ms ls y) h (jobs.Fetch (the_handle h)) ts x
 
   right_writes : (ms ls : List Look) (ts : List Turn) → AreWrites h at bytes ls ts
       → AreWrites h at bytes (ms ++ ls) ts
   right_writes ms ls ts x = goes_wider own _ _ _ _
       (λ y. has_one_right (FoundInside h at (length bytes)) ms ls y)
-      (λ y. has_one_right (FoundPast h at (length bytes)) ms ls y) h ts x
+      (λ y. has_one_right (FoundPast h at (length bytes)) ms ls y) h (jobs.Fetch (the_handle h)) ts x
 
   both_writes : (ms ls : List Look) (us ts : List Turn) → AreWritesOn h at bytes ls ts
       → AreWrites h at bytes ms us → AreWrites h at bytes (ms ++ ls) (us ++ ts)
-  both_writes ms ls us ts (x, done) y = go_more h own (Inside (ms ++ ls)) (Past (ms ++ ls)) us ts done
+  both_writes ms ls us ts (x, done) y = go_more h own (Inside (ms ++ ls)) (Past (ms ++ ls))
+      (jobs.Fetch (the_handle h)) (jobs.Fetch (the_handle h)) us ts done
       (left_writes ms ls us y) (right_writes ms ls ts x)
 
   pub writes_then : (v w u : View) → GetsBoth (AreWritesOn h at bytes) v w

@@ -6,6 +6,7 @@ use Rattle.cb_types.specs.declared.config.Config.{Config}
 use Rattle.cb_types.specs.declared.handle.Handle.{Handle}
 use Rattle.cb_types.specs.declared.job.Job.{Job}
 use Rattle.cb_types.specs.declared.job.Job.TheVariants as jobs
+use Rattle.cb_types.specs.declared.order.Kept.{Kept}
 use Rattle.cb_types.specs.declared.reply.Reply.{Reply}
 use Rattle.cb_types.specs.declared.reply.Reply.TheVariants as answer
 use Rattle.cb_ptr.specs.declared.word.State.TheVariants as state
@@ -24,6 +25,7 @@ use Rattle.cb_shared.specs.declared.answers.WriteAnswer.TheVariants as place
 use Rattle.cb_shared.specs.Glances.{IsLastAlone}
 use Rattle.cb_record.specs.Deeds.{deed, happened}
 use Rattle.cb_record.specs.Parts.{Part, Grows, grown, nothing_more, sum}
+use Rattle.cb_shared.specs.OrdersKept.{KeepInTurn, LeavesOrder}
 pub use Rattle.cb_shared.specs.Trying.{again_in, newest_tries}
 use Rattle.cb_shared.specs.Reading.{FindsGone, FindsOther, FindsWord, IsReadHere}
 use Rattle.cb_shared.specs.Reading.{looked_twice}
@@ -57,11 +59,12 @@ TellsWhatIs other = ⊥
 abbrev pub IsAnswer : Bool → Reply → Type 0
 IsAnswer again r = TellsOfIt r ⊎ IsLack again r
 
--- nor is one of this job; one that brings its object in tells nothing of it
+-- Nor is one of this job. One that brings its object in tells nothing of it; and a landing, which
+-- speaks of a set and of no object, tells of wear alone: what it lacks is no answer.
 abbrev pub IsAnswerTo : Bool → Job → Reply → Type 0
 IsAnswerTo again (jobs.Swap handle) r = IsLack again r
 IsAnswerTo again (jobs.Fetch handle) r = IsLack again r
-IsAnswerTo again jobs.Land r = IsLack again r
+IsAnswerTo again jobs.Land r = r ≡ answer.Worn
 IsAnswerTo again (jobs.Read handle) r = TellsWhatIs r ⊎ IsLack again r
 IsAnswerTo again other r = IsAnswer again r
 
@@ -99,19 +102,23 @@ abbrev pub IsWriteJob : ℕ → ℕ → List ℕ → Job → Type 0
 IsWriteJob h at bytes job = (job ≡ jobs.Write (the_handle h) at bytes)
     ⊎ ((job ≡ jobs.Fetch (the_handle h)) ⊎ (job ≡ jobs.Land))
 
--- a turn of such a job that was told no answer to its call
+-- a turn of such a job that was told no answer to its call, and what it left of the pass's order
 abbrev pub IsUnanswered : (Job → Type 0) → Turn → Type 0
 IsUnanswered may t = may t.job
-    × ((r : Reply) × (t.reply ≡ Some r) × (IsAnswerTo (tries_again t) t.job r → ⊥))
+    × ((r : Reply) × (t.reply ≡ Some r) × (IsAnswerTo (tries_again t) t.job r → ⊥)
+    × LeavesOrder t.job r t.order t.keeps)
 
 -- Tries that came to nothing: looks at such objects and such turns, which wrote, read and pinned
--- nothing, and by which nothing was made.
-pub record IsInVain (on : ℕ → Type 0) (vain : Turn → Type 0) (d : Part) : Type 0 where
+-- nothing, and by which nothing was made. The first turn began with the order that the pass kept
+-- before, and each other one with that which the turn before it left.
+pub record IsInVain (order : Option Kept) (on : ℕ → Type 0) (vain : Turn → Type 0) (d : Part)
+    : Type 0 where
   pub looks : List Look
   pub turns : List Turn
   pub at : Each (λ (l : Look). on l.handle) looks
   pub of : Each vain turns
   pub idle : Each (λ (t : Turn). happened (deed t) ≡ []) turns
+  pub kept : KeepInTurn order turns
   pub part : d ≡ record nothing_more { looks = looks; turns = turns }
 
 -- looks at this object, and at none
@@ -128,7 +135,7 @@ LooksOf other = AtNone
 
 -- the record grew by such tries alone
 abbrev pub TriesInVain : (ℕ → Type 0) → (Turn → Type 0) → View → View → Type 0
-TriesInVain on vain v w = (d : Part) × IsInVain on vain d × Grows v d w
+TriesInVain on vain v w = (d : Part) × IsInVain v.order on vain d × Grows v d w
 
 -- a turn that found no memory, and nothing else
 abbrev pub TurnLacks : Config → Job → View → View → Type 0
@@ -146,7 +153,7 @@ pub record EndsAtLast (on : ℕ → Type 0) (vain : Turn → Type 0) (ends : Vie
     (v : View) (d : Part) : Type 0 where
   pub before : Part
   pub last : Part
-  pub in_vain : IsInVain on vain before
+  pub in_vain : IsInVain v.order on vain before
   pub ends_so : ends (grown before v) last
   pub part : d ≡ sum before last
 

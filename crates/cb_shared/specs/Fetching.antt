@@ -12,16 +12,25 @@ use Rattle.cb_rule.specs.declared.view.Look.{Look}
 use Rattle.cb_rule.specs.declared.view.View.{View}
 use Rattle.cb_record.specs.Lists.{HasOne}
 
--- a turn so answered brought its object in, or found it there
+-- a turn so answered brought its object in
 abbrev pub brings : Option Reply → Bool
-brings (Some answer.Stays) = true
 brings (Some (answer.Swapped frame)) = true
 brings reply = false
+
+-- or found it here, where another pass brought it in
+abbrev pub finds_here : Option Reply → Bool
+finds_here (Some answer.Stays) = true
+finds_here reply = brings reply
 
 -- whether the object was brought in before, or by one of these turns
 abbrev pub brought_in_by : Bool → List Turn → Bool
 brought_in_by before [] = before
 brought_in_by before (t ∷ ts) = brings t.reply || brought_in_by before ts
+
+-- whether one of these turns brought it in or found it here
+abbrev pub found_here_by : List Turn → Bool
+found_here_by [] = false
+found_here_by (t ∷ ts) = finds_here t.reply || found_here_by ts
 
 -- The job behind a fetch that was told so: rows that it handed out are landed; where its own
 -- row is not lost the object is swapped in; and else it is fetched again.
@@ -30,15 +39,28 @@ job_behind_fetch h (Some (answer.Fetched set position)) = jobs.Land
 job_behind_fetch h (Some answer.Direct) = jobs.Swap (record { n = h })
 job_behind_fetch h told = jobs.Fetch (record { n = h })
 
+-- The job after a landing that was told so. It speaks of a set, in which the object may be no longer:
+-- what it lacks is no answer on the object, which is swapped in by a turn of its own; and else it is
+-- fetched again.
+abbrev pub job_after_land : ℕ → Option Reply → Job
+job_after_land h (Some (answer.Unavailable set lost)) = jobs.Swap (record { n = h })
+job_after_land h (Some (answer.NoRoom frames loose nodes)) = jobs.Swap (record { n = h })
+job_after_land h told = jobs.Fetch (record { n = h })
+
 -- and behind any turn of a call that brings its object in
 abbrev pub job_behind_turn : ℕ → Job → Option Reply → Job
 job_behind_turn h (jobs.Fetch handle) told = job_behind_fetch h told
+job_behind_turn h jobs.Land told = job_after_land h told
 job_behind_turn h job told = jobs.Fetch (record { n = h })
 
--- so behind these turns, the newest first; a fetch comes first
+-- so behind these turns, the newest first, of which this job comes first
+abbrev pub job_onward : ℕ → Job → List Turn → Job
+job_onward h first [] = first
+job_onward h first (t ∷ ts) = job_behind_turn h t.job t.reply
+
+-- a fetch comes first
 abbrev pub job_behind : ℕ → List Turn → Job
-job_behind h [] = jobs.Fetch (record { n = h })
-job_behind h (t ∷ ts) = job_behind_turn h t.job t.reply
+job_behind h ts = job_onward h (jobs.Fetch (record { n = h })) ts
 
 -- A read of a far object brings it in so. Where it was brought in before, and has left again, the
 -- next turn reads it as well.
@@ -60,14 +82,19 @@ AreFetches h before = ComeInOrder (λ ts j. j ≡ job_to_fetch h (brought_in_by 
 abbrev pub AreBringing : ℕ → List Turn → Type 0
 AreBringing h = ComeInOrder (λ ts j. j ≡ job_behind h ts)
 
--- a turn of one try of such a call, which ends with the turn that brings the object in
-abbrev pub IsOfTry : ℕ → List Turn → Job → Type 0
-IsOfTry h ts j = (j ≡ job_behind h ts) × (brought_in_by false ts ≡ false)
+-- A turn of one try of such a call, of which this job comes first. The try ends with the turn that
+-- brings the object in or finds it here.
+abbrev pub IsOfTry : ℕ → Job → List Turn → Job → Type 0
+IsOfTry h first ts j = (j ≡ job_onward h first ts) × (found_here_by ts ≡ false)
 
+abbrev pub TriesOnward : ℕ → Job → List Turn → Type 0
+TriesOnward h first = ComeInOrder (IsOfTry h first)
+
+-- a whole try begins with a fetch
 abbrev pub AreOneTry : ℕ → List Turn → Type 0
-AreOneTry h = ComeInOrder (IsOfTry h)
+AreOneTry h = TriesOnward h (jobs.Fetch (record { n = h }))
 
--- the newest one is no fetch behind which a row is still to be landed or swapped in
+-- behind the newest one no row is still to be landed, nor the object to be swapped in
 abbrev pub AreDone : ℕ → List Turn → Type 0
 AreDone h ts = job_behind h ts ≡ jobs.Fetch (record { n = h })
 
@@ -95,10 +122,14 @@ abbrev pub AreFetchesTo : ℕ → Bool → Bool → List Turn → Type 0
 AreFetchesTo h before after ts =
     AreFetches h before ts × (after ≡ brought_in_by before ts) × AreDone h ts
 
--- so of one try that does not read it, whether or not it was brought in before
+-- so of one try that does not read it, or of one whose job comes first, whether or not it was brought
+-- in before
+abbrev pub TriesOnwardTo : ℕ → Job → Bool → Bool → List Turn → Type 0
+TriesOnwardTo h first before after ts = TriesOnward h first ts
+    × (after ≡ brought_in_by before ts) × (job_onward h first ts ≡ jobs.Fetch (record { n = h }))
+
 abbrev pub AreBringingTo : ℕ → Bool → Bool → List Turn → Type 0
-AreBringingTo h before after ts =
-    AreOneTry h ts × (after ≡ brought_in_by before ts) × AreDone h ts
+AreBringingTo h = TriesOnwardTo h (jobs.Fetch (record { n = h }))
 
 -- The job of a write's next turn, where that of a read is this one: its own where a read swaps the
 -- object in; where a read lands a row it does so too, if its bytes lie inside of the object, and
@@ -108,13 +139,25 @@ IsWriteFor own inside past (jobs.Swap handle) job = job ≡ own
 IsWriteFor own inside past jobs.Land job = ((job ≡ jobs.Land) × inside) ⊎ ((job ≡ own) × past)
 IsWriteFor own inside past other job = job ≡ other
 
--- each of these turns has such a job by those before it
+-- each of these turns has such a job by those before it, where a read would begin with this one
+abbrev pub WritesOnward : ℕ → Job → Type 0 → Type 0 → Job → List Turn → Type 0
+WritesOnward h own inside past first =
+    ComeInOrder (λ ts j. IsWriteFor own inside past (job_onward h first ts) j)
+
 abbrev pub GoAsWrite : ℕ → Job → Type 0 → Type 0 → List Turn → Type 0
-GoAsWrite h own inside past = ComeInOrder (λ ts j. IsWriteFor own inside past (job_behind h ts) j)
+GoAsWrite h own inside past = WritesOnward h own inside past (jobs.Fetch (record { n = h }))
 
 -- so where the call goes on behind them
 abbrev pub GoesOnAsWrite : ℕ → Job → Type 0 → Type 0 → List Turn → Type 0
 GoesOnAsWrite h own inside past ts = GoAsWrite h own inside past ts × AreDone h ts
+
+-- those that begin with a landing, of bytes that lie inside of the object; and where the call goes on
+abbrev pub LandsOnward : ℕ → Job → List Turn → Type 0
+LandsOnward h own = WritesOnward h own (Unit {0}) ⊥ jobs.Land
+
+abbrev pub LandsOn : ℕ → Job → List Turn → Type 0
+LandsOn h own ts =
+    LandsOnward h own ts × (job_onward h jobs.Land ts ≡ jobs.Fetch (record { n = h }))
 
 -- a look that found the object far, with so many bytes from the byte number `at` on inside of it;
 -- and one with these past its end

@@ -2,6 +2,7 @@ pub mod Seats
 pub mod SeatLaws
 pub mod Handles
 pub mod Trying
+pub mod OrdersKept
 pub mod Passes
 pub mod Glances
 pub mod Claims

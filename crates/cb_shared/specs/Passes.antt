@@ -13,6 +13,7 @@ use Rattle.cb_rule.specs.Steps.{nothing, opener, stand}
 use Rattle.cb_shared.specs.declared.pass.Pass.{Pass}
 use Rattle.cb_shared.specs.declared.pass.Pin.{Pin}
 use Rattle.cb_shared.specs.declared.runtime.Shared.{Shared}
+use Rattle.cb_shared.specs.OrdersKept.{AreOfPasses}
 use Rattle.cb_shared.specs.Seats.{record_at}
 
 -- the record of a pass
@@ -49,6 +50,7 @@ pub record IsAtRest (c : Config) (v : View) : Type 0 where
   pub written : Each (λ (e : Entry). e.handle < c.handles) v.written
   pub seen : Each (λ (s : Seen). s.handle < c.handles) v.seen
   pub pins : Each (PinFits c) v.pins
+  pub orders : AreOfPasses v.turns v.order
 
 -- the pass is one of this runtime
 pub record IsPassOf (s : Shared) (p : Pass) : Type 0 where

@@ -11,10 +11,12 @@ use Rattle.cb_swapin.specs.declared.fetching.Fetching.{Fetching}
 use Rattle.cb_swapin.specs.declared.fetching.Fetching.TheVariants as fetching
 use Rattle.cb_rule.specs.declared.turn.Turn.{Turn}
 use Rattle.cb_rule.specs.declared.view.View.{View}
+use Rattle.cb_shared.specs.declared.ways.Landing.{Landing}
+use Rattle.cb_shared.specs.declared.ways.Landing.TheVariants as landing
 use Rattle.cb_shared.specs.declared.ways.Way.{Way}
 use Rattle.cb_shared.specs.declared.ways.Way.TheVariants as ways
 use Rattle.cb_shared.specs.Calls.{IsLack}
-use Rattle.cb_shared.specs.Fetching.{brings, job_behind_fetch}
+use Rattle.cb_shared.specs.Fetching.{brings, job_after_land, job_behind_fetch}
 
 -- the reply that answers the call, if one does
 abbrev pub way_told : Way → Option Reply
@@ -55,3 +57,36 @@ IsWayOf again before after (Ok (fetching.Order o)) (Ok way) =
 IsWayOf again before after (Ok (fetching.Answer r)) (Ok way) = IsWayBy again before after r way
 IsWayOf again before after (Err e) (Err f) = Unit {0}
 IsWayOf again before after fetching result = ⊥
+
+-- ---- the landing of the row that was made
+-- the reply that answers the call, if one does
+abbrev pub landing_told : Landing → Option Reply
+landing_told (landing.Told told) = told
+landing_told landing.Lacks = None
+
+-- What the landing was told: where it lacks something the object is swapped in by a turn of its own,
+-- and else it is fetched again.
+abbrev pub IsLandingTold : Landing → Option Reply → Type 0
+IsLandingTold landing.Lacks told =
+    (h : ℕ) → job_after_land h told ≡ jobs.Swap (record { n = h })
+IsLandingTold (landing.Told r) told =
+    (h : ℕ) → job_after_land h told ≡ jobs.Fetch (record { n = h })
+
+-- one turn of a landing, and by its reply it is known whether the object was brought in
+abbrev pub IsLandedBy : Landing → Bool → Bool → List Turn → Type 0
+IsLandedBy l before after ts = (t : Turn) × (ts ≡ t ∷ []) × (t.job ≡ jobs.Land)
+    × IsLandingTold l t.reply × (after ≡ (brings t.reply || before))
+
+-- a landing lacks shards or room
+abbrev pub LandingLacks : Reply → Type 0
+LandingLacks (answer.Unavailable set lost) = Unit {0}
+LandingLacks (answer.NoRoom frames loose nodes) = Unit {0}
+LandingLacks other = ⊥
+
+-- what the call comes to by the reply of a landing
+abbrev pub IsLandingOf : Bool → Bool → Reply → Landing → Type 0
+IsLandingOf before after r landing.Lacks = LandingLacks r × (after ≡ before)
+IsLandingOf before after r (landing.Told (Some q)) =
+    (q ≡ r) × (r ≡ answer.Worn) × (after ≡ before)
+IsLandingOf before after r (landing.Told None) =
+    (LandingLacks r → ⊥) × (r ≢ answer.Worn) × (after ≡ (brings (Some r) || before))

@@ -4,7 +4,9 @@ ghost use Rattle.std.specs.Prelude.{◌≡◌, ◌+◌, ◌<◌, ◌≤◌, ℕ,
 ghost use Rattle.std.specs.Prelude.{IfOk, OnErr};
 ghost use Rattle.cb_types.specs.Config.{most_bytes};
 ghost use Rattle.cb_types.specs.declared.job.Job.TheVariants as jobs;
+ghost use Rattle.cb_types.specs.declared.order.Kept.TheVariants.{Decode};
 ghost use Rattle.cb_types.specs.declared.reply.Reply.{Reply};
+ghost use Rattle.cb_types.specs.Orders.{IsDecodable};
 ghost use Rattle.cb_shared.specs.declared.answers.WriteAnswer.TheVariants as places;
 ghost use Rattle.cb_core.specs.Jobs.{IsJob, NeedsNoOrder};
 ghost use Rattle.cb_rule.specs.Steps.{Knows};
@@ -16,7 +18,8 @@ ghost use Rattle.cb_shared.specs.Calls.{WriteStops, WriteTries};
 ghost use Rattle.cb_record.specs.Parts.{Part, Grows};
 ghost use Rattle.cb_shared.specs.Fetching.{AreFetches, AreFetchesTo, AreWrites, AreWritesOn};
 ghost use Rattle.cb_shared.specs.Fetching.{GetsBoth, GetsTurns, GoAsWrite, GoesOnAsWrite};
-ghost use Rattle.cb_shared.specs.Fetching.{IsOneAtMost, IsOneMore, IsOneOf};
+ghost use Rattle.cb_shared.specs.Fetching.{IsOneAtMost, IsOneMore, IsOneOf, LandsOn};
+ghost use Rattle.cb_shared.specs.Fetching.{LandsOnward};
 ghost use Rattle.cb_shared.specs.Making.{MakesNew, TriesNew};
 ghost use Rattle.cb_shared.specs.Passes.{IsPassOf, record_of};
 ghost use Rattle.cb_shared.specs.Reading.{ReadFinds, looked};
@@ -30,9 +33,9 @@ use crate::pass::Pass;
 use crate::reading::{ReadAnswer, read_pinned};
 use crate::runtime::Shared;
 use crate::waiting::Patience;
-use crate::ways::Way;
+use crate::ways::{Landing, Way, is_worn};
 use crate::writing::is_inside;
-use cb_types::{Bytes, Handle, Job, NoMemory, Reply};
+use cb_types::{Bytes, DecodeOrder, Handle, Job, NoMemory, Reply};
 use std::alloc::Global;
 use std::sync::Wait;
 
@@ -355,13 +358,46 @@ impl Shared {
         match self.find_way(rt, pass, h, patience)? {
             Way::Made(order) => {
                 if is_inside(word, at, bytes.len()) {
-                    self.land_order(rt, alloc, pass, order, patience)
+                    self.land_or_write(rt, alloc, pass, h, at, bytes, order, patience)
                 } else {
                     self.write_by_turn(rt, alloc, pass, h, at, bytes, patience)
                 }
             }
             Way::Direct => self.write_by_turn(rt, alloc, pass, h, at, bytes, patience),
             Way::Told(told) => Ok(told),
+        }
+    }
+
+    /// Makes the row of the order that the pass keeps and lands it. What the landing lacks is no
+    /// answer on the object, which is written by a turn of the job Write then.
+    fn land_or_write<R: Wait>(
+        &self,
+        rt: &R,
+        alloc: Global,
+        pass: &mut Pass,
+        h: Handle,
+        at: u32,
+        bytes: &[u8],
+        order: DecodeOrder,
+        patience: &mut Patience,
+    ) -> Result<Option<Reply>, NoMemory>
+        requires of { IsPassOf self.now pass.old }
+        requires knows { Knows h.n (record_of pass.old) }
+        requires kept { (record_of pass.old).order ≡ Some (Decode order) }
+        requires fits { IsDecodable order }
+        ensures of { IsPassOf self.now pass.new }
+        ensures write { IfOk result (λ o. TriesBy self.now.config AtNone
+            (IsWriteJob h.n at bytes.now) o (record_of pass.old) (record_of pass.new)) }
+        ensures error { OnErr result (StopsBy self.now.config AtNone
+            (IsWriteJob h.n at bytes.now) (record_of pass.old) (record_of pass.new)) }
+        ensures jobs { GetsTurns (LandsOnward h.n (jobs.Write h at bytes.now))
+            (record_of pass.old) (record_of pass.new) }
+        ensures on { IfOk result (λ o. o ≡ None → GetsTurns (LandsOn h.n
+            (jobs.Write h at bytes.now)) (record_of pass.old) (record_of pass.new)) }
+    {
+        match self.land_order(rt, alloc, pass, order, patience)? {
+            Landing::Lacks => self.write_by_turn(rt, alloc, pass, h, at, bytes, patience),
+            Landing::Told(told) => Ok(told),
         }
     }
 
@@ -419,7 +455,8 @@ fn is_answer(again: bool, job: &Job, reply: &Reply) -> bool
     ensures no { result ≡ false → IsAnswerTo again job.now reply.now → ⊥ }
 {
     match job {
-        Job::Swap { .. } | Job::Fetch { .. } | Job::Land => is_lack(again, reply),
+        Job::Swap { .. } | Job::Fetch { .. } => is_lack(again, reply),
+        Job::Land => is_worn(reply),
         Job::Read { .. } => tells_what_is(reply) || is_lack(again, reply),
         _ => tells_of_it(reply) || is_lack(again, reply),
     }

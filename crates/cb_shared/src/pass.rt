@@ -80,11 +80,12 @@ impl Pass {
         self.share
     }
 
-    /// Whether the newest turn of the pass was refused for want of loose spans alone and is made
-    /// again, as the calls that try again do: with so many frames more spans may come loose. They
-    /// are 2k + 360, and 28k + 2,600 where the span that the turn needed frames for, or one in
-    /// local memory, had more than one page; k is that of the code in force. False where the pass
-    /// has made no turn. Takes no memory and waits for nobody.
+    /// Whether the newest turn of the pass's record was answered NoRoom with fewer than k loose
+    /// spans, and with so many frames that more may come loose: the calls that try again make a
+    /// turn again then. The frames are 2k + 360 at the least, and 28k + 2,600 where the span that
+    /// the turn needed frames for, or one in local memory, had more than one page; k is that of the
+    /// code in force. False where the record has no turn. Where the pass took another one in that
+    /// had made turns, the newest turn is that one's. Takes no memory and waits for nobody.
     pub fn again(&self) -> bool
         ensures { result ≡ again_in (record_of self.now).turns }
     {

@@ -1,6 +1,6 @@
 //! How a call waits for others before it looks again.
 ghost use Rattle.std.specs.Prelude.{◌≡◌, ◌+◌, ◌≤◌, ◌||◌, false, if◌then◌else◌, min, Some};
-ghost use Rattle.cb_shared.specs.Fetching.{brings};
+ghost use Rattle.cb_shared.specs.Fetching.{brings, finds_here};
 
 use crate::runtime::Shared;
 use cb_types::Reply;
@@ -67,18 +67,17 @@ impl Shared {
     }
 
     /// Waits after a turn that did not answer its call, unless it brought the object in, or found
-    /// it there: then the next look comes at once.
+    /// it here, where another pass brought it in: then the next look comes at once.
     pub fn wait_behind<R: Wait>(&self, rt: &R, reply: &Reply, patience: &mut Patience)
         ensures brought { patience.new.brought
             ≡ (brings (Some reply.now) || patience.old.brought) }
-        ensures waits { patience.new.waits ≡ (if brings (Some reply.now) then patience.old.waits
-            else min (patience.old.waits + 1) 46) }
+        ensures waits { patience.new.waits ≡ (if finds_here (Some reply.now)
+            then patience.old.waits else min (patience.old.waits + 1) 46) }
     {
-        if brings(reply) {
-            patience.brought = true
-        } else {
-            self.wait(rt, patience)
+        if !finds_here(reply) {
+            self.wait(rt, patience);
         }
+        patience.brought = brings(reply) | patience.brought;
     }
 
     /// Sleeps 16 microseconds, doubled so often, 6 times at most. It sleeps on the last word of the
@@ -95,9 +94,19 @@ impl Shared {
     }
 }
 
-/// Whether a turn with this reply brought its object in, or found it there.
+/// Whether a turn with this reply brought its object in.
 fn brings(reply: &Reply) -> bool
     ensures { result ≡ brings (Some reply.now) }
+{
+    match reply {
+        Reply::Swapped { .. } => true,
+        _ => false,
+    }
+}
+
+/// Whether it did, or found the object here.
+fn finds_here(reply: &Reply) -> bool
+    ensures { result ≡ finds_here (Some reply.now) }
 {
     match reply {
         Reply::Stays | Reply::Swapped { .. } => true,

@@ -5,11 +5,12 @@ ghost use Rattle.cb_types.specs.declared.job.Job.TheVariants as jobs;
 ghost use Rattle.cb_types.specs.declared.order.Kept.TheVariants.{Decode};
 ghost use Rattle.cb_types.specs.declared.reply.Reply.TheVariants as answer;
 ghost use Rattle.cb_types.specs.Orders.{IsDecodable};
-ghost use Rattle.cb_shared.specs.Ways.{HasWay, IsFound, IsWayOf, way_told};
+ghost use Rattle.cb_shared.specs.Ways.{HasWay, IsFound, IsLandedBy, IsLandingOf, IsWayOf};
+ghost use Rattle.cb_shared.specs.Ways.{LandingLacks, landing_told, way_told};
 ghost use Rattle.cb_shared.specs.Calls.{AtNone, Brings, OfThis, StopsBy, TriesBy, TurnStops};
 ghost use Rattle.cb_shared.specs.Calls.{TurnTries};
 ghost use Rattle.cb_shared.specs.Fetching.{AreBringingTo, AreOneTry, GetsTurns};
-ghost use Rattle.cb_shared.specs.Fetching.{IsOneAtMost, IsOneMore, IsOneOf};
+ghost use Rattle.cb_shared.specs.Fetching.{IsOneAtMost, IsOneOf, TriesOnward, TriesOnwardTo};
 ghost use Rattle.cb_shared.specs.Passes.{IsPassOf, record_of};
 
 use crate::calling::is_lack;
@@ -33,13 +34,25 @@ pub(crate) enum Way {
     Told(Option<Reply>),
 }
 
+/// What a call comes to by the landing of a row.
+#[derive(Drop)]
+pub(crate) enum Landing {
+    /// The row's set lacks shards, or there is no room for it: the call makes a turn on its own
+    /// object, which may be in that set no longer.
+    Lacks,
+    /// Worn by the count of turns; else the call looks again.
+    Told(Option<Reply>),
+}
+
 impl Shared {
     /// Turns that bring a far object in, for a call that looks at it again: one of the job Fetch,
-    /// and behind it one of the job Land with the row that was made outside of the far lock, or one
-    /// of the job Swap where its own row is not lost. The reply of the last one where it tells why
-    /// the object can't be brought in: Unavailable, NoRoom, or Worn by the count of turns. Else
-    /// None, after a wait where others stand in its way, and without one where the object is here
-    /// now. Where there is no memory to make the row, the pass keeps the order. Waits.
+    /// and after it one of the job Land with the row that was made outside of the far lock, or one
+    /// of the job Swap where its own row is not lost. A landing speaks of a set, in which the object
+    /// may be no longer: where that set lacks shards, or there is no room for the row, a turn of the
+    /// job Swap comes after it. The reply of the last one where it tells why the object can't be
+    /// brought in: Unavailable and NoRoom by a turn on this object, or Worn by the count of turns.
+    /// Else None, after a wait where others stand in its way, and without one where the object is
+    /// here now. Where there is no memory to make the row, the pass keeps the order. Waits.
     pub fn bring<R: Wait>(
         &self,
         rt: &R,
@@ -60,7 +73,7 @@ impl Shared {
             patience.old.brought patience.new.brought) (record_of pass.old) (record_of pass.new)) }
     {
         match self.find_way(rt, pass, h, patience)? {
-            Way::Made(order) => self.land_order(rt, alloc, pass, order, patience),
+            Way::Made(order) => self.land_or_swap(rt, alloc, pass, h, order, patience),
             Way::Direct => self.try_turn(rt, alloc, pass, &Job::Swap { handle: h }, patience),
             Way::Told(told) => Ok(told),
         }
@@ -116,6 +129,37 @@ impl Shared {
         }
     }
 
+    /// Makes the row of the order that the pass keeps and lands it. What the landing lacks is no
+    /// answer on the object, which is swapped in by a turn of its own then.
+    fn land_or_swap<R: Wait>(
+        &self,
+        rt: &R,
+        alloc: Global,
+        pass: &mut Pass,
+        h: Handle,
+        order: DecodeOrder,
+        patience: &mut Patience,
+    ) -> Result<Option<Reply>, NoMemory>
+        requires of { IsPassOf self.now pass.old }
+        requires handle { h.n < self.now.config.handles }
+        requires kept { (record_of pass.old).order ≡ Some (Decode order) }
+        requires fits { IsDecodable order }
+        ensures of { IsPassOf self.now pass.new }
+        ensures brings { IfOk result (λ o. TriesBy self.now.config AtNone (Brings h.n) o
+            (record_of pass.old) (record_of pass.new)) }
+        ensures error { OnErr result (StopsBy self.now.config AtNone (Brings h.n)
+            (record_of pass.old) (record_of pass.new)) }
+        ensures jobs { GetsTurns (TriesOnward h.n jobs.Land) (record_of pass.old)
+            (record_of pass.new) }
+        ensures brought { IfOk result (λ o. o ≡ None → GetsTurns (TriesOnwardTo h.n jobs.Land
+            patience.old.brought patience.new.brought) (record_of pass.old) (record_of pass.new)) }
+    {
+        match self.land_order(rt, alloc, pass, order, patience)? {
+            Landing::Lacks => self.try_turn(rt, alloc, pass, &Job::Swap { handle: h }, patience),
+            Landing::Told(told) => Ok(told),
+        }
+    }
+
     /// Makes the row of the order that the pass keeps, while no lock is held, and lands it by a
     /// turn. Where there is no memory for the row no turn is made.
     pub(crate) fn land_order<R: Wait>(
@@ -125,31 +169,63 @@ impl Shared {
         pass: &mut Pass,
         order: DecodeOrder,
         patience: &mut Patience,
-    ) -> Result<Option<Reply>, NoMemory>
+    ) -> Result<Landing, NoMemory>
         requires of { IsPassOf self.now pass.old }
         requires kept { (record_of pass.old).order ≡ Some (Decode order) }
         requires fits { IsDecodable order }
         ensures of { IsPassOf self.now pass.new }
-        ensures turn { IfOk result (λ o. TurnTries self.now.config jobs.Land o
+        ensures turn { IfOk result (λ l. TurnTries self.now.config jobs.Land (landing_told l)
             (record_of pass.old) (record_of pass.new)) }
         ensures error { OnErr result (TurnStops self.now.config jobs.Land (record_of pass.old)
             (record_of pass.new)) }
         ensures one { GetsTurns (IsOneAtMost jobs.Land) (record_of pass.old)
             (record_of pass.new) }
-        ensures brought { IfOk result (λ o. o ≡ None → GetsTurns (IsOneMore jobs.Land
-            patience.old.brought patience.new.brought) (record_of pass.old) (record_of pass.new)) }
+        ensures landed { IfOk result (λ l. GetsTurns (IsLandedBy l patience.old.brought
+            patience.new.brought) (record_of pass.old) (record_of pass.new)) }
     {
         match run_decode(alloc, order) {
             Ok(done) => {
                 let reply = self.land(rt, alloc, pass, done)?;
-                if is_lack(pass.again(), &reply) {
-                    return Ok(Some(reply));
-                }
-                self.wait_behind(rt, &reply, patience);
-                Ok(None)
+                Ok(self.landing_of(rt, reply, patience))
             }
             Err(_) => Err(NoMemory),
         }
+    }
+
+    /// What the call comes to by the reply of a landing, after a wait where others stand in its way.
+    fn landing_of<R: Wait>(&self, rt: &R, reply: Reply, patience: &mut Patience) -> Landing
+        ensures { IsLandingOf patience.old.brought patience.new.brought reply result }
+    {
+        if is_of_set(&reply) {
+            return Landing::Lacks;
+        }
+        if is_worn(&reply) {
+            return Landing::Told(Some(reply));
+        }
+        self.wait_behind(rt, &reply, patience);
+        Landing::Told(None)
+    }
+}
+
+/// Whether a landing was told what its set lacks, or that there is no room for the row.
+fn is_of_set(reply: &Reply) -> bool
+    ensures yes { result ≡ true → LandingLacks reply.now }
+    ensures no { result ≡ false → LandingLacks reply.now → ⊥ }
+{
+    match reply {
+        Reply::Unavailable { .. } | Reply::NoRoom { .. } => true,
+        _ => false,
+    }
+}
+
+/// Whether a turn was refused by the count of turns.
+pub(crate) fn is_worn(reply: &Reply) -> bool
+    ensures yes { result ≡ true → reply.now ≡ answer.Worn }
+    ensures no { result ≡ false → reply.now ≡ answer.Worn → ⊥ }
+{
+    match reply {
+        Reply::Worn => true,
+        _ => false,
     }
 }
 

@@ -35,6 +35,8 @@ pub(crate) enum Course {
     Frees,
     /// So, while the set loses too many shards.
     Loses,
+    /// So, while the object is freed, another one keeps its position, and the set loses too many.
+    Strays,
 }
 
 /// What is done with a runtime in which nothing was made.
@@ -84,6 +86,7 @@ pub(crate) fn plan_of(body: Body) -> Plan {
         Body::Values => (1, None),
         Body::Crashes | Body::Order(Course::Rebuild) => (2, Some(4)),
         Body::Order(Course::Batch | Course::Batches) => (2, Some(0)),
+        Body::Order(Course::Strays) => (3, Some(2)),
         Body::Order(_) => (2, Some(2)),
         _ => (1, Some(0)),
     };

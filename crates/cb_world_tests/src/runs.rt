@@ -141,8 +141,9 @@ fn calls_on_one_thread_are_answered_by_the_tables(rt: HostRuntime) -> Result<(),
 
 /// A batch whose parities are made by an order, and one beside which a second pass makes turns; and
 /// of a set whose data shards are lost an order that is left, and one that is landed: where nothing
-/// was done meanwhile, where a row was made again, where the set is gone, and where it lost more.
-const WITH_ORDERS: [Body; 7] = [
+/// was done meanwhile, where a row was made again, where the set is gone, where it lost more, and
+/// where the object had left a set that did.
+const WITH_ORDERS: [Body; 8] = [
     Body::Order(Course::Batch),
     Body::Order(Course::Batches),
     Body::Order(Course::Fetch),
@@ -150,6 +151,7 @@ const WITH_ORDERS: [Body; 7] = [
     Body::Order(Course::Rebuild),
     Body::Order(Course::Frees),
     Body::Order(Course::Loses),
+    Body::Order(Course::Strays),
 ];
 
 #[test]

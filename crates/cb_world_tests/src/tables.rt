@@ -324,6 +324,33 @@ static LOSES: [Line; 1] = [(
     Told::Just(Plain::Lost),
 )];
 
+/// The object is freed, and another one keeps its position live; and a third node crashes.
+const STRAYED: Between = (
+    Some((1, Deed::Free, Told::Count(Number::Version, 2))),
+    Some((1, Deed::Crash(2), Told::Count(Number::Epoch, 3))),
+);
+
+/// The landing tells what its set lacks; the object itself is freed, and no call on it tells that it
+/// was unavailable. The other one is.
+static STRAYS: [Line; 4] = [
+    (
+        1,
+        By::Between(STRAYED),
+        Call::Land,
+        0,
+        Told::Just(Plain::Lost),
+    ),
+    (
+        1,
+        By::Itself,
+        Call::Turn(Deed::Read),
+        0,
+        Told::Just(Plain::Freed),
+    ),
+    (1, By::Itself, Call::Read, 0, Told::Just(Plain::Freed)),
+    (2, By::Itself, Call::Read, 0, Told::Just(Plain::Lost)),
+];
+
 /// The end of the versions.
 static WEARS: [Line; 3] = [
     (
@@ -386,6 +413,7 @@ fn tables_of(body: Body) -> (&'static [Line], &'static [Line]) {
         Body::Order(Course::Rebuild) => (&LOST, &REBUILD),
         Body::Order(Course::Frees) => (&LOST, &FREES),
         Body::Order(Course::Loses) => (&LOST, &LOSES),
+        Body::Order(Course::Strays) => (&LOST, &STRAYS),
         Body::Values | Body::Crew(_) => (&NONE, &NONE),
     }
 }

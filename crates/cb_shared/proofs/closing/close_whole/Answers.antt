@@ -55,4 +55,5 @@ returns c = let s = c.args.shared in let v = record_of c.args.pass in
           c.give_back.new.pass.seat.id ws slots c.close_with-rows.ensures.values.2)
           _ (all_put s.config ws c.args.still.desk (ap (λ (d : Words). d.settings) c.requires.desk) _ _
           c.fill_objects.ensures c.fill_memory.ensures) c.take_far-far.ensures c.requires.seats;
+      orders = c.requires.of.rest.orders;
     }

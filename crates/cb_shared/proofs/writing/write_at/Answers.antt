@@ -54,6 +54,7 @@ returns-then-found-saw-clause-rest c =
       written = r.written;
       seen = r.seen;
       pins = r.pins;
+      orders = r.orders;
     })
 
 pub returns-then-found-saw-clause-write : goal.returns-then-found-saw-clause-write

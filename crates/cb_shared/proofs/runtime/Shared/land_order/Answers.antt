@@ -6,10 +6,9 @@ use Rattle.cb_types.specs.declared.order.DecodeOrder.{DecodeOrder}
 use Rattle.cb_types.specs.declared.order.Kept.TheVariants.{Decode}
 use Rattle.cb_shared.specs.Calls.{AtNone, OfThis}
 use Rattle.cb_shared.specs.Passes.{record_of}
-use Rattle.cb_shared.proofs.CallSteps.{err_always, stops_at_once, turn_ends, turn_in_vain}
-use Rattle.cb_shared.proofs.CallSteps.{turn_without}
-use Rattle.cb_shared.proofs.Fetches.{at_most_one, one_more, one_of}
-use Rattle.cb_shared.proofs.FarSteps.{order_kept}
+use Rattle.cb_shared.proofs.CallSteps.{err_always, stops_at_once, turn_without}
+use Rattle.cb_shared.proofs.Fetches.{at_most_one, one_of}
+use Rattle.cb_shared.proofs.FarSteps.{landed_by, order_kept, landing_tries}
 use Rattle.cb_shared.proofs.runtime.Shared.land_order.Goals as goal
 
 pub land-requires-clause-kept : goal.land-requires-clause-kept
@@ -33,42 +32,28 @@ returns-in_err-reply-in-Ok-clause-one g c = at_most_one Land (record_of c.args.p
     (record_of c.land.new.pass) (one_of c.args.self.now.config Land _ (record_of c.args.pass.now)
     (record_of c.land.new.pass) c.in_err-reply-in-Ok.ensures.turn)
 
-pub returns-in_err-reply-in-Ok-clause-brought : goal.returns-in_err-reply-in-Ok-clause-brought
-returns-in_err-reply-in-Ok-clause-brought g c = IfOk-from_err _ _ c.from_residual.ensures.0
-
-pub returns-then-is_lack-clause-of : goal.returns-then-is_lack-clause-of
-returns-then-is_lack-clause-of g c = c.in_ok-reply-in-Ok.ensures.of
-
-pub returns-then-is_lack-clause-turn : goal.returns-then-is_lack-clause-turn
-returns-then-is_lack-clause-turn g c = turn_ends c.args.self.now.config Land c.in_ok-reply-in-Ok.reply
-    c.again.result (record_of c.args.pass.now) (record_of c.land.new.pass) c.again.ensures
-    (c.is_lack.ensures.yes c.if-is_lack.true) c.in_ok-reply-in-Ok.ensures.turn
-
-pub returns-then-is_lack-clause-one : goal.returns-then-is_lack-clause-one
-returns-then-is_lack-clause-one g c = at_most_one Land (record_of c.args.pass.now)
-    (record_of c.land.new.pass) (one_of c.args.self.now.config Land _ (record_of c.args.pass.now)
-    (record_of c.land.new.pass) c.in_ok-reply-in-Ok.ensures.turn)
-
-pub returns-then-is_lack-clause-brought : goal.returns-then-is_lack-clause-brought
-returns-then-is_lack-clause-brought g c = λ none. absurd (none-some _ (sym none))
+pub returns-in_err-reply-in-Ok-clause-landed : goal.returns-in_err-reply-in-Ok-clause-landed
+returns-in_err-reply-in-Ok-clause-landed g c = IfOk-from_err _ _ c.from_residual.ensures.0
 
 pub returns-in-Ok-clause-of : goal.returns-in-Ok-clause-of
 returns-in-Ok-clause-of g c = c.in_ok-reply-in-Ok.ensures.of
 
 pub returns-in-Ok-clause-turn : goal.returns-in-Ok-clause-turn
-returns-in-Ok-clause-turn g c = turn_in_vain c.args.self.now.config Land c.in_ok-reply-in-Ok.reply
-    c.again.result (record_of c.args.pass.now) (record_of c.land.new.pass) tt c.again.ensures
-    (c.is_lack.ensures.no c.if-is_lack.false) c.in_ok-reply-in-Ok.ensures.turn
+returns-in-Ok-clause-turn g c = landing_tries c.args.self.now.config c.args.patience.now.brought
+    c.landing_of.new.patience.brought c.in_ok-reply-in-Ok.reply c.landing_of.result
+    (record_of c.args.pass.now) (record_of c.land.new.pass) c.in_ok-reply-in-Ok.ensures.turn
+    c.landing_of.ensures
 
 pub returns-in-Ok-clause-one : goal.returns-in-Ok-clause-one
 returns-in-Ok-clause-one g c = at_most_one Land (record_of c.args.pass.now)
     (record_of c.land.new.pass) (one_of c.args.self.now.config Land _ (record_of c.args.pass.now)
     (record_of c.land.new.pass) c.in_ok-reply-in-Ok.ensures.turn)
 
-pub returns-in-Ok-clause-brought : goal.returns-in-Ok-clause-brought
-returns-in-Ok-clause-brought g c = λ none. one_more c.args.self.now.config Land c.in_ok-reply-in-Ok.reply
-    c.args.patience.now.brought c.wait_behind.new.patience.brought (record_of c.args.pass.now)
-    (record_of c.land.new.pass) c.in_ok-reply-in-Ok.ensures.turn c.wait_behind.ensures.brought
+pub returns-in-Ok-clause-landed : goal.returns-in-Ok-clause-landed
+returns-in-Ok-clause-landed g c = landed_by c.args.self.now.config c.args.patience.now.brought
+    c.landing_of.new.patience.brought c.in_ok-reply-in-Ok.reply c.landing_of.result
+    (record_of c.args.pass.now) (record_of c.land.new.pass) c.in_ok-reply-in-Ok.ensures.turn
+    c.landing_of.ensures
 
 pub returns-clause-of : goal.returns-clause-of
 returns-clause-of g c = c.requires.of

@@ -59,6 +59,7 @@ returns-clause-of c = let m = moved (goal.at.returns-clause-of c).After-load in
         written = r.written;
         seen = r.seen;
         pins = r.pins;
+        orders = r.orders;
       });
     }
 
