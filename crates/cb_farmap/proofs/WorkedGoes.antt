@@ -14,6 +14,7 @@ use Rattle.cb_rule.specs.Own.{IsAlone}
 use Rattle.cb_rule.specs.Steps.{IsNewest, with_look}
 use Rattle.cb_record.specs.Parts.{Part, grown, nothing_more, sum}
 use Rattle.cb_shared.specs.Calls.{ReadCallEnds, ReadGives}
+use Rattle.cb_shared.specs.Fetching.{job_to_fetch}
 use Rattle.cb_shared.specs.Reading.{looked_freed, read_once}
 use Rattle.cb_farmap.specs.declared.kept.Cannot.{Cannot}
 use Rattle.cb_farmap.specs.declared.kept.Cannot.TheVariants as cannot
