@@ -245,7 +245,7 @@ module _ (world : WorldState) (seal : Seal) (there : IsLeft world seal) where
     array = no_array;
     buckets = no_map 64;
     go = (opener small, no_array, no_map 64, popped,
-        opener small, no_array, no_map 64, looked, refl, refl, refl);
+        (opener small, no_array, no_map 64, looked, (refl, refl, refl)));
     both = both;
   }
 

@@ -39,14 +39,14 @@ module _ (c : Config) (first : ℕ) (ask : Ask) (v u w : View) (same : w ≡ u) 
   goes_by (Err e) (Some x) tells gives stops = lacked x tells stops
 
 -- what holds of what was answered, or of the record where there was no memory, and beside it
-both_ok : {P : Reply → Type 0} {X : Type 0} (r : Result Reply Want) → IfOk r P → X
+both_ok : (P : Reply → Type 0) (X : Type 0) (r : Result Reply Want) → IfOk r P → X
     → IfOk r (λ x. P x × X)
-both_ok (Ok x) holds beside = (holds, beside)
-both_ok (Err e) holds beside = tt
+both_ok P X (Ok x) holds beside = (holds, beside)
+both_ok P X (Err e) holds beside = tt
 
-both_err : {P X : Type 0} (r : Result Reply Want) → OnErr r P → X → OnErr r (P × X)
-both_err (Ok x) holds beside = tt
-both_err (Err e) holds beside = (holds, beside)
+both_err : (P X : Type 0) (r : Result Reply Want) → OnErr r P → X → OnErr r (P × X)
+both_err P X (Ok x) holds beside = tt
+both_err P X (Err e) holds beside = (holds, beside)
 
 -- ---- a read, and a write
 module _ (c : Config) (first : ℕ) (k : KeptObject) (v u w : View) (same : w ≡ u)
@@ -55,14 +55,18 @@ module _ (c : Config) (first : ℕ) (k : KeptObject) (v u w : View) (same : w �
       → OnErr r (ReadStops c k.handle.n v u) → IsInOrder (AskRead k) v u
       → Goes c first (AskRead k ∷ []) t v w
   goes_read tells gives stops order = goes_by c first (AskRead k) v u w same r t tells
-      (both_ok r gives order) (both_err r stops order)
+      (both_ok (λ x. ReadGives c k.handle.n x v u) (IsInOrder (AskRead k) v u) r gives order)
+      (both_err (ReadStops c k.handle.n v u) (IsInOrder (AskRead k) v u) r stops order)
 
   pub goes_write : (at : ℕ) (bytes : List ℕ) → Tells (AskWrite k at bytes) r t
       → IfOk r (λ x. WriteAnswers c k.handle.n at bytes x v u)
       → OnErr r (WriteStops c k.handle.n at bytes v u) → IsInOrder (AskWrite k at bytes) v u
       → Goes c first (AskWrite k at bytes ∷ []) t v w
   goes_write at bytes tells gives stops order = goes_by c first (AskWrite k at bytes) v u w same r t
-      tells (both_ok r gives order) (both_err r stops order)
+      tells (both_ok (λ x. WriteAnswers c k.handle.n at bytes x v u)
+      (IsInOrder (AskWrite k at bytes) v u) r gives order)
+      (both_err (WriteStops c k.handle.n at bytes v u) (IsInOrder (AskWrite k at bytes) v u) r stops
+      order)
 
 -- ---- a make
 pub make_gives : (c : Config) (first : ℕ) (bytes : List ℕ) (r : Result Reply Want) (v w : View)

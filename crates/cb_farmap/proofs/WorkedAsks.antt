@@ -1,5 +1,5 @@
 -- Worked examples of calls and plans: what meets each definition, and what breaks one part.
-use Rattle.std.proofs.Common.{◌≡◌, ℕ, [], ◌∷◌, None, Some, Result, Ok, Err, refl, sym, ap, ◌∙◌, subst, arith}
+use Rattle.std.proofs.Common.{◌≡◌, ℕ, false, [], ◌∷◌, None, Some, Result, Ok, Err, refl, sym, ap, ◌∙◌, subst, arith}
 use Rattle.std.proofs.lemmas.List.{append-nil}
 use Rattle.cb_member.specs.declared.no_memory.NoMemory.{NoMemory as Want}
 use Rattle.cb_types.specs.declared.config.Config.{Config}
@@ -154,7 +154,7 @@ module _ (v : View) (t : Turn) where
   five = record { n = 5 }
 
   fetch_first : IsInOrder read still (turned (jobs.Fetch five))
-  fetch_first = (record t { job = jobs.Fetch five } ∷ [], refl, refl, tt)
+  fetch_first = (record t { job = jobs.Fetch five } ∷ [], refl, (refl, tt))
 
   -- a read does not begin with a swap
   first_is : (j : Job) → IsInOrder read still (turned j) → j ≡ jobs.Fetch five

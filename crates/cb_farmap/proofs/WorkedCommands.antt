@@ -347,7 +347,7 @@ all_gone : Go [] [] v no_array
 all_gone = (refl, refl, refl)
 
 one_gone : HasOneHistory two 1 v → Go (command.Pop ∷ []) (Nothing ∷ []) v no_array
-one_gone history = (v, no_array, no_map 64, pops_nothing history, refl, refl, refl)
+one_gone history = (v, no_array, no_map 64, pops_nothing history, (refl, refl, refl))
 
 said_too_little : Go (command.Pop ∷ []) [] v no_array → ⊥
 said_too_little go = go
