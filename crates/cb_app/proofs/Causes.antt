@@ -23,11 +23,12 @@ use Rattle.cb_rule.specs.OneHistory.{IsOneHistory}
 use Rattle.cb_rule.specs.TriesAgain.{tries_again}
 use Rattle.cb_map_text.specs.Plain.{Plain, needs_object, objects}
 use Rattle.cb_map_text.specs.declared.command.FarCommand.{FarCommand}
+use Rattle.cb_shared.specs.Calls.{IsAnswerTo}
 use Rattle.cb_shared.specs.Turning.{Did, DidAs, DidBy, made_by_turn}
 use Rattle.cb_core.specs.Jobs.{NeedsNoOrder}
 use Rattle.cb_shared.proofs.Laws.{asked_alone, makes_full}
 use Rattle.cb_farmap.specs.Commands.{HasOneHistory, IsMake, IsOnObject, IsToldByTurn, made_by_all}
-use Rattle.cb_app.specs.Mapped.{HasTurn, IsCause}
+use Rattle.cb_app.specs.Mapped.{IsCause, IsNewestTold}
 use Rattle.cb_app.specs.Telling.{AreOfOtherNodes}
 use Rattle.cb_app.proofs.CrashesTold.{IsLoss, lost_told, room_told}
 use Rattle.cb_app.proofs.FramesTold.{IsShort, fetch_lacks, frames_taken, land_lacks, make_counted}
@@ -242,7 +243,18 @@ module _ (c : Config) (ok : IsAccepted c) (v : View) (w : WorldState) (closed : 
         by (inl z) = inl z.0
         by (inr z) = inr z
 
-    cause_full : (n : ℕ) → IsMake t.job → r ≡ answer.Full n → IsCause c v w s a (answer.Full n)
+    -- it is the newest of the command
+    newest : (asked : Job → Type 0) (q : Reply) → r ≡ q → asked t.job → IsNewestTold more asked q
+    newest asked q e is = record {
+      turn = t;
+      before = told.before;
+      newest = told.newest;
+      job_is = is;
+      told = told.reply_is ∙ ap (λ (p : Reply). Some p) e;
+      answers = subst (IsAnswerTo (tries_again t) t.job) e told.answers;
+    }
+
+    cause_full : (n : ℕ) → IsMake t.job → r ≡ answer.Full n → IsCause c v w s a more (answer.Full n)
     cause_full n is e =
         let m = make_of t.job is in
         let reply : t.reply ≡ Some (answer.Full n) = told.reply_is ∙ ap (λ (q : Reply). Some q) e in
@@ -251,11 +263,11 @@ module _ (c : Config) (ok : IsAccepted c) (v : View) (w : WorldState) (closed : 
           z.1,
           needs is,
           omega (arith, made, low, most),
-          record { turn = t; there = in_v; job_is = is; told = reply },
+          newest IsMake (answer.Full n) e is,
         )
 
     cause_room : (frames loose nodes : ℕ) → r ≡ answer.NoRoom frames loose nodes
-        → IsCause c v w s a (answer.NoRoom frames loose nodes)
+        → IsCause c v w s a more (answer.NoRoom frames loose nodes)
     cause_room frames loose nodes e =
         let z = room_told 1 c ok v count w.far one t frames loose nodes in_v reply in
         let all = all_taken t in_v frames loose nodes reply in
@@ -264,15 +276,11 @@ module _ (c : Config) (ok : IsAccepted c) (v : View) (w : WorldState) (closed : 
         reply : t.reply ≡ Some (answer.NoRoom frames loose nodes)
         reply = told.reply_is ∙ ap (λ (q : Reply). Some q) e
 
-        by : IsForObject u t.job → HasTurn v (IsOnObject v) (answer.NoRoom frames loose nodes)
+        by : IsForObject u t.job → IsNewestTold more (IsOnObject v) (answer.NoRoom frames loose nodes)
             ⊎ ((needs_object s a ≡ true) × (objects s < c.handles)
-            × HasTurn v IsMake (answer.NoRoom frames loose nodes))
-        by (inr x) = inl (record {
-          turn = t;
-          there = in_v;
-          job_is = on_more u v wrote_all t.job x;
-          told = reply;
-        })
+            × IsNewestTold more IsMake (answer.NoRoom frames loose nodes))
+        by (inr x) = inl (newest (IsOnObject v) (answer.NoRoom frames loose nodes) e
+            (on_more u v wrote_all t.job x))
         by (inl x) =
             let m = make_of t.job x in
             let d = did t in_v (job.Make m.0) (answer.NoRoom frames loose nodes) tt m.1 reply in
@@ -283,37 +291,28 @@ module _ (c : Config) (ok : IsAccepted c) (v : View) (w : WorldState) (closed : 
             inr (
               needs x,
               omega (arith, less, all),
-              record {
-                turn = t;
-                there = in_v;
-                job_is = x;
-                told = reply;
-              },
+              newest IsMake (answer.NoRoom frames loose nodes) e x,
             )
 
-    cause_worn : r ≡ answer.Worn → IsCause c v w s a answer.Worn
+    cause_worn : r ≡ answer.Worn → IsCause c v w s a more answer.Worn
     cause_worn e = (all_counted t in_v reply, by for_object)
       where
         reply : t.reply ≡ Some answer.Worn
         reply = told.reply_is ∙ ap (λ (q : Reply). Some q) e
 
-        by : IsForObject u t.job → HasTurn v IsMake answer.Worn ⊎ HasTurn v (IsOnObject v) answer.Worn
-        by (inl x) = inl (record { turn = t; there = in_v; job_is = x; told = reply })
-        by (inr x) = inr (record {
-          turn = t;
-          there = in_v;
-          job_is = on_more u v wrote_all t.job x;
-          told = reply;
-        })
+        by : IsForObject u t.job → IsNewestTold more (IsOnObject v) answer.Worn
+            ⊎ ((needs_object s a ≡ true) × IsNewestTold more IsMake answer.Worn)
+        by (inr x) = inl (newest (IsOnObject v) answer.Worn e (on_more u v wrote_all t.job x))
+        by (inl x) = inr (needs x, newest IsMake answer.Worn e x)
 
-    pub refused_so : IsCause c v w s a r
+    pub refused_so : IsCause c v w s a more r
     refused_so = by (turn_want c t.start t.acts t.took t.gave u (tries_again t) t.job r for_object told.answers
         told.lacks (λ alone. did t in_v t.job r alone refl told.reply_is))
       where
-        at : (q : Reply) → r ≡ q → IsCause c v w s a q → IsCause c v w s a r
-        at q e x = subst (IsCause c v w s a) (sym e) x
+        at : (q : Reply) → r ≡ q → IsCause c v w s a more q → IsCause c v w s a more r
+        at q e x = subst (IsCause c v w s a more) (sym e) x
 
-        by : Want t.job r → IsCause c v w s a r
+        by : Want t.job r → IsCause c v w s a more r
         by (full n is e) = at (answer.Full n) e (cause_full n is e)
         by (room frames loose nodes e) =
             at (answer.NoRoom frames loose nodes) e (cause_room frames loose nodes e)

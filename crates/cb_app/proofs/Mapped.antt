@@ -6,9 +6,9 @@ use Rattle.cb_types.specs.declared.config.Config.{Config}
 use Rattle.cb_world.specs.World.{WorldState}
 use Rattle.cb_rule.specs.declared.view.View.{View}
 use Rattle.cb_rule.specs.Closing.{IsClosed}
+use Rattle.cb_rule.specs.Steps.{opener}
 use Rattle.cb_map_text.specs.First.{First}
 use Rattle.cb_map_text.specs.Form.{Spells}
-use Rattle.cb_map_text.specs.Plain.{fresh}
 use Rattle.cb_map_text.specs.Reading.{FaultIs}
 use Rattle.cb_map_text.specs.Texts.{refusal_text, said_text}
 use Rattle.cb_map_text.specs.declared.command.FarAnswer.{FarAnswer}
@@ -26,17 +26,22 @@ use Rattle.cb_shared.specs.Joining.{unpinned_all}
 use Rattle.cb_shared.specs.Passes.{IsRuntimeBegun, record_of}
 use Rattle.cb_shared.specs.Sealing.{sealed_record}
 use Rattle.cb_shared.specs.Turning.{Did}
-use Rattle.cb_farmap.specs.Commands.{CommandsGo}
+use Rattle.cb_farmap.specs.Commands.{HaveGone}
 use Rattle.cb_app.specs.declared.ending.Ending.{Ending}
 use Rattle.cb_app.specs.declared.mapping.MapEnd.{MapEnd}
 use Rattle.cb_app.specs.Mapped.{AreAnswered, IsMapped}
 use Rattle.cb_app.specs.Modes.{IsVerdict}
-use Rattle.cb_app.proofs.CommandsTold.{objects_made, told}
+use Rattle.cb_app.proofs.CommandsTold.{objects_made, told, turns_are}
+
+-- without pins there are none to give back
+none_given_back : (v : View) → v.pins ≡ [] → unpinned_all v ≡ v
+none_given_back v none = λ i. record v { pins = sym none i }
 
 -- commands that were run on a runtime of this configuration, which was closed behind them
 module _ (c : Config) (ok : IsAccepted c) (asks : List FarCommand) (few : length asks ≤ 20000)
     (s : Shared) (p q : Pass) (begun : IsRuntimeBegun 1 c s p) (saids : List FarAnswer)
-    (go : CommandsGo s.config 1 fresh (record_of p) asks saids (record_of q))
+    (gone : HaveGone s.config 1 asks saids (record_of p) (record_of q))
+    (loose : (record_of q).pins ≡ [])
     (w : WorldState) (seal : Seal) (closed : IsClosedBy s q w seal) where
   abbrev last : View
   last = sealed_record seal
@@ -47,43 +52,33 @@ module _ (c : Config) (ok : IsAccepted c) (asks : List FarCommand) (few : length
       (subst (λ (n : ℕ). IsClosed Did n s.config (unpinned_all (record_of q)) w) begun.first_is
       closed.closed))
 
-  go_so : CommandsGo c 1 fresh (record_of p) asks saids (record_of q)
-  go_so = subst (λ (d : Config). CommandsGo d 1 fresh (record_of p) asks saids (record_of q))
-      begun.config go
-
-  no_turns : (record_of p).turns ≡ []
-  no_turns = ap (λ (v : View). v.turns) begun.begun
-
-  no_entries : (record_of p).written ≡ []
-  no_entries = ap (λ (v : View). v.written) begun.begun
-
-  turns_are : last.turns ≡ (record_of q).turns
-  turns_are = ap (λ (v : View). v.turns) closed.view
-
-  entries_are : last.written ≡ (record_of q).written
-  entries_are = ap (λ (v : View). v.written) closed.view
+  gone_so : HaveGone c 1 asks saids (opener c) last
+  gone_so = subst (HaveGone c 1 asks saids (opener c))
+      (sym (closed.view ∙ none_given_back (record_of q) loose))
+      (subst (λ (v : View). HaveGone c 1 asks saids v (record_of q)) begun.begun
+      (subst (λ (d : Config). HaveGone d 1 asks saids (record_of p) (record_of q)) begun.config gone))
 
   pub answered : AreAnswered c asks saids w seal
   answered = record {
     shows = closed.world;
     closed = closed_so;
-    told = told c ok (record_of p) (record_of q) last w asks saids few closed_so no_turns no_entries
-        go_so turns_are entries_are;
-    made = objects_made c ok (record_of p) (record_of q) last w asks saids few closed_so no_turns
-        no_entries go_so turns_are entries_are;
+    gone = gone_so;
+    turns_are = turns_are c ok last w asks saids few closed_so gone_so;
+    told = told c ok last w asks saids few closed_so gone_so;
+    made = objects_made c ok last w asks saids few closed_so gone_so;
   }
 
 -- so behind the call that closed it, unless there was no memory
 pub if_answered : (c : Config) → IsAccepted c → (asks : List FarCommand) → length asks ≤ 20000
     → (s : Shared) (p q : Pass) → IsRuntimeBegun 1 c s p → (saids : List FarAnswer)
-    → CommandsGo s.config 1 fresh (record_of p) asks saids (record_of q)
+    → HaveGone s.config 1 asks saids (record_of p) (record_of q) → (record_of q).pins ≡ []
     → (r : Result MapEnd NoMemory) → IfOk r (λ left. left.saids ≡ saids)
     → IfOk r (λ left. IsClosedBy s q left.world left.seal)
     → IfOk r (λ left. AreAnswered c asks left.saids left.world left.seal)
-if_answered c ok asks few s p q begun saids go (Ok left) same closed =
+if_answered c ok asks few s p q begun saids gone loose (Ok left) same closed =
     subst (λ (l : List FarAnswer). AreAnswered c asks l left.world left.seal) (sym same)
-    (answered c ok asks few s p q begun saids go left.world left.seal closed)
-if_answered c ok asks few s p q begun saids go (Err e) same closed = tt
+    (answered c ok asks few s p q begun saids gone loose left.world left.seal closed)
+if_answered c ok asks few s p q begun saids gone loose (Err e) same closed = tt
 
 -- the ending that has them
 pub is_mapped : (c : Config) (asks : List FarCommand) (saids : List FarAnswer) (w : WorldState)

@@ -81,10 +81,10 @@ module _ (sh : Shared) (first : first_version_of sh ≡ 1) (p q : Pass) (of : Is
   so : (ask : FarCommand) (v : View) (a : FarArray) (m : FarMap) (result : Result FarAnswer Want)
       (b : FarArray) (o : FarMap)
       → ((n : ℕ) (s : Plain) → Stands n s v a m → n < 1000000000
-      → IfOk result (λ said. CommandGoes c 1 s ask said v w
+      → IfOk result (λ said. CommandGoes c 1 s ask said v a m w b o
       × Stands (n + 1) (after_said s ask said) w b o)) → Goes_so ask v a m result b o
   so ask v a m result b o f = subst (λ (z : View). IfOk result (λ said. GoesSo c ask v a m said z b o))
-      (sym same) (if_said result (λ n s. Stands n s v a m) (λ n s said. CommandGoes c 1 s ask said v w
+      (sym same) (if_said result (λ n s. Stands n s v a m) (λ n s said. CommandGoes c 1 s ask said v a m w b o
       × Stands (n + 1) (after_said s ask said) w b o) f)
 
   module _ (v : View) (a b : FarArray) (m : FarMap) (plan : List Ask) where

@@ -17,12 +17,13 @@ use Rattle.cb_farmap.specs.declared.kept.Cannot.TheVariants as cannot
 use Rattle.cb_farmap.specs.declared.kept.KeptObject.{KeptObject}
 use Rattle.cb_farmap.specs.declared.map.FarMap.{FarMap}
 use Rattle.cb_farmap.specs.Arrays.{IsCalmArray, Keeps, Stays, list_of}
+use Rattle.cb_farmap.specs.BothNow.{AreOther, IsArrayNow, IsMapNow}
 use Rattle.cb_farmap.specs.Calls.{Answers, Ask, AskWrite, Goes, trouble}
 use Rattle.cb_farmap.specs.Changes.{AreSole, IsCalm}
-use Rattle.cb_farmap.specs.Commands.{CommandGoes, HasOneHistory, refusal_in}
+use Rattle.cb_farmap.specs.Commands.{CommandGoes, HasOneHistory, calls_of, refusal_in}
 use Rattle.cb_farmap.specs.Maps.{kept_of}
 use Rattle.cb_farmap.specs.Objects.{IsObject, blank, numbers_at, object_at}
-use Rattle.cb_farmap.specs.Stands.{AreOther, IsArrayNow, IsMapNow, Says, Stands}
+use Rattle.cb_farmap.specs.Stands.{Says, Stands}
 use Rattle.cb_farmap.specs.Stops.{stop_behind}
 use Rattle.cb_farmap.proofs.Arrays.{all_long}
 use Rattle.cb_farmap.proofs.Commanding.{AreNow, ends_so, said_by}
@@ -160,7 +161,7 @@ module _ (c : Config) (n : ℕ) (s : Plain) (v w : View) (a b : FarArray) (m : F
     (idle : w.fresh ≡ []) (ask : FarCommand) (plan : List Ask)
     (suits : IsPlanFor v (n + 2) s ask plan)
     (writes : (k : KeptObject) (at : ℕ) (bytes : List ℕ) → Has (AskWrite k at bytes) plan → Has k a.kept)
-    (same : KeepsMap s (plain_after s ask)) where
+    (same : KeepsMap s (plain_after s ask)) (its : calls_of v a m ask ≡ plan) where
   well_by : {X : Type 0} → (r : Result X Cannot)
       → IfOk r (λ _. AfterArray n (plain_after s ask) v w a b) → (keeps : Keeps c 1 plan (trouble r) v a w b)
       → trouble r ≡ None → AreSole w (kept_of m.buckets) → AreNow (n + 1) (plain_after s ask) w b m
@@ -179,12 +180,12 @@ module _ (c : Config) (n : ℕ) (s : Plain) (v w : View) (a b : FarArray) (m : F
       → IfOk r (λ _. AfterArray n (plain_after s ask) v w a b)
       → OnErr r (Stays (trouble r) v a w b) → Keeps c 1 plan (trouble r) v a w b
       → (result : Result FarAnswer Want) → IfOk result (Says f r)
-      → IfOk result (λ said. CommandGoes c 1 s ask said v w
+      → IfOk result (λ said. CommandGoes c 1 s ask said v a m w b m
       × Stands (n + 1) (after_said s ask said) w b m)
   array_said f plain r tells after stays keeps (Err none) says = tt
   array_said f plain r tells after stays keeps (Ok said) says =
       let is_quiet : IsCalm (trouble r) = (keeps.calm (calm_array n s v a m st)).0 in
-      ends_so c n s ask v w plan (trouble r) st.record_is st.tallied small suits
+      ends_so c n s ask v w a m plan its (trouble r) st.record_is st.tallied small suits
       (goes c n s v w a b m st small history idle ask plan suits writes (trouble r) keeps) is_quiet
       keeps.on history idle said b m (said_by f plain s ask r tells said says)
       (λ at. well_by r after keeps at

@@ -21,7 +21,7 @@ use Rattle.cb_farmap.specs.declared.map.FarMap.{FarMap}
 use Rattle.cb_farmap.specs.Arrays.{IsGot, IsPopped, IsPushed, IsSet, Keeps, Stays, bytes_with, get_plan, is_full, make_plan, pop_plan, push_plan, set_plan}
 use Rattle.cb_farmap.specs.Calls.{Ask, AskMake, AskRead, AskWrite, trouble}
 use Rattle.cb_farmap.specs.Changes.{with_next}
-use Rattle.cb_farmap.specs.Commands.{CommandGoes, HasOneHistory, refusal_in}
+use Rattle.cb_farmap.specs.Commands.{CommandGoes, HasOneHistory, calls_of, calls_within, refusal_in}
 use Rattle.cb_farmap.specs.Objects.{blank, object_at}
 use Rattle.cb_farmap.specs.Stands.{Says, Stands}
 use Rattle.cb_farmap.proofs.ArrayCommands.{AfterArray, KeepsMap, KeepsOther, array_said, in_range, is_object, long, next_low, one_of}
@@ -199,11 +199,11 @@ module _ (c : Config) (n : ℕ) (s : Plain) (v w : View) (a b : FarArray) (m : F
       → IfOk r (λ _. IsPushed x v a w b) → OnErr r (Stays (trouble r) v a w b)
       → Keeps c 1 (push_plan a.kept a.len x) (trouble r) v a w b
       → (result : Result FarAnswer Want) → IfOk result (Says (λ _. Done) r)
-      → IfOk result (λ said. CommandGoes c 1 s (Push x) said v w
+      → IfOk result (λ said. CommandGoes c 1 s (Push x) said v a m w b m
       × Stands (n + 1) (after_said s (Push x) said) w b m)
   push_ends x r ok stays keeps result says = array_said c n s v w a b m st small history idle (Push x)
       (push_plan a.kept a.len x) (push_suits x (is_full a.kept a.len) refl)
-      (push_writes x (is_full a.kept a.len) refl) (other_list (s.list ++ x ∷ [])) (λ _. Done) (λ _. refl) r
+      (push_writes x (is_full a.kept a.len) refl) (other_list (s.list ++ x ∷ [])) refl (λ _. Done) (λ _. refl) r
       (tells r) (after r ok) stays keeps result says
     where
       tells : (r : Result (Unit {0}) Cannot) → IfOk r (λ _. Done ≡ plain_said s (Push x))
@@ -222,6 +222,9 @@ module _ (c : Config) (n : ℕ) (s : Plain) (v w : View) (a b : FarArray) (m : F
 
     said_within : (said : FarAnswer) → said ≡ within_said s i said
     said_within said = sym (ap (λ (b : Bool). if b then said else Outside (length s.list)) inside)
+
+    its_calls : (plan : List Ask) → calls_within a i plan ≡ plan
+    its_calls plan = ap (λ (b : Bool). if b then plan else []) (lt-ltb i a.len within)
 
     range : i / 128 < length a.kept
     range = in_range n s v a m st i within
@@ -256,10 +259,10 @@ module _ (c : Config) (n : ℕ) (s : Plain) (v w : View) (a b : FarArray) (m : F
         → IfOk r (λ _. IsSet i x v a w b) → OnErr r (Stays (trouble r) v a w b)
         → Keeps c 1 (set_plan a.kept i x) (trouble r) v a w b
         → (result : Result FarAnswer Want) → IfOk result (Says (λ _. Done) r)
-        → IfOk result (λ said. CommandGoes c 1 s (Set i x) said v w
+        → IfOk result (λ said. CommandGoes c 1 s (Set i x) said v a m w b m
         × Stands (n + 1) (after_said s (Set i x) said) w b m)
     set_ends x r ok stays keeps result says = array_said c n s v w a b m st small history idle (Set i x)
-        (set_plan a.kept i x) (set_suits x) (set_writes x) (other_list (slice_set s.list i x)) (λ _. Done)
+        (set_plan a.kept i x) (set_suits x) (set_writes x) (other_list (slice_set s.list i x)) (its_calls (set_plan a.kept i x)) (λ _. Done)
         (λ _. refl) r (tells r) (after r ok) stays keeps result says
       where
         tells : (r : Result (Unit {0}) Cannot) → IfOk r (λ _. Done ≡ plain_said s (Set i x))
@@ -295,10 +298,10 @@ module _ (c : Config) (n : ℕ) (s : Plain) (v w : View) (a b : FarArray) (m : F
     pub get_ends : (r : Result ℕ Cannot) → IfOk r (λ x. IsGot i x v a w b)
         → OnErr r (Stays (trouble r) v a w b) → Keeps c 1 (get_plan a.kept i) (trouble r) v a w b
         → (result : Result FarAnswer Want) → IfOk result (Says (λ x. Number x) r)
-        → IfOk result (λ said. CommandGoes c 1 s (Get i) said v w
+        → IfOk result (λ said. CommandGoes c 1 s (Get i) said v a m w b m
         × Stands (n + 1) (after_said s (Get i) said) w b m)
     get_ends r ok stays keeps result says = array_said c n s v w a b m st small history idle (Get i)
-        (get_plan a.kept i) get_suits get_writes no_list (λ x. Number x) (λ _. refl) r (tells r ok)
+        (get_plan a.kept i) get_suits get_writes no_list (its_calls (get_plan a.kept i)) (λ x. Number x) (λ _. refl) r (tells r ok)
         (after r ok) stays keeps result says
       where
         tells : (r : Result ℕ Cannot) → IfOk r (λ x. IsGot i x v a w b)
@@ -348,11 +351,11 @@ module _ (c : Config) (n : ℕ) (s : Plain) (v w : View) (a b : FarArray) (m : F
   pub pop_ends : (r : Result (Option ℕ) Cannot) → IfOk r (λ o. IsPopped o v a w b)
       → OnErr r (Stays (trouble r) v a w b) → Keeps c 1 (pop_plan a.kept a.len) (trouble r) v a w b
       → (result : Result FarAnswer Want) → IfOk result (Says found_said r)
-      → IfOk result (λ said. CommandGoes c 1 s Pop said v w
+      → IfOk result (λ said. CommandGoes c 1 s Pop said v a m w b m
       × Stands (n + 1) (after_said s Pop said) w b m)
   pop_ends r ok stays keeps result says = array_said c n s v w a b m st small history idle Pop
       (pop_plan a.kept a.len) (pop_suits (a.len == 0) refl) (pop_writes (a.len == 0))
-      (other_list (take (length s.list - 1) s.list)) found_said found_plain r (tells r ok) (after r ok)
+      (other_list (take (length s.list - 1) s.list)) refl found_said found_plain r (tells r ok) (after r ok)
       stays keeps result says
     where
       tells : (r : Result (Option ℕ) Cannot) → IfOk r (λ o. IsPopped o v a w b)
@@ -409,19 +412,22 @@ module _ (c : Config) (n : ℕ) (s : Plain) (v w : View) (a b : FarArray) (m : F
       calls = λ no. refl;
     }
 
-    outside_ends : (ask : FarCommand) → needs_object s ask ≡ false → Outside a.len ≡ plain_said s ask
+    no_calls : (plan : List Ask) → calls_within a i plan ≡ []
+    no_calls plan = ap (λ (b : Bool). if b then plan else []) (le-ltb i a.len past)
+
+    outside_ends : (ask : FarCommand) → calls_of v a m ask ≡ [] → needs_object s ask ≡ false → Outside a.len ≡ plain_said s ask
         → plain_after s ask ≡ s
-        → CommandGoes c 1 s ask (Outside a.len) v w × Stands (n + 1) (after_said s ask (Outside a.len)) w a m
-    outside_ends ask none says after = ends_so c n s ask v w [] None st.record_is st.tallied small
+        → CommandGoes c 1 s ask (Outside a.len) v a m w a m × Stands (n + 1) (after_said s ask (Outside a.len)) w a m
+    outside_ends ask its none says after = ends_so c n s ask v w a m [] its None st.record_is st.tallied small
         (none_made ask none) stays tt (on_same v w stays) history idle (Outside a.len) a m
         (well refl refl says) (λ at. subst (λ (z : View). AreNow (n + 1) (plain_after s ask) z a m) (sym stays)
         (subst (λ (p : Plain). AreNow (n + 1) p v a m) (sym after) as_it_was))
         (λ q at. absurd (let z : None ≡ Some (cannot.Refused q) = at in cc))
 
-    pub outside_set : (x : ℕ) → CommandGoes c 1 s (Set i x) (Outside a.len) v w
+    pub outside_set : (x : ℕ) → CommandGoes c 1 s (Set i x) (Outside a.len) v a m w a m
         × Stands (n + 1) (after_said s (Set i x) (Outside a.len)) w a m
-    outside_set x = outside_ends (Set i x) refl (outside_said Done) (with_same x)
+    outside_set x = outside_ends (Set i x) (no_calls (set_plan a.kept i x)) refl (outside_said Done) (with_same x)
 
-    pub outside_get : CommandGoes c 1 s (Get i) (Outside a.len) v w
+    pub outside_get : CommandGoes c 1 s (Get i) (Outside a.len) v a m w a m
         × Stands (n + 1) (after_said s (Get i) (Outside a.len)) w a m
-    outside_get = outside_ends (Get i) refl (outside_said (Number (slice_index s.list i))) refl
+    outside_get = outside_ends (Get i) (no_calls (get_plan a.kept i)) refl (outside_said (Number (slice_index s.list i))) refl

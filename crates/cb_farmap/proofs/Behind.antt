@@ -51,8 +51,8 @@ on_then v u w a b = record {
 
 call_on : (c : Config) (first : ℕ) (ask : Ask) (r : Reply) (v w : View)
     → CallGives c first ask r v w → GoesOn v w
-call_on c first (AskRead k) r v w (d, x, is) = on_grown v w d is
-call_on c first (AskWrite k at bytes) r v w (d, x, is) = on_grown v w d is
+call_on c first (AskRead k) r v w ((d, x, is), order) = on_grown v w d is
+call_on c first (AskWrite k at bytes) r v w ((d, x, is), order) = on_grown v w d is
 call_on c first (AskMake bytes) r v w x = let g = x.0 in record {
   behind = (g.0.written, ap (λ (z : View). z.written) g.2);
   pins = ap (λ (z : View). z.pins) g.2;
@@ -72,13 +72,13 @@ stop_on c on may v w x =
     let idle = stops_idle c on may v w x in on_grown v w idle.0 idle.2
 
 stops_on : (c : Config) (ask : Ask) (v w : View) → CallStops c ask v w → GoesOn v w
-stops_on c (AskRead k) v w x = stop_on c _ _ v w x
-stops_on c (AskWrite k at bytes) v w x = stop_on c _ _ v w x
+stops_on c (AskRead k) v w x = stop_on c _ _ v w x.0
+stops_on c (AskWrite k at bytes) v w x = stop_on c _ _ v w x.0
 stops_on c (AskMake bytes) v w x = stop_on c _ _ v w x
 
 stops_same : (c : Config) (ask : Ask) (v w : View) → CallStops c ask v w → w.written ≡ v.written
-stops_same c (AskRead k) v w x = stop_same c _ _ v w x
-stops_same c (AskWrite k at bytes) v w x = stop_same c _ _ v w x
+stops_same c (AskRead k) v w x = stop_same c _ _ v w x.0
+stops_same c (AskWrite k at bytes) v w x = stop_same c _ _ v w x.0
 stops_same c (AskMake bytes) v w x = stop_same c _ _ v w x
 
 fails_on : (c : Config) (first : ℕ) (ask : Ask) (e : Cannot) (v w : View)
@@ -103,12 +103,12 @@ goes_on c first (ask ∷ plan) (Some e) v w (inr (u, (r, is, gives), rest)) = on
 pub reads_same : (c : Config) (first : ℕ) (k : KeptObject) (t : Option Cannot) (v w : View)
     → Goes c first (AskRead k ∷ []) t v w → w.written ≡ v.written
 reads_same c first k None v w (u, (r, is, gives), rest) =
-    ap (λ (z : View). z.written) rest ∙ read_written c k.handle.n r v u gives
+    ap (λ (z : View). z.written) rest ∙ read_written c k.handle.n r v u gives.0
 reads_same c first k (Some cannot.NoMemory) v w (inl x) = stops_same c (AskRead k) v w x
 reads_same c first k (Some (cannot.Refused reply)) v w (inl x) =
-    read_written c k.handle.n reply v w x.1
+    read_written c k.handle.n reply v w x.1.0
 reads_same c first k (Some (cannot.Foreign handle kept found)) v w (inl (of, (r, odd, gives))) =
-    read_written c k.handle.n r v w gives
+    read_written c k.handle.n r v w gives.0
 reads_same c first k (Some e) v w (inr (u, it, rest)) = absurd rest
 
 -- a write that is told no version
@@ -118,7 +118,7 @@ pub write_off : (c : Config) (first : ℕ) (k : KeptObject) (at : ℕ) (bytes : 
 write_off c first k at bytes cannot.NoMemory v w (inl x) calm =
     stops_same c (AskWrite k at bytes) v w x
 write_off c first k at bytes (cannot.Refused reply) v w (inl x) calm =
-    write_same c k.handle.n at bytes reply v w x.0 x.1
+    write_same c k.handle.n at bytes reply v w x.0 x.1.0
 write_off c first k at bytes (cannot.Foreign handle kept found) v w x calm = absurd calm
 write_off c first k at bytes e v w (inr (u, it, rest)) calm = absurd rest
 

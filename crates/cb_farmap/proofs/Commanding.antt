@@ -15,12 +15,13 @@ use Rattle.cb_farmap.specs.declared.array.FarArray.{FarArray}
 use Rattle.cb_farmap.specs.declared.kept.Cannot.{Cannot}
 use Rattle.cb_farmap.specs.declared.kept.Cannot.TheVariants as cannot
 use Rattle.cb_farmap.specs.declared.map.FarMap.{FarMap}
+use Rattle.cb_farmap.specs.BothNow.{AreBothNow, AreOther, IsArrayNow, IsMapNow}
 use Rattle.cb_farmap.specs.Calls.{Ask, Goes, trouble}
 use Rattle.cb_farmap.specs.Changes.{GoesOn, IsCalm}
-use Rattle.cb_farmap.specs.Commands.{CommandGoes, HasOneHistory, made_by_all, refusal_in}
+use Rattle.cb_farmap.specs.Commands.{CommandGoes, HasOneHistory, calls_of, made_by_all, refusal_in}
 use Rattle.cb_farmap.specs.Maps.{kept_of}
-use Rattle.cb_farmap.specs.Stands.{AreOther, IsArrayNow, IsMapNow, IsRecordAfter, Says, Stands}
-use Rattle.cb_farmap.proofs.PlanAdds.{IsPlanFor, after_is, low_after, refused_goes, said_goes, written_same}
+use Rattle.cb_farmap.specs.Stands.{IsRecordAfter, Says, Stands}
+use Rattle.cb_farmap.proofs.PlanAdds.{IsPlanFor, PlanGoes, after_is, low_after, refused_goes, said_goes, written_same}
 
 -- what is said of the calls of a command: what the list and the map say, or why one was refused
 pub data SaidBy (s : Plain) (ask : FarCommand) (t : Option Cannot) (said : FarAnswer) : Type 0 where
@@ -44,8 +45,8 @@ pub record AreNow (n : ℕ) (s : Plain) (v : View) (a : FarArray) (m : FarMap) :
   pub few : length s.list ≤ n
   pub few_keys : m.len ≤ n
 
-module _ (c : Config) (n : ℕ) (s : Plain) (ask : FarCommand) (v w : View) (plan : List Ask)
-    (t : Option Cannot) (before : IsRecordAfter n s v) (tallied : IsTallied s)
+module _ (c : Config) (n : ℕ) (s : Plain) (ask : FarCommand) (v w : View) (a : FarArray)
+    (m : FarMap) (plan : List Ask) (its : calls_of v a m ask ≡ plan) (t : Option Cannot) (before : IsRecordAfter n s v) (tallied : IsTallied s)
     (small : n < 1000000000) (suits : IsPlanFor v (n + 2) s ask plan)
     (goes : Goes c 1 plan t v w) (calm : IsCalm t) (on : GoesOn v w) (history : HasOneHistory c 1 w)
     (idle : w.fresh ≡ []) where
@@ -77,7 +78,7 @@ module _ (c : Config) (n : ℕ) (s : Plain) (ask : FarCommand) (v w : View) (pla
 
   -- the command goes, and what stands behind it
   abbrev pub Ends : FarAnswer → FarArray → FarMap → Type 0
-  Ends said b o = CommandGoes c 1 s ask said v w × Stands (n + 1) (after_said s ask said) w b o
+  Ends said b o = CommandGoes c 1 s ask said v a m w b o × Stands (n + 1) (after_said s ask said) w b o
 
   stand : (later : Plain) (b : FarArray) (o : FarMap) → IsRecordAfter (n + 1) later w
       → IsTallied later → AreNow (n + 1) later w b o → Stands (n + 1) later w b o
@@ -91,6 +92,31 @@ module _ (c : Config) (n : ℕ) (s : Plain) (ask : FarCommand) (v w : View) (pla
     few_keys = x.few_keys;
   }
 
+  both : (later : Plain) (b : FarArray) (o : FarMap) → AreNow (n + 1) later w b o
+      → AreBothNow later w b o
+  both later b o x = record {
+    array_is = x.array_is;
+    map_is = x.map_is;
+    other = x.other;
+  }
+
+  -- the calls of the plan are those of the command
+  goes_so : (said : FarAnswer) (b : FarArray) (o : FarMap) → PlanGoes c 1 s ask plan said v w
+      → AreNow (n + 1) (after_said s ask said) w b o → CommandGoes c 1 s ask said v a m w b o
+  goes_so said b o x now = record {
+    calls = subst (λ (p : List Ask). Goes c 1 p (refusal_in said) v w) (sym its) x.calls;
+    both = both (after_said s ask said) b o now;
+    entries = x.entries;
+    wrote = x.wrote;
+    few = x.few;
+    more = x.more;
+    turned = x.turned;
+    jobs_are = x.jobs_are;
+    history = x.history;
+    made = x.made;
+    is_said = x.is_said;
+  }
+
   went_well : (said : FarAnswer) (b : FarArray) (o : FarMap) → refusal_in said ≡ None
       → said ≡ plain_said s ask → Goes c 1 plan None v w
       → AreNow (n + 1) (plain_after s ask) w b o → Ends said b o
@@ -98,12 +124,12 @@ module _ (c : Config) (n : ℕ) (s : Plain) (ask : FarCommand) (v w : View) (pla
       let x = said_goes c 1 (n + 2) one_low s tallied ask plan v w suits before.made history said none
       is go in
       let after = after_is c 1 (n + 2) one_low s tallied ask plan v w suits before.made history said
-      none in (
-        x,
+      none in
+      let there = subst (λ (p : Plain). AreNow (n + 1) p w b o) (sym after) now in (
+        goes_so said b o x there,
         stand (after_said s ask said) b o (record_now (after_said s ask said) x.made
             (low_after c 1 (n + 2) one_low s tallied ask plan v w suits before.made history go old_low))
-            (subst IsTallied (sym after) (stays_tallied s ask tallied))
-            (subst (λ (p : Plain). AreNow (n + 1) p w b o) (sym after) now),
+            (subst IsTallied (sym after) (stays_tallied s ask tallied)) there,
       )
 
   went_ill : (r : Reply) (b : FarArray) (o : FarMap) → IsCalm (Some (cannot.Refused r))
@@ -113,7 +139,7 @@ module _ (c : Config) (n : ℕ) (s : Plain) (ask : FarCommand) (v w : View) (pla
       let top : n + 2 < 2 ^ 64 - 1 = omega (arith, small) in
       let x = refused_goes c 1 (n + 2) one_low s tallied ask plan v w suits before.made history r go
       quiet top before.whole before.idle old_low in (
-        x,
+        goes_so (saying.Refused r) b o x now,
         stand s b o (record_now s x.made (subst
             (λ (es : List Entry). Each (λ (e : Entry). e.version ≤ n + 2) es)
             (sym (written_same c 1 (n + 2) one_low s tallied ask plan v w suits before.made history r go

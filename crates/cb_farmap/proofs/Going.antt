@@ -6,12 +6,13 @@ use Rattle.cb_types.specs.declared.config.Config.{Config}
 use Rattle.cb_types.specs.declared.job.Job.TheVariants as jobs
 use Rattle.cb_types.specs.declared.reply.Reply.{Reply}
 use Rattle.cb_rule.specs.declared.view.View.{View}
-use Rattle.cb_shared.specs.Calls.{LooksOf, OfThis, TurnGives, TurnStops}
+use Rattle.cb_shared.specs.Calls.{LooksOf, OfThis, ReadGives, ReadStops, TurnGives, TurnStops, WriteAnswers, WriteStops}
 use Rattle.cb_shared.specs.Making.{MakesNew}
 use Rattle.cb_shared.proofs.Laws.{stops_at_once}
 use Rattle.cb_farmap.specs.declared.kept.Cannot.{Cannot}
 use Rattle.cb_farmap.specs.declared.kept.Cannot.TheVariants as cannot
-use Rattle.cb_farmap.specs.Calls.{Ask, AskMake, CallGives, CallStops, Fails, Goes, Tells, trouble}
+use Rattle.cb_farmap.specs.declared.kept.KeptObject.{KeptObject}
+use Rattle.cb_farmap.specs.Calls.{Ask, AskMake, AskRead, AskWrite, CallGives, CallStops, Fails, Goes, IsInOrder, Tells, trouble}
 
 module _ (c : Config) (first : ℕ) (ask : Ask) (v u w : View) (same : w ≡ u) where
   failed : (e : Cannot) → Fails c first ask e v u → Goes c first (ask ∷ []) (Some e) v w
@@ -36,6 +37,36 @@ module _ (c : Config) (first : ℕ) (ask : Ask) (v u w : View) (same : w ≡ u) 
       failed (cannot.Foreign handle kept found) (of, (r, odd, gives))
   goes_by (Err e) None tells gives stops = absurd cc
   goes_by (Err e) (Some x) tells gives stops = lacked x tells stops
+
+-- what holds of what was answered, or of the record where there was no memory, and beside it
+both_ok : (P : Reply → Type 0) (X : Type 0) (r : Result Reply Want) → IfOk r P → X
+    → IfOk r (λ x. P x × X)
+both_ok P X (Ok x) holds beside = (holds, beside)
+both_ok P X (Err e) holds beside = tt
+
+both_err : (P X : Type 0) (r : Result Reply Want) → OnErr r P → X → OnErr r (P × X)
+both_err P X (Ok x) holds beside = tt
+both_err P X (Err e) holds beside = (holds, beside)
+
+-- ---- a read, and a write
+module _ (c : Config) (first : ℕ) (k : KeptObject) (v u w : View) (same : w ≡ u)
+    (r : Result Reply Want) (t : Option Cannot) where
+  pub goes_read : Tells (AskRead k) r t → IfOk r (λ x. ReadGives c k.handle.n x v u)
+      → OnErr r (ReadStops c k.handle.n v u) → IsInOrder (AskRead k) v u
+      → Goes c first (AskRead k ∷ []) t v w
+  goes_read tells gives stops order = goes_by c first (AskRead k) v u w same r t tells
+      (both_ok (λ x. ReadGives c k.handle.n x v u) (IsInOrder (AskRead k) v u) r gives order)
+      (both_err (ReadStops c k.handle.n v u) (IsInOrder (AskRead k) v u) r stops order)
+
+  pub goes_write : (at : ℕ) (bytes : List ℕ) → Tells (AskWrite k at bytes) r t
+      → IfOk r (λ x. WriteAnswers c k.handle.n at bytes x v u)
+      → OnErr r (WriteStops c k.handle.n at bytes v u) → IsInOrder (AskWrite k at bytes) v u
+      → Goes c first (AskWrite k at bytes ∷ []) t v w
+  goes_write at bytes tells gives stops order = goes_by c first (AskWrite k at bytes) v u w same r t
+      tells (both_ok (λ x. WriteAnswers c k.handle.n at bytes x v u)
+      (IsInOrder (AskWrite k at bytes) v u) r gives order)
+      (both_err (WriteStops c k.handle.n at bytes v u) (IsInOrder (AskWrite k at bytes) v u) r stops
+      order)
 
 -- ---- a make
 pub make_gives : (c : Config) (first : ℕ) (bytes : List ℕ) (r : Result Reply Want) (v w : View)

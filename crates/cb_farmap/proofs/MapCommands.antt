@@ -18,14 +18,15 @@ use Rattle.cb_farmap.specs.declared.kept.Cannot.{Cannot}
 use Rattle.cb_farmap.specs.declared.kept.Cannot.TheVariants as cannot
 use Rattle.cb_farmap.specs.declared.kept.KeptObject.{KeptObject}
 use Rattle.cb_farmap.specs.declared.map.FarMap.{FarMap}
+use Rattle.cb_farmap.specs.BothNow.{AreOther, IsArrayNow}
 use Rattle.cb_farmap.specs.BucketChanges.{ChangesOne}
 use Rattle.cb_farmap.specs.Calls.{Answers, Ask, AskMake, AskRead, AskWrite, Goes, trouble}
 use Rattle.cb_farmap.specs.Changes.{AreSole, IsCalm, with_next}
-use Rattle.cb_farmap.specs.Commands.{CommandGoes, HasOneHistory, HasWritten, refusal_in}
+use Rattle.cb_farmap.specs.Commands.{CommandGoes, HasOneHistory, HasWritten, calls_of, refusal_in}
 use Rattle.cb_farmap.specs.MapChanges.{KeepsMap, StaysMap}
 use Rattle.cb_farmap.specs.Maps.{IsCalmMap, kept_of, map_of}
 use Rattle.cb_farmap.specs.Objects.{IsObject, blank, object_at}
-use Rattle.cb_farmap.specs.Stands.{AreOther, IsArrayNow, Says, Stands}
+use Rattle.cb_farmap.specs.Stands.{Says, Stands}
 use Rattle.cb_farmap.specs.Stops.{stop_behind}
 use Rattle.cb_farmap.proofs.ArrayEach.{is_write}
 use Rattle.cb_farmap.proofs.Arrays.{array_on, list_on}
@@ -166,7 +167,7 @@ module _ (c : Config) (n : ℕ) (s : Plain) (v w : View) (a : FarArray) (m o : F
     (idle : w.fresh ≡ []) (ask : FarCommand) (plan : List Ask)
     (suits : IsPlanFor v (n + 2) s ask plan)
     (writes : (k : KeptObject) (at : ℕ) (bytes : List ℕ) → Has (AskWrite k at bytes) plan
-    → Has k (kept_of m.buckets)) where
+    → Has k (kept_of m.buckets)) (its : calls_of v a m ask ≡ plan) where
   module _ (t : Option Cannot) (keeps : KeepsMap c 1 plan t v m w o) where
     calm : IsCalm t
     calm = (keeps.calm (calm_map n s v a m st)).0
@@ -240,11 +241,11 @@ module _ (c : Config) (n : ℕ) (s : Plain) (v w : View) (a : FarArray) (m o : F
       → IfOk r (λ _. AfterMap n (plain_after s ask) w a o)
       → OnErr r (StaysMap (trouble r) v m w o) → KeepsMap c 1 plan (trouble r) v m w o
       → (result : Result FarAnswer Want) → IfOk result (Says f r)
-      → IfOk result (λ said. CommandGoes c 1 s ask said v w
+      → IfOk result (λ said. CommandGoes c 1 s ask said v a m w a o
       × Stands (n + 1) (after_said s ask said) w a o)
   map_said f plain same r tells after stays keeps (Err none) says = tt
   map_said f plain same r tells after stays keeps (Ok said) says =
-      ends_so c n s ask v w plan (trouble r) st.record_is st.tallied small suits
+      ends_so c n s ask v w a m plan its (trouble r) st.record_is st.tallied small suits
       (goes (trouble r) keeps) (calm (trouble r) keeps) keeps.on history idle said a o
       (said_by f plain s ask r tells said says)
       (λ at. well_by r same after keeps at (sole_array (trouble r) keeps (inl at)))

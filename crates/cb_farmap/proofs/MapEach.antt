@@ -18,6 +18,7 @@ use Rattle.cb_farmap.specs.declared.bucket.Bucket.{Bucket}
 use Rattle.cb_farmap.specs.declared.kept.Cannot.{Cannot}
 use Rattle.cb_farmap.specs.declared.kept.KeptObject.{KeptObject}
 use Rattle.cb_farmap.specs.declared.map.FarMap.{FarMap}
+use Rattle.cb_farmap.specs.BothNow.{AreOther}
 use Rattle.cb_farmap.specs.BucketChanges.{Becomes, dropped_at, dropped_in, put_at, put_in, value_in}
 use Rattle.cb_farmap.specs.Buckets.{IsBucket, all_pairs, bucket_in, no_bucket, pairs_in, with_bucket}
 use Rattle.cb_farmap.specs.Calls.{Answers, Ask, AskMake, AskRead, AskWrite, Goes, trouble}
@@ -28,7 +29,7 @@ use Rattle.cb_farmap.specs.Objects.{IsObject, blank, object_at}
 use Rattle.cb_farmap.specs.Pairs.{Pair, pair_of, place_of}
 use Rattle.cb_farmap.specs.PairBytes.{object_bytes}
 use Rattle.cb_farmap.specs.Plans.{drop_asks, drop_plan, is_filled, last_asks, look_plan, move_asks, objects_to, put_ask, put_plan, reads_to, write_at}
-use Rattle.cb_farmap.specs.Stands.{AreOther, Says, Stands}
+use Rattle.cb_farmap.specs.Stands.{Says, Stands}
 use Rattle.cb_farmap.proofs.ArrayEach.{is_write, no_write_make, one_write}
 use Rattle.cb_farmap.proofs.FindIn.{long_in}
 use Rattle.cb_farmap.proofs.BucketList.{all_own}
@@ -382,10 +383,10 @@ module _ (c : Config) (n : ℕ) (s : Plain) (v w : View) (a : FarArray) (m o : F
       → OnErr r (StaysMap (trouble r) v m w o)
       → KeepsMap c 1 (look_plan v.written mine key) (trouble r) v m w o
       → (result : Result FarAnswer Want) → IfOk result (Says found_said r)
-      → IfOk result (λ said. CommandGoes c 1 s (Look key) said v w
+      → IfOk result (λ said. CommandGoes c 1 s (Look key) said v a m w a o
       × Stands (n + 1) (after_said s (Look key) said) w a o)
   look_ends r ok stays keeps result says = map_said c n s v w a m o st small history idle (Look key)
-      (look_plan v.written mine key) (look_suits n s v a m st key) (look_writes n s v a m st key) found_said
+      (look_plan v.written mine key) (look_suits n s v a m st key) (look_writes n s v a m st key) refl found_said
       found_plain (record { list = refl; longest = refl }) r (tells r ok) (after r ok) stays keeps result says
     where
       tells : (r : Result (Option ℕ) Cannot) → IfOk r (λ x. IsLooked key x v m w o)
@@ -485,10 +486,10 @@ module _ (c : Config) (n : ℕ) (s : Plain) (v w : View) (a : FarArray) (m o : F
       → OnErr r (StaysMap (trouble r) v m w o)
       → KeepsMap c 1 (put_plan v.written mine (key, x)) (trouble r) v m w o
       → (result : Result FarAnswer Want) → IfOk result (Says found_said r)
-      → IfOk result (λ said. CommandGoes c 1 s (Put key x) said v w
+      → IfOk result (λ said. CommandGoes c 1 s (Put key x) said v a m w a o
       × Stands (n + 1) (after_said s (Put key x) said) w a o)
   put_ends x r ok stays keeps result says = map_said c n s v w a m o st small history idle (Put key x)
-      (put_calls x) suits (put_writes n s v a m st key x) found_said found_plain
+      (put_calls x) suits (put_writes n s v a m st key x) refl found_said found_plain
       (record { list = refl; longest = refl }) r (tells r ok) (after r ok keeps) stays keeps result says
     where
       suits : IsPlanFor v (n + 2) s (Put key x) (put_calls x)
@@ -558,10 +559,10 @@ module _ (c : Config) (n : ℕ) (s : Plain) (v w : View) (a : FarArray) (m o : F
       → OnErr r (StaysMap (trouble r) v m w o)
       → KeepsMap c 1 (drop_plan v.written mine key) (trouble r) v m w o
       → (result : Result FarAnswer Want) → IfOk result (Says found_said r)
-      → IfOk result (λ said. CommandGoes c 1 s (Drop key) said v w
+      → IfOk result (λ said. CommandGoes c 1 s (Drop key) said v a m w a o
       × Stands (n + 1) (after_said s (Drop key) said) w a o)
   drop_ends r ok stays keeps result says = map_said c n s v w a m o st small history idle (Drop key)
-      drop_calls suits (drop_writes n s v a m st key) found_said found_plain
+      drop_calls suits (drop_writes n s v a m st key) refl found_said found_plain
       (record { list = refl; longest = refl }) r (tells r ok) (after r ok keeps) stays keeps result says
     where
       suits : IsPlanFor v (n + 2) s (Drop key) drop_calls

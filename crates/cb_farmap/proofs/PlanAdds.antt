@@ -23,7 +23,7 @@ use Rattle.cb_map_text.specs.declared.command.FarAnswer.TheVariants as saying
 use Rattle.cb_map_text.specs.declared.command.FarCommand.{FarCommand}
 use Rattle.cb_farmap.specs.Calls.{Ask, AskMake, AskRead, AskWrite, CallGives, Goes, IsRefusal, IsSuccess}
 use Rattle.cb_farmap.specs.Changes.{IsCalm}
-use Rattle.cb_farmap.specs.Commands.{CommandGoes, HasOneHistory, HasWritten, IsMake, IsOnObject, IsOutOfPlace, IsSaid, IsToldByTurn, made_by_all, refusal_in}
+use Rattle.cb_farmap.specs.Commands.{HasOneHistory, HasWritten, IsMake, IsOnObject, IsOutOfPlace, IsSaid, IsToldByTurn, made_by_all, refusal_in}
 use Rattle.cb_farmap.specs.declared.kept.Cannot.{Cannot}
 use Rattle.cb_farmap.specs.declared.kept.Cannot.TheVariants as cannot
 use Rattle.cb_farmap.specs.declared.kept.KeptObject.{KeptObject}
@@ -520,6 +520,20 @@ place_of again (AskMake bytes) j r refusal calm asked answers x =
     make_off bytes r refusal (subst (λ (i : Job). IsOutOfPlace i r) asked x)
 
 -- ---- what a command comes to
+-- what the calls of a plan come to, by which a command that finds this list and map is told so
+pub record PlanGoes (c : Config) (first : ℕ) (s : Plain) (a : FarCommand) (plan : List Ask)
+    (said : FarAnswer) (v w : View) : Type 0 where
+  pub calls : Goes c first plan (refusal_in said) v w
+  pub entries : List Entry
+  pub wrote : w.written ≡ entries ++ v.written
+  pub few : length entries ≤ 1
+  pub more : List Turn
+  pub turned : w.turns ≡ more ++ v.turns
+  pub jobs_are : Each (λ t. IsMake t.job ⊎ IsOnObject w t.job) more
+  pub history : HasOneHistory c first w
+  pub made : made_by_all w.turns ≡ objects (after_said s a said)
+  pub is_said : IsSaid s a said w more
+
 module _ (c : Config) (first most : ℕ) (low : first ≤ most) (s : Plain) (tallied : IsTallied s)
     (a : FarCommand) (plan : List Ask) (v w : View) (suits : IsPlanFor v most s a plan)
     (made : made_by_all v.turns ≡ objects s) (history : HasOneHistory c first w) where
@@ -564,9 +578,8 @@ module _ (c : Config) (first most : ℕ) (low : first ≤ most) (s : Plain) (tal
   after_is said none = (plain_one said none).after
 
   pub said_goes : (said : FarAnswer) → refusal_in said ≡ None → said ≡ plain_said s a
-      → Goes c first plan None v w → CommandGoes c first s a said v w
+      → Goes c first plan None v w → PlanGoes c first s a plan said v w
   said_goes said none is go = record {
-    plan = plan;
     calls = subst (λ (o : Option Cannot). Goes c first plan o v w) (sym none) go;
     entries = x.entries;
     wrote = x.wrote;
@@ -639,9 +652,8 @@ module _ (c : Config) (first most : ℕ) (low : first ≤ most) (s : Plain) (tal
         absurd (never_last (handle_of y.refused.ask) most v top whole idle old saw)
     told (inr x) = by_turn x
 
-    pub refused_goes : CommandGoes c first s a (saying.Refused r) v w
+    pub refused_goes : PlanGoes c first s a plan (saying.Refused r) v w
     refused_goes = record {
-      plan = plan;
       calls = go;
       entries = z.entries;
       wrote = z.wrote;

@@ -414,6 +414,6 @@ make_adds c first bytes r v w (d, x, is) new = adds_in_all c (AskMake bytes) r v
 
 pub call_adds : (c : Config) (first : ℕ) (ask : Ask) (r : Reply) (v w : View)
     → CallGives c first ask r v w → CallAdds c ask r v w
-call_adds c first (AskRead k) r v w x = read_adds c k r v w x
-call_adds c first (AskWrite k at bytes) r v w x = write_one c k at bytes r v w x
+call_adds c first (AskRead k) r v w x = read_adds c k r v w x.0
+call_adds c first (AskWrite k at bytes) r v w x = write_one c k at bytes r v w x.0
 call_adds c first (AskMake bytes) r v w x = make_adds c first bytes r v w x.0 x.1

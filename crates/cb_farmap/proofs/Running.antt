@@ -6,14 +6,15 @@ use Rattle.std.specs.List.{IsDistinct}
 use Rattle.cb_types.specs.declared.config.Config.{Config}
 use Rattle.cb_rule.specs.declared.view.View.{View}
 use Rattle.cb_rule.specs.Steps.{opener}
-use Rattle.cb_map_text.specs.Plain.{Plain, after_said, fresh}
+use Rattle.cb_map_text.specs.Plain.{Plain, after_all, after_said, fresh}
 use Rattle.cb_map_text.specs.declared.command.FarAnswer.{FarAnswer}
 use Rattle.cb_map_text.specs.declared.command.FarCommand.{FarCommand}
 use Rattle.cb_map_text.proofs.PublicLaws.{fresh_tallied}
 use Rattle.cb_farmap.specs.declared.array.FarArray.{FarArray}
 use Rattle.cb_farmap.specs.declared.map.FarMap.{FarMap}
 use Rattle.cb_farmap.specs.Arrays.{no_array}
-use Rattle.cb_farmap.specs.Commands.{CommandGoes, CommandsGo}
+use Rattle.cb_farmap.specs.BothNow.{AreBothNow}
+use Rattle.cb_farmap.specs.Commands.{CommandGoes, CommandsGo, HaveGone}
 use Rattle.cb_farmap.specs.Maps.{IsMapOf, map_of, no_map}
 use Rattle.cb_farmap.specs.Stands.{GoesSo, Stands}
 use Rattle.cb_farmap.proofs.FreshMap.{fresh_map}
@@ -24,8 +25,11 @@ pub record Run (c : Config) (asks : List FarCommand) (start : View) (i : ℕ) (s
     (v : View) (a : FarArray) (m : FarMap) : Type 0 where
   pub s : Plain
   pub stands : Stands i s v a m
-  pub all : (more : List FarAnswer) (w : View) → CommandsGo c 1 s v (drop i asks) more w
-      → CommandsGo c 1 fresh start asks (saids ++ more) w
+  pub all : (more : List FarAnswer) (w : View) (b : FarArray) (o : FarMap)
+      → CommandsGo c 1 s v a m (drop i asks) more w b o
+      → CommandsGo c 1 fresh start no_array (no_map 64) asks (saids ++ more) w b o
+  pub after : (more : List FarAnswer)
+      → after_all fresh asks (saids ++ more) ≡ after_all s (drop i asks) more
 
 drop_next : (asks : List FarCommand) (i : ℕ) (other : FarCommand) → i < length asks
     → drop i asks ≡ get_or asks i other ∷ drop (i + 1) asks
@@ -72,7 +76,8 @@ begins c asks a none m empty start is =
     (subst (λ (o : FarMap). Run c asks (opener c) 0 [] (opener c) no_array o) (sym empty) (record {
       s = fresh;
       stands = fresh_stands c;
-      all = λ more w go. go;
+      all = λ more w b o go. go;
+      after = λ more. refl;
     })))
 
 -- one more
@@ -85,24 +90,44 @@ goes_next c asks start i saids v a m run other few less said w b o so all is =
     subst (λ (ss : List FarAnswer). Run c asks start (i + 1) ss w b o) (sym is) (record {
       s = after_said run.s ask said;
       stands = one.1;
-      all = λ more u go. subst (λ (ss : List FarAnswer). CommandsGo c 1 fresh start asks ss u)
+      all = λ more u d e go. subst (λ (ss : List FarAnswer).
+          CommandsGo c 1 fresh start no_array (no_map 64) asks ss u d e)
           (sym (append_assoc saids (said ∷ []) more))
-          (run.all (said ∷ more) u (subst (λ (rest : List FarCommand).
-          CommandsGo c 1 run.s v rest (said ∷ more) u) (sym (drop_next asks i other less))
-          (w, one.0, go)));
+          (run.all (said ∷ more) u d e (subst (λ (rest : List FarCommand).
+          CommandsGo c 1 run.s v a m rest (said ∷ more) u d e) (sym (drop_next asks i other less))
+          (w, b, o, one.0, go)));
+      after = λ more. ap (λ (ss : List FarAnswer). after_all fresh asks ss)
+          (append_assoc saids (said ∷ []) more) ∙ run.after (said ∷ more)
+          ∙ ap (λ (rest : List FarCommand). after_all run.s rest (said ∷ more))
+          (drop_next asks i other less);
     })
   where
     ask : FarCommand
     ask = get_or asks i other
 
-    one : CommandGoes c 1 run.s ask said v w × Stands (i + 1) (after_said run.s ask said) w b o
+    one : CommandGoes c 1 run.s ask said v a m w b o × Stands (i + 1) (after_said run.s ask said) w b o
     one = so i run.s run.stands (omega (arith, few, less))
 
 -- behind the last one
 pub all_gone : (c : Config) (asks : List FarCommand) (start : View) (i : ℕ) (saids : List FarAnswer)
     (v : View) (a : FarArray) (m : FarMap) → Run c asks start i saids v a m → length asks ≤ i
-    → CommandsGo c 1 fresh start asks saids v
-all_gone c asks start i saids v a m run past =
-    subst (λ (ss : List FarAnswer). CommandsGo c 1 fresh start asks ss v) (append-nil saids)
-    (run.all [] v (subst (λ (rest : List FarCommand). CommandsGo c 1 run.s v rest [] v)
-    (sym (drop_all i asks past)) refl))
+    → HaveGone c 1 asks saids start v
+all_gone c asks start i saids v a m run past = record {
+  array = a;
+  buckets = m;
+  go = subst (λ (ss : List FarAnswer). CommandsGo c 1 fresh start no_array (no_map 64) asks ss v a m)
+      (append-nil saids) (run.all [] v a m (subst (λ (rest : List FarCommand).
+      CommandsGo c 1 run.s v a m rest [] v a m) (sym none) (refl, refl, refl)));
+  both = subst (λ (s : Plain). AreBothNow s v a m) (sym after) (record {
+    array_is = run.stands.array_is;
+    map_is = run.stands.map_is;
+    other = run.stands.other;
+  });
+}
+  where
+    none : drop i asks ≡ []
+    none = drop_all i asks past
+
+    after : after_all fresh asks saids ≡ run.s
+    after = ap (λ (ss : List FarAnswer). after_all fresh asks ss) (sym (append-nil saids))
+        ∙ run.after [] ∙ ap (λ (rest : List FarCommand). after_all run.s rest []) none

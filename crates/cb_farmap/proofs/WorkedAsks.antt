@@ -1,15 +1,20 @@
 -- Worked examples of calls and plans: what meets each definition, and what breaks one part.
-use Rattle.std.proofs.Common.{◌≡◌, ℕ, [], ◌∷◌, None, Some, Result, Ok, Err, refl, ap, arith}
+use Rattle.std.proofs.Common.{◌≡◌, ℕ, false, [], ◌∷◌, None, Some, Result, Ok, Err, refl, sym, ap, ◌∙◌, subst, arith}
+use Rattle.std.proofs.lemmas.List.{append-nil}
 use Rattle.cb_member.specs.declared.no_memory.NoMemory.{NoMemory as Want}
 use Rattle.cb_types.specs.declared.config.Config.{Config}
 use Rattle.cb_types.specs.declared.handle.Handle.{Handle}
+use Rattle.cb_types.specs.declared.job.Job.{Job}
+use Rattle.cb_types.specs.declared.job.Job.TheVariants as jobs
 use Rattle.cb_types.specs.declared.reply.Reply.{Reply}
 use Rattle.cb_types.specs.declared.reply.Reply.TheVariants as answer
+use Rattle.cb_rule.specs.declared.turn.Turn.{Turn}
 use Rattle.cb_rule.specs.declared.view.View.{View}
+use Rattle.cb_shared.specs.Fetching.{AreFetches}
 use Rattle.cb_farmap.specs.declared.kept.Cannot.{Cannot}
 use Rattle.cb_farmap.specs.declared.kept.Cannot.TheVariants as cannot
 use Rattle.cb_farmap.specs.declared.kept.Stop.TheVariants as stop
-use Rattle.cb_farmap.specs.Calls.{Answers, Ask, AskMake, AskRead, AskWrite, Goes, IsForeign, IsOfObject, IsRefusal, IsSuccess, Tells, trouble}
+use Rattle.cb_farmap.specs.Calls.{Answers, Ask, AskMake, AskRead, AskWrite, Goes, IsForeign, IsInOrder, IsOfObject, IsRefusal, IsSuccess, Tells, trouble}
 use Rattle.cb_farmap.specs.Changes.{IsCalm}
 use Rattle.cb_farmap.proofs.Going.{no_place}
 use Rattle.cb_farmap.proofs.WorkedObjects.{kept}
@@ -136,6 +141,28 @@ module _ (c : Config) (v : View) where
 
   going : Answers c 1 None [] None v v
   going = refl
+
+-- ---- the order of a call's turns
+module _ (v : View) (t : Turn) where
+  abbrev still : View
+  still = record v { turns = [] }
+
+  abbrev turned : Job → View
+  turned j = record v { turns = record t { job = j } ∷ [] }
+
+  abbrev five : Handle
+  five = record { n = 5 }
+
+  fetch_first : IsInOrder read still (turned (jobs.Fetch five))
+  fetch_first = (record t { job = jobs.Fetch five } ∷ [], refl, (refl, tt))
+
+  -- a read does not begin with a swap
+  first_is : (j : Job) → IsInOrder read still (turned j) → j ≡ jobs.Fetch five
+  first_is j (ts, grew, order) =
+      (subst (AreFetches 5 false) (sym (append-nil ts) ∙ sym grew) order).0
+
+  swap_first : IsInOrder read still (turned (jobs.Swap five)) → ⊥
+  swap_first x = let z : jobs.Swap five ≡ jobs.Fetch five = first_is (jobs.Swap five) x in cc
 
 -- ---- what is never told where nobody else has the objects
 calm_full : IsCalm (Some (cannot.Refused (answer.Full 1)))

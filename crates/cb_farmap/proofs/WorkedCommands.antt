@@ -2,6 +2,7 @@
 -- part alone.
 use Rattle.std.proofs.Common.{◌≡◌, ◌⊎◌, ℕ, suc, ◌+◌, ◌≤◌, Bool, true, false, List, [], ◌∷◌, ◌++◌, length, replicate, get_or, Option, None, Some, Ok, Err, refl, sym, ap, ◌∙◌, subst, inl, inr, arith}
 use Rattle.std.proofs.lemmas.List.{append-nil, length-append, length-replicate}
+use Rattle.std.specs.List.{AllByRecursion}
 use Rattle.cb_types.specs.declared.config.Config.{Config}
 use Rattle.cb_types.specs.declared.job.Job.{Job}
 use Rattle.cb_types.specs.declared.job.Job.TheVariants as jobs
@@ -9,6 +10,7 @@ use Rattle.cb_types.specs.declared.reply.Reply.{Reply}
 use Rattle.cb_types.specs.declared.reply.Reply.TheVariants as answer
 use Rattle.cb_world.specs.declared.entry.Entry.{Entry}
 use Rattle.cb_rule.specs.declared.turn.Turn.{Turn}
+use Rattle.cb_rule.specs.declared.view.Look.{Look}
 use Rattle.cb_rule.specs.declared.view.Stand.{Stand}
 use Rattle.cb_rule.specs.declared.view.View.{View}
 use Rattle.cb_rule.specs.Lists.{Each}
@@ -18,13 +20,17 @@ use Rattle.cb_shared.specs.Calls.{IsAnswerTo}
 use Rattle.cb_map_text.specs.Plain.{Plain, fresh}
 use Rattle.cb_map_text.specs.declared.command.FarAnswer.{FarAnswer}
 use Rattle.cb_map_text.specs.declared.command.FarAnswer.TheVariants.{Done, Number, Nothing, Outside, Refused}
+use Rattle.cb_map_text.specs.declared.command.FarCommand.{FarCommand}
 use Rattle.cb_map_text.specs.declared.command.FarCommand.TheVariants as command
-use Rattle.cb_farmap.specs.Arrays.{no_array}
-use Rattle.cb_farmap.specs.Commands.{CommandGoes, CommandsGo, HasOneHistory, HasWritten, IsMake, IsOnObject, IsOutOfPlace, IsSaid, IsToldByTurn, made_by_all, made_in, refusal_in}
+use Rattle.cb_farmap.specs.Arrays.{get_plan, no_array}
+use Rattle.cb_farmap.specs.BothNow.{AreBothNow, AreOther, IsArrayNow, IsMapNow}
+use Rattle.cb_farmap.specs.Commands.{CommandGoes, CommandsGo, HasOneHistory, HasWritten, HaveGone, calls_of, IsMake, IsOnObject, IsOutOfPlace, IsSaid, IsToldByTurn, made_by_all, made_in, refusal_in}
 use Rattle.cb_farmap.specs.Maps.{no_map}
-use Rattle.cb_farmap.specs.Stands.{AreOther, AreReady, IsArrayNow, IsMapNow, IsRecordAfter, Says, SaysWhy, Stands}
+use Rattle.cb_farmap.specs.Objects.{IsObject}
+use Rattle.cb_farmap.specs.Stands.{AreReady, IsRecordAfter, Says, SaysWhy, Stands}
 use Rattle.cb_farmap.specs.declared.array.FarArray.{FarArray}
 use Rattle.cb_farmap.specs.declared.kept.Cannot.TheVariants as cannot
+use Rattle.cb_farmap.specs.declared.kept.KeptObject.{KeptObject}
 use Rattle.cb_farmap.specs.declared.kept.Stop.TheVariants as stop
 use Rattle.cb_farmap.specs.declared.map.FarMap.{FarMap}
 use Rattle.cb_farmap.proofs.Running.{fresh_stands}
@@ -221,11 +227,36 @@ not_said is = let z : Nothing ≡ Done = is in cc
 pop_not_refused : (r : Reply) (more : List Turn) → IsSaid fresh command.Pop (Refused r) v more → ⊥
 pop_not_refused r more said = let z : false ≡ true = said.0 in cc
 
+-- ---- the calls of a command
+-- an array of one number, whose object is 5
+abbrev one_number : FarArray
+one_number = record { kept = kept 5 1 ∷ []; len = 1; stop = None }
+
+gets_five : (m : FarMap) → calls_of v one_number m (command.Get 0) ≡ get_plan (kept 5 1 ∷ []) 0
+gets_five m = refl
+
+outside_calls_nothing : (m : FarMap) → calls_of v one_number m (command.Set 1 7) ≡ []
+outside_calls_nothing m = refl
+
+pop_of_none_calls_nothing : (m : FarMap) → calls_of v no_array m command.Pop ≡ []
+pop_of_none_calls_nothing m = refl
+
+look_in_none_calls_nothing : (a : FarArray) → calls_of v a (no_map 64) (command.Look 5) ≡ []
+look_in_none_calls_nothing a = refl
+
 -- ---- a command
-pops_nothing : HasOneHistory two 1 v → CommandGoes two 1 fresh command.Pop Nothing v v
+both_empty : AreBothNow fresh v no_array (no_map 64)
+both_empty = let x = fresh_stands two in record {
+  array_is = x.array_is;
+  map_is = x.map_is;
+  other = x.other;
+}
+
+pops_nothing : HasOneHistory two 1 v
+    → CommandGoes two 1 fresh command.Pop Nothing v no_array (no_map 64) v no_array (no_map 64)
 pops_nothing history = record {
-  plan = [];
   calls = refl;
+  both = both_empty;
   entries = [];
   wrote = refl;
   few = omega arith;
@@ -237,21 +268,55 @@ pops_nothing history = record {
   is_said = refl;
 }
 
--- of which something else is said
-pops_seven : CommandGoes two 1 fresh command.Pop (Number 7) v v → ⊥
-pops_seven go = let z : Number 7 ≡ Nothing = go.is_said in cc
+-- which looked at an object, though its plan names none
+looks_first : (l : Look) (b : FarArray) (o : FarMap) → CommandGoes two 1 fresh command.Pop Nothing
+    v no_array (no_map 64) (record (opener two) { looks = l ∷ [] }) b o → ⊥
+looks_first l b o go = let z : 1 ≡ 0 = ap (λ (z : View). length z.looks) go.calls in omega (arith, z)
 
--- which lost an entry, or a turn
-forgets : (s : Plain) (said : FarAnswer) → CommandGoes two 1 s command.Pop said wrote v → ⊥
-forgets s said go = let z : 0 ≡ length (go.entries ++ early ∷ []) =
-    ap (λ (l : List Entry). length l) go.wrote in
-    let l = length-append go.entries (early ∷ []) in omega (arith, z, l)
+-- behind which the numbers are kept aside: the array has none
+abbrev any : FarArray → FarMap → View → View → FarArray → FarMap → FarAnswer → Type 0
+any a m v w b o said = CommandGoes two 1 fresh command.Pop said v a m w b o
 
-forgets_turn : (s : Plain) (said : FarAnswer) (t : Turn)
-    → CommandGoes two 1 s command.Pop said (record (opener two) { turns = t ∷ [] }) v → ⊥
-forgets_turn s said t go = let z : 0 ≡ length (go.more ++ t ∷ []) =
-    ap (λ (l : List Turn). length l) go.turned in
-    let l = length-append go.more (t ∷ []) in omega (arith, z, l)
+numbers_aside : (a : FarArray) (m o : FarMap) (v w : View)
+    → CommandGoes two 1 fresh (command.Push 7) Done v a m w no_array o → ⊥
+numbers_aside a m o v w go = let z : 0 ≡ 1 =
+    ap (λ (l : List ℕ). length l) go.both.array_is.list in omega (arith, z)
+
+-- and the pairs: the map has no bucket that counts one
+pairs_aside : (a b : FarArray) (m : FarMap) (v w : View)
+    → CommandGoes two 1 (record fresh { counts = 1 ∷ replicate 63 0 }) (command.Look 0) Nothing
+    v a m w b (no_map 64) → ⊥
+pairs_aside a b m v w go = let z : 0 ≡ 1 =
+    ap (λ (l : List ℕ). get_or l 0 0) go.both.map_is.counts in omega (arith, z)
+
+module _ (a b : FarArray) (m o : FarMap) where
+  -- of which something else is said
+  pops_seven : any a m v v b o (Number 7) → ⊥
+  pops_seven go = let z : Number 7 ≡ Nothing = go.is_said in cc
+
+  -- which lost an entry, or a turn
+  forgets : (said : FarAnswer) → any a m wrote v b o said → ⊥
+  forgets said go = let z : 0 ≡ length (go.entries ++ early ∷ []) =
+      ap (λ (l : List Entry). length l) go.wrote in
+      let l = length-append go.entries (early ∷ []) in omega (arith, z, l)
+
+  forgets_turn : (said : FarAnswer) (t : Turn)
+      → any a m (record (opener two) { turns = t ∷ [] }) v b o said → ⊥
+  forgets_turn said t go = let z : 0 ≡ length (go.more ++ t ∷ []) =
+      ap (λ (l : List Turn). length l) go.turned in
+      let l = length-append go.more (t ∷ []) in omega (arith, z, l)
+
+  -- which wrote two entries
+  writes_two : (said : FarAnswer)
+      → any a m v (record (opener two) { written = later ∷ early ∷ [] }) b o said → ⊥
+  writes_two said go = let z : 2 ≡ length (go.entries ++ []) =
+      ap (λ (l : List Entry). length l) go.wrote in
+      let l = length-append go.entries [] in let f = go.few in omega (arith, z, l, f)
+
+  -- behind which more objects were made than the list and the map need
+  makes_more : (t : Turn)
+      → any a m v (record (opener two) { turns = making t one ∷ [] }) b o Nothing → ⊥
+  makes_more t go = let z : 1 ≡ 0 = go.made in omega (arith, z)
 
 -- which freed an object
 abbrev freeing : Turn → Turn
@@ -260,8 +325,9 @@ freeing t = record t { job = jobs.Free (record { n = 5 }) }
 abbrev freed_by : Turn → View
 freed_by t = record (opener two) { turns = freeing t ∷ [] }
 
-frees : (s : Plain) (said : FarAnswer) (t : Turn) → CommandGoes two 1 s command.Pop said v (freed_by t) → ⊥
-frees s said t go = by (subst
+frees : (s : Plain) (said : FarAnswer) (t : Turn) (a b : FarArray) (m o : FarMap)
+    → CommandGoes two 1 s command.Pop said v a m (freed_by t) b o → ⊥
+frees s said t a b m o go = by (subst
     (Each (λ (t : Turn). IsMake t.job ⊎ IsOnObject (record (opener two) { turns = [] }) t.job))
     (sym (go.turned ∙ append-nil go.more)) (each_on go.more go.jobs_are)).0
   where
@@ -273,30 +339,47 @@ frees s said t go = by (subst
     by (inl z) = z
     by (inr z) = z
 
--- which wrote two entries
-writes_two : (s : Plain) (said : FarAnswer) → CommandGoes two 1 s command.Pop said v
-    (record (opener two) { written = later ∷ early ∷ [] }) → ⊥
-writes_two s said go = let z : 2 ≡ length (go.entries ++ []) =
-    ap (λ (l : List Entry). length l) go.wrote in
-    let l = length-append go.entries [] in let f = go.few in omega (arith, z, l, f)
-
--- behind which more objects were made than the list and the map need
-makes_more : (t : Turn) → CommandGoes two 1 fresh command.Pop Nothing v
-    (record (opener two) { turns = making t one ∷ [] }) → ⊥
-makes_more t go = let z : 1 ≡ 0 = go.made in omega (arith, z)
-
 -- ---- commands
-all_gone : CommandsGo two 1 fresh v [] [] v
-all_gone = refl
+abbrev Go : List FarCommand → List FarAnswer → View → FarArray → Type 0
+Go asks saids w b = CommandsGo two 1 fresh v no_array (no_map 64) asks saids w b (no_map 64)
 
-one_gone : HasOneHistory two 1 v → CommandsGo two 1 fresh v (command.Pop ∷ []) (Nothing ∷ []) v
-one_gone history = (v, pops_nothing history, refl)
+all_gone : Go [] [] v no_array
+all_gone = (refl, refl, refl)
 
-said_too_little : CommandsGo two 1 fresh v (command.Pop ∷ []) [] v → ⊥
+one_gone : HasOneHistory two 1 v → Go (command.Pop ∷ []) (Nothing ∷ []) v no_array
+one_gone history = (v, no_array, no_map 64, pops_nothing history, (refl, refl, refl))
+
+said_too_little : Go (command.Pop ∷ []) [] v no_array → ⊥
 said_too_little go = go
 
-said_too_much : CommandsGo two 1 fresh v [] (Nothing ∷ []) v → ⊥
+said_too_much : Go [] (Nothing ∷ []) v no_array → ⊥
 said_too_much go = go
+
+-- another record, and another array, than the last command left
+another_record : Go [] [] (record (opener two) { share = 63 }) no_array → ⊥
+another_record go = let z : 63 ≡ 64 = ap (λ (z : View). z.share) go.0 in omega (arith, z)
+
+another_array : Go [] [] v one_number → ⊥
+another_array go = let z : 1 ≡ 0 = ap (λ (z : FarArray). z.len) go.1 in omega (arith, z)
+
+have_gone : HasOneHistory two 1 v → HaveGone two 1 (command.Pop ∷ []) (Nothing ∷ []) v v
+have_gone history = record {
+  array = no_array;
+  buckets = no_map 64;
+  go = one_gone history;
+  both = both_empty;
+}
+
+-- commands of which the record has nothing: a number was pushed, and no entry is there
+left_aside : (begin : View) → HaveGone two 1 (command.Push 7 ∷ []) (Done ∷ []) begin v → ⊥
+left_aside begin x = by x.array.kept x.both.array_is.kept x.both.array_is.array.objects
+  where
+    none_some : (e : Entry) → None ≡ Some e → ⊥
+    none_some e is = cc
+
+    by : (ks : List KeptObject) → length ks ≡ 1 → AllByRecursion (IsObject []) ks → ⊥
+    by [] long all = omega (arith, long)
+    by (k ∷ ks) long all = none_some all.0.at all.0.is
 
 -- ---- the record between commands
 record_well : IsRecordAfter 0 fresh v

@@ -17,7 +17,7 @@ use Rattle.cb_shared.specs.Calls.{ReadCallEnds, ReadGives}
 use Rattle.cb_shared.specs.Reading.{looked_freed, read_once}
 use Rattle.cb_farmap.specs.declared.kept.Cannot.{Cannot}
 use Rattle.cb_farmap.specs.declared.kept.Cannot.TheVariants as cannot
-use Rattle.cb_farmap.specs.Calls.{Ask, AskRead, Goes}
+use Rattle.cb_farmap.specs.Calls.{Ask, AskRead, CallGives, Goes, IsInOrder}
 use Rattle.cb_farmap.proofs.WorkedObjects.{kept}
 
 -- object 5 was made at version 1 with the bytes 0a 0b
@@ -83,6 +83,13 @@ module _ (c : Config) (r : View) where
     refl,
   )
 
+  -- with no turn, and so with none out of order
+  gives : (n : ℕ) → 1 ≤ n → CallGives c 1 read (answer.Bytes n eight) v (behind n)
+  gives n some = (read_gives n some, in_order n)
+    where
+      in_order : (n : ℕ) → IsInOrder read v (behind n)
+      in_order n = ([], refl, tt)
+
   -- one that found the object freed
   abbrev gone : View
   gone = grown (sum nothing_more (looked_freed 5 1 0)) v
@@ -103,20 +110,20 @@ module _ (c : Config) (r : View) where
   -- ---- the plan of one read
   read_well : Goes c 1 (read ∷ []) None v (behind 1)
   read_well =
-      (behind 1, (answer.Bytes 1 eight, (eight, refl), read_gives 1 (omega arith)), refl)
+      (behind 1, (answer.Bytes 1 eight, (eight, refl), gives 1 (omega arith)), refl)
 
   read_foreign : Goes c 1 (read ∷ []) (Some (foreign 5 2)) v (behind 2)
   read_foreign = inl (
     (refl, refl),
-    (answer.Bytes 2 eight, ((λ e. absurd (omega (arith, e))), eight, refl), read_gives 2 (omega arith)),
+    (answer.Bytes 2 eight, ((λ e. absurd (omega (arith, e))), eight, refl), gives 2 (omega arith)),
   )
 
   read_freed : Goes c 1 (read ∷ []) (Some (cannot.Refused answer.Freed)) v gone
-  read_freed = inl ((λ version bytes is. cc), freed_gives)
+  read_freed = inl ((λ version bytes is. cc), (freed_gives, ([], refl, tt)))
 
   -- behind a call that failed none is made
   stopped_there : Goes c 1 (read ∷ read ∷ []) (Some (cannot.Refused answer.Freed)) v gone
-  stopped_there = inl ((λ version bytes is. cc), freed_gives)
+  stopped_there = inl ((λ version bytes is. cc), (freed_gives, ([], refl, tt)))
 
   -- a call that is not of the plan
   not_planned : Goes c 1 [] None v (behind 1) → ⊥
@@ -138,8 +145,8 @@ module _ (c : Config) (r : View) where
 
   -- the call of the plan was not made
   not_made : Goes c 1 (read ∷ []) None v v → ⊥
-  not_made (u, (reply, (bytes, is), gives), same) = none_looked bytes
-      (subst (λ (z : Reply). ReadGives c 5 z v v) is (subst (λ (z : View). ReadGives c 5 reply v z) (sym same) gives))
+  not_made (u, (reply, (bytes, is), given), same) = none_looked bytes
+      (subst (λ (z : Reply). ReadGives c 5 z v v) is (subst (λ (z : View). ReadGives c 5 reply v z) (sym same) given.0))
     where
       none_looked : (bytes : List ℕ) → ReadGives c 5 (answer.Bytes 1 bytes) v v → ⊥
       none_looked bytes (d, x, grows) = by x.ends_so

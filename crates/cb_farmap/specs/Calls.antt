@@ -1,6 +1,6 @@
 -- What an array or a map asks of the shared runtime, what one such call comes to, and how a plan of
 -- calls goes.
-use Rattle.std.specs.Prelude.{◌≡◌, ◌≢◌, ◌⊎◌, ℕ, ◌+◌, ◌-◌, List, [], ◌∷◌, Option, Some, None, Result, Ok, Err}
+use Rattle.std.specs.Prelude.{◌≡◌, ◌≢◌, ◌⊎◌, ℕ, ◌+◌, ◌-◌, false, List, [], ◌∷◌, Option, Some, None, Result, Ok, Err}
 use Rattle.cb_member.specs.declared.no_memory.NoMemory.{NoMemory as Want}
 use Rattle.cb_types.specs.declared.config.Config.{Config}
 use Rattle.cb_types.specs.declared.handle.Handle.{Handle}
@@ -9,6 +9,7 @@ use Rattle.cb_types.specs.declared.reply.Reply.{Reply}
 use Rattle.cb_types.specs.declared.reply.Reply.TheVariants as answer
 use Rattle.cb_rule.specs.declared.view.View.{View}
 use Rattle.cb_shared.specs.Calls.{ReadGives, ReadStops, TurnGives, TurnStops, WriteAnswers, WriteStops}
+use Rattle.cb_shared.specs.Fetching.{AreFetches, AreWrites, GetsBoth, GetsTurns}
 use Rattle.cb_shared.specs.Making.{MakesNew}
 use Rattle.cb_farmap.specs.declared.kept.Cannot.{Cannot}
 use Rattle.cb_farmap.specs.declared.kept.Cannot.TheVariants as cannot
@@ -25,17 +26,27 @@ pub data Ask : Type 0 where
 
 -- ---- one call
 
+-- in which order its turns came: those of a read by the turns before each, those of a write by its
+-- looks too, and a make makes turns of one job alone
+abbrev pub IsInOrder : Ask → View → View → Type 0
+IsInOrder (AskRead k) v w = GetsTurns (AreFetches k.handle.n false) v w
+IsInOrder (AskWrite k at bytes) v w = GetsBoth (AreWrites k.handle.n at bytes) v w
+IsInOrder (AskMake bytes) v w = Unit {0}
+
 -- what it leaves of the record, by its reply
 abbrev pub CallGives : Config → ℕ → Ask → Reply → View → View → Type 0
-CallGives c first (AskRead k) r v w = ReadGives c k.handle.n r v w
-CallGives c first (AskWrite k at bytes) r v w = WriteAnswers c k.handle.n at bytes r v w
+CallGives c first (AskRead k) r v w =
+    ReadGives c k.handle.n r v w × IsInOrder (AskRead k) v w
+CallGives c first (AskWrite k at bytes) r v w =
+    WriteAnswers c k.handle.n at bytes r v w × IsInOrder (AskWrite k at bytes) v w
 CallGives c first (AskMake bytes) r v w =
     TurnGives c (jobs.Make bytes) r v w × MakesNew first (jobs.Make bytes) r v
 
 -- and where there is no memory
 abbrev pub CallStops : Config → Ask → View → View → Type 0
-CallStops c (AskRead k) v w = ReadStops c k.handle.n v w
-CallStops c (AskWrite k at bytes) v w = WriteStops c k.handle.n at bytes v w
+CallStops c (AskRead k) v w = ReadStops c k.handle.n v w × IsInOrder (AskRead k) v w
+CallStops c (AskWrite k at bytes) v w =
+    WriteStops c k.handle.n at bytes v w × IsInOrder (AskWrite k at bytes) v w
 CallStops c (AskMake bytes) v w = TurnStops c (jobs.Make bytes) v w
 
 -- its success: the bytes of the kept version, the version one above the kept one, an object made

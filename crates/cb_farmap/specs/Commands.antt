@@ -1,6 +1,6 @@
 -- What commands on one array and one map come to: what is said to each, and what it adds to the
 -- record of the pass.
-use Rattle.std.specs.Prelude.{◌≡◌, ◌⊎◌, ℕ, ◌≤◌, true, List, [], ◌∷◌, ◌++◌, length, Option, None, Some}
+use Rattle.std.specs.Prelude.{◌≡◌, ◌⊎◌, ℕ, ◌≤◌, true, if◌then◌else◌, nat_lt, List, [], ◌∷◌, ◌++◌, length, Option, None, Some}
 use Rattle.cb_types.specs.declared.config.Config.{Config}
 use Rattle.cb_types.specs.declared.job.Job.{Job}
 use Rattle.cb_types.specs.declared.job.Job.TheVariants as jobs
@@ -15,13 +15,21 @@ use Rattle.cb_rule.specs.OneHistory.{IsOneHistory}
 use Rattle.cb_rule.specs.TriesAgain.{tries_again}
 use Rattle.cb_shared.specs.Calls.{IsAnswerTo}
 use Rattle.cb_shared.specs.Turning.{Did, made_by_turn}
-use Rattle.cb_map_text.specs.Plain.{Plain, after_said, calls_something, needs_object, objects, plain_said}
+use Rattle.cb_map_text.specs.Plain.{Plain, after_all, after_said, calls_something, fresh, needs_object, objects, plain_said}
 use Rattle.cb_map_text.specs.declared.command.FarAnswer.{FarAnswer}
 use Rattle.cb_map_text.specs.declared.command.FarAnswer.TheVariants.{Refused}
 use Rattle.cb_map_text.specs.declared.command.FarCommand.{FarCommand}
+use Rattle.cb_map_text.specs.declared.command.FarCommand.TheVariants.{Push, Set, Get, Pop, Put, Look, Drop}
+use Rattle.cb_farmap.specs.Arrays.{get_plan, no_array, pop_plan, push_plan, set_plan}
+use Rattle.cb_farmap.specs.BothNow.{AreBothNow}
+use Rattle.cb_farmap.specs.Buckets.{bucket_in}
 use Rattle.cb_farmap.specs.Calls.{Ask, Goes}
+use Rattle.cb_farmap.specs.Maps.{no_map}
+use Rattle.cb_farmap.specs.Plans.{drop_plan, look_plan, put_plan}
+use Rattle.cb_farmap.specs.declared.array.FarArray.{FarArray}
 use Rattle.cb_farmap.specs.declared.kept.Cannot.{Cannot}
 use Rattle.cb_farmap.specs.declared.kept.Cannot.TheVariants as cannot
+use Rattle.cb_farmap.specs.declared.map.FarMap.{FarMap}
 
 -- ---- the turns of a record
 
@@ -93,13 +101,30 @@ abbrev pub IsSaid : Plain → FarCommand → FarAnswer → View → List Turn �
 IsSaid s a (Refused r) w more = (calls_something s a ≡ true) × IsToldByTurn s a r w more
 IsSaid s a said w more = said ≡ plain_said s a
 
--- A command on the array and the map, which are this list and this map, and the record of the pass
--- before and after it.
-pub record CommandGoes (c : Config) (first : ℕ) (s : Plain) (a : FarCommand) (said : FarAnswer)
-    (v w : View) : Type 0 where
-  -- its calls of the runtime
-  pub plan : List Ask
-  pub calls : Goes c first plan (refusal_in said) v w
+-- ---- the calls of a command
+
+-- the calls on a number of the array, where there is one with this index
+abbrev pub calls_within : FarArray → ℕ → List Ask → List Ask
+calls_within a i plan = if nat_lt i a.len then plan else []
+
+-- Which calls the command makes on this array and this map: those of the one method that it calls.
+abbrev pub calls_of : View → FarArray → FarMap → FarCommand → List Ask
+calls_of v a m (Push x) = push_plan a.kept a.len x
+calls_of v a m (Set i x) = calls_within a i (set_plan a.kept i x)
+calls_of v a m (Get i) = calls_within a i (get_plan a.kept i)
+calls_of v a m Pop = pop_plan a.kept a.len
+calls_of v a m (Put key x) = put_plan v.written (bucket_in m.buckets key) (key, x)
+calls_of v a m (Look key) = look_plan v.written (bucket_in m.buckets key) key
+calls_of v a m (Drop key) = drop_plan v.written (bucket_in m.buckets key) key
+
+-- A command that finds this list and map, the record v of the pass, and the array a and the map m
+-- of it; w, b and o are behind it.
+pub record CommandGoes (c : Config) (first : ℕ) (s : Plain) (ask : FarCommand) (said : FarAnswer)
+    (v : View) (a : FarArray) (m : FarMap) (w : View) (b : FarArray) (o : FarMap) : Type 0 where
+  -- its calls of the runtime, and no others
+  pub calls : Goes c first (calls_of v a m ask) (refusal_in said) v w
+  -- behind them the array and the map are the list and the map behind the command
+  pub both : AreBothNow (after_said s ask said) w b o
   -- it adds one entry at the most, and turns that make an object or are on one of the record
   pub entries : List Entry
   pub wrote : w.written ≡ entries ++ v.written
@@ -110,13 +135,25 @@ pub record CommandGoes (c : Config) (first : ℕ) (s : Plain) (a : FarCommand) (
   -- all turns so far are one history, and made as many objects as the list and the map need at
   -- their fullest
   pub history : HasOneHistory c first w
-  pub made : made_by_all w.turns ≡ objects (after_said s a said)
+  pub made : made_by_all w.turns ≡ objects (after_said s ask said)
   -- and it is told what the list and the map say, or what a turn was told
-  pub is_said : IsSaid s a said w more
+  pub is_said : IsSaid s ask said w more
 
--- so commands, one after another, each with the list and the map that the ones before it left
-abbrev pub CommandsGo : Config → ℕ → Plain → View → List FarCommand → List FarAnswer → View → Type 0
-CommandsGo c first s v [] [] w = w ≡ v
-CommandsGo c first s v (a ∷ asks) (said ∷ saids) w = (u : View)
-    × CommandGoes c first s a said v u × CommandsGo c first (after_said s a said) u asks saids w
-CommandsGo c first s v asks saids w = ⊥
+-- so commands, one after another, each with the list, the map, the record, the far array and the
+-- far map that the ones before it left
+abbrev pub CommandsGo : Config → ℕ → Plain → View → FarArray → FarMap → List FarCommand
+    → List FarAnswer → View → FarArray → FarMap → Type 0
+CommandsGo c first s v a m [] [] w b o = (w ≡ v) × (b ≡ a) × (o ≡ m)
+CommandsGo c first s v a m (ask ∷ asks) (said ∷ saids) w b o =
+    (u : View) × (d : FarArray) × (e : FarMap) × CommandGoes c first s ask said v a m u d e
+    × CommandsGo c first (after_said s ask said) u d e asks saids w b o
+CommandsGo c first s v a m asks saids w b o = ⊥
+
+-- Commands went so from an empty array and an empty map of 64 buckets. In the record behind them
+-- the array and the map that they left are the list and the map behind all commands.
+pub record HaveGone (c : Config) (first : ℕ) (asks : List FarCommand) (saids : List FarAnswer)
+    (v w : View) : Type 0 where
+  pub array : FarArray
+  pub buckets : FarMap
+  pub go : CommandsGo c first fresh v no_array (no_map 64) asks saids w array buckets
+  pub both : AreBothNow (after_all fresh asks saids) w array buckets

@@ -4,8 +4,6 @@ pub mod Stops
 pub mod Calls
 pub mod Changes
 pub mod Arrays
-pub mod Commands
-pub mod Stands
 pub mod Pairs
 pub mod PairBytes
 pub mod Buckets
@@ -14,3 +12,6 @@ pub mod Plans
 pub mod BucketChanges
 pub mod Searching
 pub mod MapChanges
+pub mod BothNow
+pub mod Commands
+pub mod Stands

@@ -1,10 +1,10 @@
 -- What stands between commands on one array and one map, which one pass keeps.
-use Rattle.std.specs.Prelude.{◌≡◌, ◌≢◌, ℕ, ◌+◌, ◌<◌, ◌≤◌, List, [], length, map, None, Result, Ok, Err}
+use Rattle.std.specs.Prelude.{◌≡◌, ℕ, ◌+◌, ◌<◌, ◌≤◌, [], length, Result, Ok, Err}
 use Rattle.cb_types.specs.declared.config.Config.{Config}
 use Rattle.cb_world.specs.declared.entry.Entry.{Entry}
 use Rattle.cb_rule.specs.declared.view.View.{View}
-use Rattle.cb_rule.specs.Lists.{Each, Has}
-use Rattle.cb_map_text.specs.Plain.{Plain, after_said, objects, objects_for}
+use Rattle.cb_rule.specs.Lists.{Each}
+use Rattle.cb_map_text.specs.Plain.{Plain, after_said, objects}
 use Rattle.cb_map_text.specs.Tallied.{IsTallied}
 use Rattle.cb_map_text.specs.declared.command.FarAnswer.{FarAnswer}
 use Rattle.cb_map_text.specs.declared.command.FarAnswer.TheVariants.{Refused}
@@ -12,13 +12,10 @@ use Rattle.cb_map_text.specs.declared.command.FarCommand.{FarCommand}
 use Rattle.cb_farmap.specs.declared.array.FarArray.{FarArray}
 use Rattle.cb_farmap.specs.declared.kept.Cannot.{Cannot}
 use Rattle.cb_farmap.specs.declared.kept.Cannot.TheVariants as cannot
-use Rattle.cb_farmap.specs.declared.bucket.Bucket.{Bucket}
-use Rattle.cb_farmap.specs.declared.kept.KeptObject.{KeptObject}
 use Rattle.cb_farmap.specs.declared.map.FarMap.{FarMap}
-use Rattle.cb_farmap.specs.Arrays.{IsArrayOf, list_of}
-use Rattle.cb_farmap.specs.Changes.{AreSole}
+use Rattle.cb_farmap.specs.BothNow.{AreOther, IsArrayNow, IsMapNow}
 use Rattle.cb_farmap.specs.Commands.{CommandGoes, made_by_all}
-use Rattle.cb_farmap.specs.Maps.{IsMapOf, kept_of, map_of}
+use Rattle.cb_farmap.specs.Maps.{kept_of}
 
 -- The record after so many commands: no other pass has anything, and this one has no pin and no
 -- turn under way; no object was written more often than there were commands; and the turns made the
@@ -29,29 +26,6 @@ pub record IsRecordAfter (n : ℕ) (s : Plain) (v : View) : Type 0 where
   pub idle : v.fresh ≡ []
   pub low : Each (λ (e : Entry). e.version ≤ n + 1) v.written
   pub made : made_by_all v.turns ≡ objects s
-
--- The array is the list, with the objects that it needs at its longest.
-pub record IsArrayNow (s : Plain) (v : View) (a : FarArray) : Type 0 where
-  pub array : IsArrayOf v a
-  pub list : list_of v a ≡ s.list
-  pub kept : length a.kept ≡ objects_for s.longest 128
-  pub going : a.stop ≡ None
-  pub sole : AreSole v a.kept
-
--- The map is the map, each bucket with its pairs, and with the objects that it needs at its
--- fullest.
-pub record IsMapNow (s : Plain) (v : View) (m : FarMap) : Type 0 where
-  pub map_is : IsMapOf v m
-  pub pairs : map_of v m ≡ s.pairs
-  pub counts : map (λ (b : Bucket). b.count) m.buckets ≡ s.counts
-  pub kept : map (λ (b : Bucket). length b.kept) m.buckets
-      ≡ map (λ most. objects_for most 64) s.fullest
-  pub going : m.stop ≡ None
-  pub sole : AreSole v (kept_of m.buckets)
-
--- no object is one of both
-abbrev pub AreOther : List KeptObject → List KeptObject → Type 0
-AreOther xs ys = (x y : KeptObject) → Has x xs → Has y ys → x.handle.n ≢ y.handle.n
 
 -- After so many commands the array and the map are the plain list and the plain map.
 pub record Stands (n : ℕ) (s : Plain) (v : View) (a : FarArray) (m : FarMap) : Type 0 where
@@ -72,7 +46,7 @@ AreReady v a m = (n : ℕ) × (s : Plain) × Stands n s v a m × (n < 1000000000
 abbrev pub GoesSo : Config → FarCommand → View → FarArray → FarMap → FarAnswer → View → FarArray
     → FarMap → Type 0
 GoesSo c ask v a m said w b o = (n : ℕ) (s : Plain) → Stands n s v a m → n < 1000000000
-    → CommandGoes c 1 s ask said v w × Stands (n + 1) (after_said s ask said) w b o
+    → CommandGoes c 1 s ask said v a m w b o × Stands (n + 1) (after_said s ask said) w b o
 
 -- what is said of why something was not answered: the reply by which the runtime refused it
 abbrev pub SaysWhy : Cannot → FarAnswer → Type 0

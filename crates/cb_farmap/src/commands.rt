@@ -2,13 +2,13 @@
 ghost use Rattle.std.specs.Prelude.{◌≡◌, ◌≤◌, ◌<◌, ◌∷◌, ◌++◌, [], length, IfOk, OnErr, OnOk};
 ghost use Rattle.cb_shared.specs.Passes.{IsPassOf, IsRuntimeBegun, record_of};
 ghost use Rattle.cb_shared.specs.Recalls.{first_version_of};
-ghost use Rattle.cb_map_text.specs.Plain.{found_said, fresh};
+ghost use Rattle.cb_map_text.specs.Plain.{found_said};
 ghost use Rattle.cb_map_text.specs.declared.command.FarAnswer.TheVariants.{Done, Number};
 ghost use Rattle.cb_map_text.specs.declared.command.FarCommand.TheVariants as command;
 ghost use Rattle.cb_farmap.specs.Arrays.{no_array};
 ghost use Rattle.cb_farmap.specs.Calls.{trouble};
 ghost use Rattle.cb_farmap.specs.Changes.{IsCalm};
-ghost use Rattle.cb_farmap.specs.Commands.{CommandsGo};
+ghost use Rattle.cb_farmap.specs.Commands.{HaveGone};
 ghost use Rattle.cb_farmap.specs.Maps.{no_map};
 ghost use Rattle.cb_farmap.specs.Stands.{AreReady, GoesSo, Says, SaysWhy};
 
@@ -87,8 +87,9 @@ pub fn run_commands<R: Wait>(
     requires begun { IsRuntimeBegun 1 shared.now.config shared.now pass.old }
     requires few { length asks.now ≤ 1000000000 }
     ensures of { IsPassOf shared.now pass.new }
-    ensures go { IfOk result (λ saids. CommandsGo shared.now.config 1 fresh (record_of pass.old)
-        asks.now saids (record_of pass.new)) }
+    ensures go { IfOk result (λ saids. HaveGone shared.now.config 1 asks.now saids
+        (record_of pass.old) (record_of pass.new)) }
+    ensures loose { IfOk result (λ _. (record_of pass.new).pins ≡ []) }
 {
     let mut far = FarPair::new(alloc)?;
     let mut saids = FarAnswers::new(alloc);

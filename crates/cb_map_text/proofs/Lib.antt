@@ -3,6 +3,7 @@ pub mod Front
 pub mod Parts
 pub mod OneReading
 pub mod Objects
+pub mod Counted
 pub mod WorkedText
 pub mod WorkedPlain
 pub mod PublicLaws

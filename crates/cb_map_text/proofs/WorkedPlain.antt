@@ -1,5 +1,6 @@
 -- Worked examples: what the plain list and the plain map answer, and how many objects they need.
-use Rattle.std.proofs.Common.{◌≡◌, ℕ, zero, suc, ◌+◌, ◌*◌, ◌%◌, ◌≤◌, max, Bool, true, false, cond, not, ◌&&◌, List, [], ◌∷◌, length, replicate, Option, Some, None, is_some, refl, ap, ◌∙◌, arith}
+use Rattle.std.proofs.Common.{◌≡◌, ℕ, zero, suc, ◌+◌, ◌*◌, ◌%◌, ◌≤◌, max, Bool, true, false, cond, not, ◌&&◌, List, [], ◌∷◌, length, replicate, Option, Some, None, is_some, refl, sym, ap, ◌∙◌, arith}
+use Rattle.std.proofs.lemmas.Bool.{eq-eqb}
 use Rattle.std.specs.Prelude.{slice_index, slice_set, sum_by, if◌then◌else◌, ◌==◌}
 use Rattle.std.specs.Cmp.{nat_cmp_total}
 use Rattle.std.specs.FinMap as map
@@ -8,8 +9,8 @@ use Rattle.std.specs.declared.cmp.Ordering.{Ordering}
 use Rattle.std.specs.declared.cmp.Ordering.TheVariants as order
 use Rattle.std.proofs.lemmas.List.{length_push}
 use Rattle.cb_types.specs.declared.reply.Reply.TheVariants.{Full}
-use Rattle.cb_map_text.specs.Plain.{Plain, after_all, after_said, calls_something, found_said, fresh, needs_object, objects, objects_for, plain_after, plain_said, bucket_of}
-use Rattle.cb_map_text.specs.Tallied.{IsTallied}
+use Rattle.cb_map_text.specs.Plain.{Plain, after_all, after_said, calls_something, found_said, fresh, has_key, needs_object, objects, objects_for, plain_after, plain_said, bucket_of}
+use Rattle.cb_map_text.specs.Tallied.{AreKeysIn, IsCounted, IsTallied}
 use Rattle.cb_map_text.specs.declared.command.FarAnswer.{FarAnswer}
 use Rattle.cb_map_text.specs.declared.command.FarAnswer.TheVariants.{Done, Number, Nothing, Outside, Refused}
 use Rattle.cb_map_text.specs.declared.command.FarCommand.{FarCommand}
@@ -407,3 +408,52 @@ too_few_buckets t = omega (arith, t.buckets)
 
 too_few_most : IsTallied (record fresh { fullest = replicate 63 0 }) → ⊥
 too_few_most t = omega (arith, t.each)
+
+-- ---- the keys of a bucket
+abbrev one_key : Plain
+one_key = record fresh { pairs = map.insert map.empty 0 7; counts = 1 ∷ replicate 63 0 }
+
+has_zero : has_key one_key 0 ≡ true
+has_zero = ap is_some (found map.empty)
+  where
+    found : (pairs : Pairs) → map.get (map.insert pairs 0 7) 0 ≡ Some 7
+    found pairs = grind (arith, map.gets)
+
+no_keys : AreKeysIn fresh 3 []
+no_keys key = sym (by (bucket_of key == 3) (has_key fresh key) (ap is_some (map.get-empty nat_cmp key)))
+  where
+    by : (b known : Bool) → known ≡ false → ◌≡◌ {A = ℕ} (if b && known then 1 else 0) 0
+    by true known is = ap {B = ℕ} (λ k. if k then 1 else 0) is
+    by false known is = refl
+
+zero_belongs : ◌≡◌ {A = ℕ} (if (bucket_of 0 == 0) && has_key one_key 0 then 1 else 0) 1
+zero_belongs = ap {B = ℕ} (λ k. if k then 1 else 0) has_zero
+
+-- one that is left out, one that stands twice, and one that belongs elsewhere
+key_left_out : AreKeysIn one_key 0 [] → ⊥
+key_left_out are = let e = are 0 in let z = zero_belongs in omega (arith, e, z)
+
+key_twice : AreKeysIn one_key 0 (0 ∷ 0 ∷ []) → ⊥
+key_twice are = let e = are 0 in let z = zero_belongs in omega (arith, e, z)
+
+key_elsewhere : AreKeysIn one_key 1 (0 ∷ []) → ⊥
+key_elsewhere are = let e = are 0 in omega (arith, e)
+
+-- a bucket without keys that counts one
+counts_too_many : IsCounted (in_first map.empty 1 1) → ⊥
+counts_too_many all = by (all 0 (omega arith)).0 (all 0 (omega arith)).1 (all 0 (omega arith)).2
+  where
+    none : (key : ℕ) → ◌≡◌ {A = ℕ}
+        (if (bucket_of key == 0) && has_key (in_first map.empty 1 1) key then 1 else 0) 0
+    none key = either (bucket_of key == 0) (has_key (in_first map.empty 1 1) key)
+        (ap is_some (map.get-empty nat_cmp key))
+      where
+        either : (b known : Bool) → known ≡ false → ◌≡◌ {A = ℕ} (if b && known then 1 else 0) 0
+        either true known is = ap {B = ℕ} (λ k. if k then 1 else 0) is
+        either false known is = refl
+
+    by : (keys : List ℕ) → AreKeysIn (in_first map.empty 1 1) 0 keys → 1 ≡ length keys → ⊥
+    by [] are long = omega (arith, long)
+    by (k ∷ ks) are long = let e = are k in let z = none k in
+        let one : ◌≡◌ {A = ℕ} (if k == k then 1 else 0) 1 =
+        ap {B = ℕ} (λ b. if b then 1 else 0) (eq-eqb k k refl) in omega (arith, e, z, one)

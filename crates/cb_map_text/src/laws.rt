@@ -2,8 +2,9 @@ ghost use Rattle.std.specs.Prelude.{◌≡◌, ◌+◌, ℕ, List, if◌then◌e
 ghost use Rattle.cb_types.specs.declared.config.Config.{Config};
 ghost use Rattle.cb_map_text.specs.First.{First};
 ghost use Rattle.cb_map_text.specs.Form.{Spells};
-ghost use Rattle.cb_map_text.specs.Plain.{Plain, fresh, needs_object, objects, plain_after, plain_said};
-ghost use Rattle.cb_map_text.specs.Tallied.{IsTallied};
+ghost use Rattle.cb_map_text.specs.Plain.{Plain, after_all, fresh, needs_object, objects, plain_after, plain_said};
+ghost use Rattle.cb_map_text.specs.Tallied.{IsCounted, IsTallied};
+ghost use Rattle.cb_map_text.specs.declared.command.FarAnswer.{FarAnswer};
 ghost use Rattle.cb_map_text.specs.declared.command.FarAnswer.TheVariants.{Number};
 ghost use Rattle.cb_map_text.specs.declared.command.FarCommand.{FarCommand};
 ghost use Rattle.cb_map_text.specs.declared.command.FarCommand.TheVariants.{Put, Look};
@@ -20,7 +21,8 @@ pub fn text_laws()
 {}
 
 /// A look tells what was put under its key last, and a put what a look would have told. The objects
-/// are counted right: each command makes one exactly where it needs one.
+/// are counted right: each command makes one exactly where it needs one. The count of each bucket
+/// is how many keys of the map belong into it.
 pub fn plain_laws()
     ensures look_tells_the_put { (s : Plain) (key x : ℕ)
         → plain_said (plain_after s (Put key x)) (Look key) ≡ Number x }
@@ -33,4 +35,6 @@ pub fn plain_laws()
     ensures fresh_tallied { IsTallied fresh }
     ensures stays_tallied { (s : Plain) (command : FarCommand) → IsTallied s
         → IsTallied (plain_after s command) }
+    ensures counted { (commands : List FarCommand) (saids : List FarAnswer)
+        → IsCounted (after_all fresh commands saids) }
 {}

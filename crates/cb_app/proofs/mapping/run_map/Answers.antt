@@ -14,6 +14,6 @@ pub returns : goal.returns
 returns g c = record {
   answered = if_answered c.args.config c.requires.accepted c.args.asks.now c.requires.few
       c.in_ok-shared.shared c.in_ok-shared.pass c.run_commands.new.pass c.in_ok-shared.ensures.begun
-      c.in_ok-saids.saids c.in_ok-saids.ensures.go c.close_map.result c.close_map.ensures.saids
-      c.close_map.ensures.closed;
+      c.in_ok-saids.saids c.in_ok-saids.ensures.go c.in_ok-saids.ensures.loose c.close_map.result
+      c.close_map.ensures.saids c.close_map.ensures.closed;
 }

@@ -33,3 +33,6 @@ pub returns-clause-go : goal.returns-clause-go
 returns-clause-go g c = all_gone c.args.shared.now.config c.args.asks.now (record_of c.args.pass.now)
     c.loop-ask.ask-index c.loop-ask.saids (record_of c.loop-ask.pass) c.loop-ask.far.array
     c.loop-ask.far.map c.loop-ask.invariant.run (search rules)
+
+pub returns-clause-loose : goal.returns-clause-loose
+returns-clause-loose g c = c.loop-ask.invariant.run.stands.record_is.loose

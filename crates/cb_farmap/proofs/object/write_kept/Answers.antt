@@ -5,10 +5,10 @@ use Rattle.cb_shared.specs.Calls.{WriteAnswers, WriteStops}
 use Rattle.cb_shared.specs.Passes.{record_of}
 use Rattle.cb_shared.specs.Recalls.{first_version_of}
 use Rattle.cb_farmap.specs.declared.kept.KeptObject.{KeptObject}
-use Rattle.cb_farmap.specs.Calls.{AskWrite, Tells}
+use Rattle.cb_farmap.specs.Calls.{AskWrite, IsInOrder, Tells}
 use Rattle.cb_farmap.specs.Objects.{object_at}
 use Rattle.cb_farmap.proofs.Calm.{write_calm}
-use Rattle.cb_farmap.proofs.Going.{goes_by}
+use Rattle.cb_farmap.proofs.Going.{goes_write}
 use Rattle.cb_farmap.proofs.Keeping.{knows_it, next_tells, next_told}
 use Rattle.cb_farmap.proofs.object.write_kept.Goals as goal
 
@@ -26,11 +26,10 @@ unwritten-requires g c = record {
 }
 
 pub returns-then-keep_written-clause-goes : goal.returns-then-keep_written-clause-goes
-returns-then-keep_written-clause-goes g c = goes_by c.args.shared.now.config
-    (first_version_of c.args.shared.now)
-    (AskWrite (object_at c.args.kept.now c.args.o) c.args.at c.args.bytes.now)
+returns-then-keep_written-clause-goes g c = goes_write c.args.shared.now.config
+    (first_version_of c.args.shared.now) (object_at c.args.kept.now c.args.o)
     (record_of c.args.pass.now) (record_of c.write-wrote.new.pass) (record_of c.recall.new.pass)
-    c.recall.ensures.same c.write-wrote.result None
+    c.recall.ensures.same c.write-wrote.result None c.args.at c.args.bytes.now
     (next_tells (object_at c.args.kept.now c.args.o)
     c.args.at c.args.bytes.now c.write-wrote.result
     (c.keep_written.ensures.yes c.if-keep_written.true).0)
@@ -40,14 +39,16 @@ returns-then-keep_written-clause-goes g c = goes_by c.args.shared.now.config
     (subst (λ (k : KeptObject). OnErr c.write-wrote.result (WriteStops c.args.shared.now.config
     k.handle.n c.args.at c.args.bytes.now (record_of c.args.pass.now)
     (record_of c.write-wrote.new.pass))) c.at-object.ensures c.write-wrote.ensures.error)
+    (subst (λ (k : KeptObject). IsInOrder (AskWrite k c.args.at c.args.bytes.now)
+    (record_of c.args.pass.now) (record_of c.write-wrote.new.pass)) c.at-object.ensures
+    c.write-wrote.ensures.jobs)
 
 pub returns-else-keep_written-clause-goes : goal.returns-else-keep_written-clause-goes
-returns-else-keep_written-clause-goes g c = goes_by c.args.shared.now.config
-    (first_version_of c.args.shared.now)
-    (AskWrite (object_at c.args.kept.now c.args.o) c.args.at c.args.bytes.now)
+returns-else-keep_written-clause-goes g c = goes_write c.args.shared.now.config
+    (first_version_of c.args.shared.now) (object_at c.args.kept.now c.args.o)
     (record_of c.args.pass.now) (record_of c.write-wrote.new.pass) (record_of c.recall.new.pass)
     c.recall.ensures.same c.write-wrote.result (Some c.unwritten.result)
-    (subst (λ (k : KeptObject). Tells
+    c.args.at c.args.bytes.now (subst (λ (k : KeptObject). Tells
     (AskWrite k c.args.at c.args.bytes.now) c.write-wrote.result (Some c.unwritten.result))
     c.at-object.ensures (c.unwritten.ensures.tells c.args.at c.args.bytes.now))
     (subst (λ (k : KeptObject). IfOk c.write-wrote.result (λ r. WriteAnswers
@@ -56,6 +57,9 @@ returns-else-keep_written-clause-goes g c = goes_by c.args.shared.now.config
     (subst (λ (k : KeptObject). OnErr c.write-wrote.result (WriteStops c.args.shared.now.config
     k.handle.n c.args.at c.args.bytes.now (record_of c.args.pass.now)
     (record_of c.write-wrote.new.pass))) c.at-object.ensures c.write-wrote.ensures.error)
+    (subst (λ (k : KeptObject). IsInOrder (AskWrite k c.args.at c.args.bytes.now)
+    (record_of c.args.pass.now) (record_of c.write-wrote.new.pass)) c.at-object.ensures
+    c.write-wrote.ensures.jobs)
 
 pub returns-then-keep_written-clause-wrote : goal.returns-then-keep_written-clause-wrote
 returns-then-keep_written-clause-wrote g c = next_told c.args.shared.now.config

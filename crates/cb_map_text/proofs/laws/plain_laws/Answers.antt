@@ -1,3 +1,4 @@
+use Rattle.cb_map_text.proofs.Counted.{counted}
 use Rattle.cb_map_text.proofs.Objects.{fresh_tallied, look_tells_the_put, none_made, one_where_needed, put_tells_the_old, stays_tallied}
 use Rattle.cb_map_text.proofs.laws.plain_laws.Goals as goal
 
@@ -18,3 +19,6 @@ returns-clause-fresh_tallied c = fresh_tallied
 
 pub returns-clause-stays_tallied : goal.returns-clause-stays_tallied
 returns-clause-stays_tallied c = stays_tallied
+
+pub returns-clause-counted : goal.returns-clause-counted
+returns-clause-counted c = counted
