@@ -19,8 +19,8 @@ const MOST: u64 = 1_000_000_000;
 /// How many rounds are made.
 fn rounds_of(round: Round) -> u32 {
     match round {
-        Round::Begin | Round::Gather => 2_000,
-        Round::Swap | Round::Fetch => 200,
+        Round::Begin | Round::Gather => 200,
+        Round::Swap | Round::Fetch => 10,
     }
 }
 
