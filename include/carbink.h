@@ -7,21 +7,40 @@
  * the data rows, k to k + r - 1 the parities. Any k rows of a code word give the others.
  *
  * Each call but carbink_version and the two that free answers one of the statuses below. A status
- * other than CARBINK_DONE says that nothing was done: what the call would have written is as it was.
+ * other than CARBINK_DONE says that what the call would have written is as it was, and that nothing was
+ * done. One call alone may have done something then: carbink_world_step at CARBINK_NO_MEMORY, as said there.
  * Where more than one is wrong, the first of this list is answered: the code, the length, the buffers,
  * the positions, memory.
  *
- * What the caller owes, and no call can see: each pointer is not null, also for a size of 0; it points
- * to as many bytes as the size beside it says; a buffer that a call writes overlaps no other of that call
- * and nobody else uses it meanwhile. Each buffer is of the caller, and no call keeps a pointer. Calls on
- * different buffers may be made by several threads at once; none may be made in a signal handler, or in
- * the forked child of a process with threads. malloc, realloc and free are the program's own.
+ * What the caller owes, and no call can see:
+ * - Each pointer is not null, also for a size of 0, and points to as many bytes as the size beside it says.
+ * - What a call is given to read (const below) nobody changes while the call runs: positions and the numbers
+ *   of an event are tested first and used afterwards. Several calls may read the same at once.
+ * - What a call is given to write (CARBINK_ALONE below) overlaps nothing else that the call is given, and
+ *   nobody else reads or changes it while the call runs. A handle, a reply and a number are written too.
+ * - A handle is changed by these calls alone, is not copied, and is given to one call at a time. It may go to
+ *   another thread, where the start or the end of a thread, a lock or a sequentially consistent atomic stands
+ *   between the calls of the one and of the other.
+ * - No call is made in a signal handler, or in the forked child of a process with threads.
+ * - malloc, realloc and free are the program's own.
+ *
+ * Each buffer is of the caller, and no call keeps a pointer to one. Several threads may make calls at once, as
+ * long as what each of them writes is its own.
  */
 #ifndef CARBINK_H
 #define CARBINK_H
 
 #include <stddef.h>
 #include <stdint.h>
+
+/* A pointer to what the call writes, and nothing else that the call is given overlaps. */
+#if defined(__GNUC__) || defined(_MSC_VER)
+#define CARBINK_ALONE __restrict
+#elif defined(__cplusplus)
+#define CARBINK_ALONE
+#else
+#define CARBINK_ALONE restrict
+#endif
 
 #ifdef __cplusplus
 extern "C" {
@@ -45,12 +64,11 @@ uint32_t carbink_version(void);
  * followed by the parities are a code word, and no other parities make one with them. It takes no memory, so it
  * never ends with CARBINK_NO_MEMORY. */
 uint32_t carbink_encode(uint32_t k, uint32_t r, uint32_t len, const uint8_t *data, size_t data_size,
-                        uint8_t *parities, size_t parities_size);
+                        uint8_t *CARBINK_ALONE parities, size_t parities_size);
 
 /* An encoder: the table of a code, for rows of one length, made once and used many times. It saves what the table
- * costs, which is most of a call on short rows. A struct carbink_encoder is CARBINK_NO_ENCODER_YET before its first
- * call. It holds one encoder or none; only these calls change it, it is not copied, and it is used by one thread at
- * a time. */
+ * costs, which is most of a call on short rows. A struct carbink_encoder is a handle, CARBINK_NO_ENCODER_YET before
+ * its first call. It holds one encoder or none. */
 struct carbink_encoder {
     uint8_t there; /* The library's. */
     struct {
@@ -65,27 +83,27 @@ struct carbink_encoder {
 #define CARBINK_HAS_ENCODER 13u /* The handle holds an encoder already. */
 
 /* Makes an encoder for the code of k and r and rows of `len` bytes: CARBINK_HAS_ENCODER where the handle holds one
- * already, then no such code, len 0, and want of memory. Takes some 2,048 bytes. */
-uint32_t carbink_encoder_new(struct carbink_encoder *encoder, uint32_t k, uint32_t r, uint32_t len);
+ * already, then no such code, len 0, and out of memory. Takes some 2,048 bytes. */
+uint32_t carbink_encoder_new(struct carbink_encoder *CARBINK_ALONE encoder, uint32_t k, uint32_t r, uint32_t len);
 
 /* Does what carbink_encode does, with the encoder's k, r and len; it takes no memory. CARBINK_NO_ENCODER where the
  * handle holds none, then CARBINK_BAD_BUFFER. */
-uint32_t carbink_encoder_encode(struct carbink_encoder *encoder, const uint8_t *data, size_t data_size,
-                                uint8_t *parities, size_t parities_size);
+uint32_t carbink_encoder_encode(struct carbink_encoder *CARBINK_ALONE encoder, const uint8_t *data, size_t data_size,
+                                uint8_t *CARBINK_ALONE parities, size_t parities_size);
 
 /* Gives an encoder's memory back. The handle holds none then; where it held none, nothing is done. */
-void carbink_encoder_free(struct carbink_encoder *encoder);
+void carbink_encoder_free(struct carbink_encoder *CARBINK_ALONE encoder);
 
 /* Tells whether k + r rows are a code word: sets *is_word to 1 where they are, else to 0. rows_size is
  * (k + r) * len. */
 uint32_t carbink_is_word(uint32_t k, uint32_t r, uint32_t len, const uint8_t *rows, size_t rows_size,
-                         uint32_t *is_word);
+                         uint32_t *CARBINK_ALONE is_word);
 
 /* Makes lost rows again. rows_size is (k + r) * len. `present` has the positions of k rows that are there,
  * ascending and below k + r, and present_size is k; what stands at the other positions does not matter.
  * The rows are then the one code word that has these rows at these positions. More than k rows that are
  * there: name k of them, and call carbink_is_word afterwards on what was there. */
-uint32_t carbink_solve(uint32_t k, uint32_t r, uint32_t len, uint8_t *rows, size_t rows_size,
+uint32_t carbink_solve(uint32_t k, uint32_t r, uint32_t len, uint8_t *CARBINK_ALONE rows, size_t rows_size,
                        const uint8_t *present, size_t present_size);
 
 /* What an examination found. What is not told of its kind is 0. */
@@ -105,11 +123,12 @@ struct carbink_found {
  * code word in one row at the most, they are that word or that row is found. With two wrong rows, the row that
  * is found may be one that was right. */
 uint32_t carbink_examine(uint32_t k, uint32_t r, uint32_t len, const uint8_t *rows, size_t rows_size,
-                         struct carbink_found *found);
+                         struct carbink_found *CARBINK_ALONE found);
 
 /* Replaces the row at `position`, below k + r, by the sum of all others. Where that row alone was wrong, the
  * rows are a code word then. rows_size is (k + r) * len. */
-uint32_t carbink_mend(uint32_t k, uint32_t r, uint32_t len, uint8_t *rows, size_t rows_size, uint32_t position);
+uint32_t carbink_mend(uint32_t k, uint32_t r, uint32_t len, uint8_t *CARBINK_ALONE rows, size_t rows_size,
+                      uint32_t position);
 
 /* ---- A world on one thread
  *
@@ -118,10 +137,9 @@ uint32_t carbink_mend(uint32_t k, uint32_t r, uint32_t len, uint8_t *rows, size_
  * a node of its own, and come back when they are asked for, also where up to r of the nodes have crashed.
  * docs/FORMATS.md tells what each verb does and what each reply means.
  *
- * A handle is a struct carbink_world, CARBINK_NO_WORLD before its first call. It holds one world or none. What
- * the caller owes beside what is said above: only these calls change a handle, it is not copied, and it is used
- * by one thread at a time; two handles share nothing. The proof of a call takes the world to be sound that the
- * handle holds: each call leaves it so, and carbink_world_new makes it so.
+ * A struct carbink_world is a handle, CARBINK_NO_WORLD before its first call. It holds one world or none; two
+ * handles share nothing, so two threads may step a world each at the same time. The proof of a call takes the world
+ * to be sound that the handle holds: each call leaves it so, and carbink_world_new makes it so.
  */
 struct carbink_world {
     uint8_t there; /* The library's. */
@@ -158,14 +176,14 @@ struct carbink_config {
 };
 
 /* Makes the empty world of these sizes: CARBINK_HAS_WORLD where the handle holds one already, then the first size
- * that is out of its range, then want of memory. Takes the memory of all frames and of 16 bytes a handle. */
-uint32_t carbink_world_new(struct carbink_world *world, const struct carbink_config *config);
+ * that is out of its range, then out of memory. Takes the memory of all frames and of 16 bytes a handle. */
+uint32_t carbink_world_new(struct carbink_world *CARBINK_ALONE world, const struct carbink_config *config);
 
 /* Gives a world's memory back. The handle holds none then; where it held none, nothing is done. */
-void carbink_world_free(struct carbink_world *world);
+void carbink_world_free(struct carbink_world *CARBINK_ALONE world);
 
 /* Sets *given to how many rows the nodes have given out. */
-uint32_t carbink_world_given(struct carbink_world *world, uint64_t *given);
+uint32_t carbink_world_given(struct carbink_world *CARBINK_ALONE world, uint64_t *CARBINK_ALONE given);
 
 /* The verbs: what they take of an event beside the seat, and what they do. */
 #define CARBINK_MAKE 0u      /* bytes: a new object with these, 1 to 4,096. */
@@ -210,11 +228,12 @@ struct carbink_reply {
 /* As many bytes as an object has at the most, and a room has at the least. */
 #define CARBINK_ROOM 4096u
 
-/* One event: the reply goes into *reply, and its bytes to the front of `room`. Tells, in this order and with nothing
- * changed: no world, verb, seat, argument, a room that is too short, and want of memory, where what each object holds
- * is as it was, but a turn may have been counted and room been made for it. */
-uint32_t carbink_world_step(struct carbink_world *world, const struct carbink_event *event, const uint8_t *bytes,
-                            size_t bytes_size, struct carbink_reply *reply, uint8_t *room, size_t room_size);
+/* One event: the reply goes into *reply, and its bytes to the front of `room`. The statuses come in this order: no
+ * world, verb, seat, argument, a room that is too short, out of memory. But at the last, nothing was done; there what
+ * each object holds is as it was, and *reply and `room` too, but a turn may have been counted and room made for it. */
+uint32_t carbink_world_step(struct carbink_world *CARBINK_ALONE world, const struct carbink_event *event,
+                            const uint8_t *bytes, size_t bytes_size, struct carbink_reply *CARBINK_ALONE reply,
+                            uint8_t *CARBINK_ALONE room, size_t room_size);
 
 /* The kinds of replies, with their numbers. */
 #define CARBINK_REPLY_MADE 0u        /* handle, version: the object was made */
@@ -234,7 +253,7 @@ uint32_t carbink_world_step(struct carbink_world *world, const struct carbink_ev
 #define CARBINK_REPLY_REBUILT 15u    /* set, position, node: a lost row stands again */
 #define CARBINK_REPLY_EPOCH 16u      /* epoch: of the crash or the join */
 #define CARBINK_REPLY_FULL 17u       /* handles: as many objects were made */
-#define CARBINK_REPLY_NO_ROOM 18u    /* frames, loose, nodes: no room in local memory */
+#define CARBINK_REPLY_NO_ROOM 18u    /* frames, loose, nodes: neither a slot nor a free run of its pages, and too little can leave */
 #define CARBINK_REPLY_UNMADE 19u     /* the handle was never made */
 #define CARBINK_REPLY_FREED 20u      /* the object was freed */
 #define CARBINK_REPLY_MOVING 21u     /* the object is being moved */
@@ -245,7 +264,7 @@ uint32_t carbink_world_step(struct carbink_world *world, const struct carbink_ev
 #define CARBINK_REPLY_SCOPE_FULL 26u /* the seat has as many pins as it may have */
 #define CARBINK_REPLY_NOT_PINNED 27u /* the seat has no pin on the object */
 #define CARBINK_REPLY_NOT_HERE 28u   /* the object is not in local memory */
-#define CARBINK_REPLY_NO_SLOT 29u    /* frames: neither a slot of the temperature nor a free frame */
+#define CARBINK_REPLY_NO_SLOT 29u    /* frames: neither a slot of the temperature nor a free run of its pages */
 #define CARBINK_REPLY_NO_SPANS 30u   /* loose: too few spans could leave */
 #define CARBINK_REPLY_NO_NODES 31u   /* nodes: too few have room */
 #define CARBINK_REPLY_LEAVING 32u    /* set: a batch is leaving already */

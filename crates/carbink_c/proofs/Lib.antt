@@ -3,6 +3,7 @@ mod Making
 mod WorkedEnds
 mod AsBox
 mod AsEncoder
+pub mod Crosses
 mod Worlds
 mod Losses
 mod FewBytes

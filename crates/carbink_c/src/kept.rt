@@ -12,7 +12,7 @@ use crate::encoder::Encoder;
 use crate::held::Held;
 use parts::Parts;
 use std::alloc::Global;
-use std::marker::Model;
+use std::marker::{Model, Send};
 
 /// The block of a box with a world, or nothing: which of the two stands beside it.
 #[repr(C)]
@@ -25,6 +25,9 @@ pub struct Kept {
 impl Model for Kept {
     ghost also_owns = { λ s. kept_owns s.alloc s.at s.world };
 }
+
+// It may go to another thread as the box may that it keeps: `proofs/Crosses.antt` asks for it.
+unsafe impl Send for Kept {}
 
 impl Kept {
     /// Nothing, behind the null pointer.
@@ -88,6 +91,8 @@ pub struct KeptEncoder {
 impl Model for KeptEncoder {
     ghost also_owns = { λ s. encoder_owns s.alloc s.at s.encoder };
 }
+
+unsafe impl Send for KeptEncoder {}
 
 impl KeptEncoder {
     /// Nothing, behind the null pointer.

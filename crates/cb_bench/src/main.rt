@@ -1,13 +1,16 @@
 //! Times one operation of the code for `bench/encode`, and for `bench/lib`. The words are the
-//! operation (`encode`, `fresh`, `solve`, `check` or `examine`), k, r and how many slices are timed.
-//! It prints the least time of a call in nanoseconds, over that many slices of four calls each, or 0
-//! where no slice is asked for.
+//! operation (`encode`, `into`, `fresh`, `solve`, `check`, `word`, `compare` or `examine`), k, r and
+//! how many slices are timed. It prints the least time of a call in nanoseconds, over that many
+//! slices of four calls each, or 0 where no slice is asked for.
 #![tactic(auto)]
+
+mod in_place;
 
 ghost use Rattle.std.specs.Prelude.{◌≡◌, ◌+◌, length, IfOk};
 ghost use Rattle.cb_gf256.specs.InRange.{IsInRange};
 ghost use Rattle.cb_gf256.specs.Positions.{ArePositions};
 
+use crate::in_place::{encode_block, has_parities, is_word, varied_block};
 use cb_code::{coefficients, encode, syndromes_zero};
 use cb_erase::solve;
 use cb_gf256::{NoMemory, Rows};
@@ -27,12 +30,18 @@ const CALLS_IN_A_SLICE: u64 = 4;
 enum Operation {
     /// Parities of k data rows.
     Encode,
+    /// The same in rows that are there: no memory is taken.
+    Into,
     /// The same by a table that is made for this call.
     Fresh,
     /// The word of the last k rows: r data rows are lost.
     Solve,
     /// The test of a code word.
     Check,
+    /// The same by all syndromes in one pass, where the rows lie.
+    Word,
+    /// The same by parities that are made again in rows that are there, and compared.
+    Compare,
     /// The examination of a code word.
     Examine,
 }
@@ -80,6 +89,56 @@ fn last_positions(k: u32, r: u32) -> &'static [u8]
     &all[r as usize..(k + r) as usize]
 }
 
+fn out_of_memory() -> io::Error {
+    io::Error::from(io::ErrorKind::OutOfMemory)
+}
+
+/// The time of a call of a slice that began then, or what was the least before.
+fn least_of(rt: &HostRuntime, start: &Instant, before: u64) -> io::Result<u64> {
+    let nanoseconds = u64::try_from(start.elapsed(rt)?.as_nanos()).unwrap_or(u64::MAX);
+    Ok(before.min(nanoseconds / CALLS_IN_A_SLICE))
+}
+
+/// The least time in nanoseconds of a call on rows that are there. Each call's answer is counted, so
+/// that no call can be left out.
+fn least_time_in_place(
+    rt: &HostRuntime,
+    operation: Operation,
+    k: u32,
+    r: u32,
+    slices: u32,
+) -> io::Result<u64>
+    requires { IsInRange k r }
+{
+    let Ok(mut block) = varied_block(rt.alloc(), k + r) else {
+        return Err(out_of_memory());
+    };
+    let Ok(mut room) = varied_block(rt.alloc(), r) else {
+        return Err(out_of_memory());
+    };
+    let code = coefficients(k, r);
+    let mut answers = u64::from(encode_block(&code, k, block.as_mut_slice()));
+    let mut least = u64::MAX;
+    for _ in 0..slices {
+        let start = Instant::now(rt)?;
+        for _ in 0..CALLS_IN_A_SLICE {
+            let answered = match operation {
+                Operation::Word => is_word(k, r, block.as_slice()),
+                Operation::Compare => {
+                    has_parities(&code, k, block.as_slice(), room.as_mut_slice())
+                }
+                _ => encode_block(&code, k, block.as_mut_slice()),
+            };
+            answers = answers.wrapping_add(u64::from(answered));
+        }
+        least = least_of(rt, &start, least)?;
+    }
+    if slices == 0 || answers != 1 + CALLS_IN_A_SLICE * u64::from(slices) {
+        return Ok(0);
+    }
+    Ok(least)
+}
+
 /// The least time of a call in nanoseconds. Each call's answer is counted, so that no call can be
 /// left out.
 fn least_time(
@@ -93,15 +152,15 @@ fn least_time(
 {
     let alloc = rt.alloc();
     let Ok(given) = varied_rows(alloc, k) else {
-        return Err(io::Error::from(io::ErrorKind::OutOfMemory));
+        return Err(out_of_memory());
     };
     let Ok(broken) = varied_rows(alloc, k + r) else {
-        return Err(io::Error::from(io::ErrorKind::OutOfMemory));
+        return Err(out_of_memory());
     };
     let code = coefficients(k, r);
     let present = last_positions(k, r);
     let Ok(word) = solve(alloc, k, r, &broken, present) else {
-        return Err(io::Error::from(io::ErrorKind::OutOfMemory));
+        return Err(out_of_memory());
     };
     let mut least = u64::MAX;
     let mut answers = 0u64;
@@ -113,12 +172,11 @@ fn least_time(
                 Operation::Fresh => encode(alloc, &coefficients(k, r), &given).is_ok(),
                 Operation::Solve => solve(alloc, k, r, &broken, present).is_ok(),
                 Operation::Check => syndromes_zero(r, &word),
-                Operation::Examine => matches!(examine(r, &word), Found::Clean),
+                _ => matches!(examine(r, &word), Found::Clean),
             };
             answers = answers.wrapping_add(u64::from(answered));
         }
-        let nanoseconds = u64::try_from(start.elapsed(rt)?.as_nanos()).unwrap_or(u64::MAX);
-        least = least.min(nanoseconds / CALLS_IN_A_SLICE);
+        least = least_of(rt, &start, least)?;
     }
     if slices == 0 || answers == 0 {
         return Ok(0);
@@ -130,9 +188,12 @@ fn least_time(
 fn operation_of(word: &str) -> Option<Operation> {
     match word {
         "encode" => Some(Operation::Encode),
+        "into" => Some(Operation::Into),
         "fresh" => Some(Operation::Fresh),
         "solve" => Some(Operation::Solve),
         "check" => Some(Operation::Check),
+        "word" => Some(Operation::Word),
+        "compare" => Some(Operation::Compare),
         "examine" => Some(Operation::Examine),
         _ => None,
     }
@@ -160,7 +221,12 @@ fn main(rt: HostRuntime) -> io::Result<ExitCode> {
     if k < 1 || k > 16 || r < 1 || r > 4 {
         return Ok(ExitCode::FAILURE);
     }
-    let least = least_time(&rt, operation, k, r, slices)?;
+    let least = match operation {
+        Operation::Into | Operation::Word | Operation::Compare => {
+            least_time_in_place(&rt, operation, k, r, slices)?
+        }
+        _ => least_time(&rt, operation, k, r, slices)?,
+    };
     println!(rt; "{least}")?;
     Ok(ExitCode::SUCCESS)
 }

@@ -5,13 +5,14 @@ ghost use Rattle.cb_world.specs.Memory.{words_for};
 ghost use Rattle.cb_shared.specs.Passes.{IsPinOf};
 ghost use Rattle.cb_shared_bench.specs.Callers.{IfPinned, IsCaller, IsPlain};
 
+use crate::beside::{count_turns, time_rounds};
 use crate::deeds::{Deed, calls_of};
 use crate::objects::{BYTES, WORDS};
-use crate::replies::is_right;
+use crate::replies::{finds_up, is_right};
 use crate::rounds::time_window;
 use crate::timing::{hold, now, since};
 use cb_shared::{Pass, Pin, PinAnswer, Shared, WriteAnswer};
-use cb_types::{Handle, Job};
+use cb_types::{Handle, Job, NoMemory, Reply};
 use std::alloc::Global;
 use std::sync::Wait;
 use std::time::Clock;
@@ -115,7 +116,25 @@ fn write_again<R: Wait>(
     is_right(&reply)
 }
 
-/// A turn of a job that the pass needs to know no object for.
+/// What a turn is answered of a job that the pass needs to know no object for.
+fn asked<R: Wait>(
+    rt: &R,
+    alloc: Global,
+    shared: &Shared,
+    pass: &mut Pass,
+    h: Handle,
+    job: &Job,
+) -> Result<Reply, NoMemory>
+    requires caller { IsCaller shared.now h pass.old }
+    requires plain { IsPlain shared.now.config job.now }
+    ensures caller { IsCaller shared.now h pass.new }
+{
+    let _h = h;
+    let reply = shared.turn(rt, alloc, pass, job);
+    reply
+}
+
+/// Such a turn, and whether its reply is one that is waited for.
 pub(crate) fn turn<R: Wait>(
     rt: &R,
     alloc: Global,
@@ -128,9 +147,23 @@ pub(crate) fn turn<R: Wait>(
     requires plain { IsPlain shared.now.config job.now }
     ensures caller { IsCaller shared.now h pass.new }
 {
-    let _h = h;
-    let reply = shared.turn(rt, alloc, pass, job);
-    is_right(&reply)
+    is_right(&asked(rt, alloc, shared, pass, h, job))
+}
+
+/// Such a turn, and whether it finds a node up.
+pub(crate) fn turn_finds_up<R: Wait>(
+    rt: &R,
+    alloc: Global,
+    shared: &Shared,
+    pass: &mut Pass,
+    h: Handle,
+    job: &Job,
+) -> bool
+    requires caller { IsCaller shared.now h pass.old }
+    requires plain { IsPlain shared.now.config job.now }
+    ensures caller { IsCaller shared.now h pass.new }
+{
+    finds_up(&asked(rt, alloc, shared, pass, h, job))
 }
 
 /// One call.
@@ -265,7 +298,7 @@ fn time_hold<R: Clock + Wait>(
     since(rt, start)
 }
 
-/// The time of a slice's calls in nanoseconds.
+/// The time of a slice's calls in nanoseconds; of turns beside rounds, how many there were.
 pub(crate) fn time<R: Clock + Wait>(
     rt: &R,
     alloc: Global,
@@ -281,9 +314,9 @@ pub(crate) fn time<R: Clock + Wait>(
         Deed::Peek => time_peeks(rt, shared, pass, h),
         Deed::ReadFar => time_far_reads(rt, alloc, shared, pass, h),
         Deed::Hold => time_hold(rt, alloc, shared, pass, h),
-        Deed::Alone(_) | Deed::Rounds(_) | Deed::Idle => {
-            time_window(rt, alloc, shared, pass, h, deed)
-        }
+        Deed::Alone(round) => time_window(rt, alloc, shared, pass, h, round),
+        Deed::Rounds(round) => time_rounds(rt, alloc, shared, pass, h, round),
+        Deed::Idle => count_turns(rt, alloc, shared, pass, h),
         _ => time_calls(rt, alloc, shared, pass, h, deed, &[seed; BYTES]),
     }
 }

@@ -292,6 +292,42 @@ fn run<R: Clock + Threads + Wait + Sync>(
     longest(times.as_slice())
 }
 
+/// How many turns the second thread made beside the rounds of the first, and the time of these in
+/// nanoseconds.
+fn both(times: &[Option<u64>]) -> Option<(u64, u64)> {
+    let took = (*times.first()?)?;
+    let turns = (*times.get(1)?)?;
+    Some((turns, took))
+}
+
+/// Turns beside rounds: how many there were, and the time of the rounds in nanoseconds.
+fn run_beside<R: Clock + Threads + Wait + Sync>(
+    rt: &R,
+    alloc: Global,
+    shared: &Shared,
+    first: &mut Pass,
+    deed: Deed,
+) -> Option<(u64, u64)>
+    requires of { IsPassOf shared.now first.old }
+{
+    let parts = deal_for(rt, alloc, shared, first, deed, 2)?;
+    let times = scatter(rt, alloc, shared, parts)?;
+    both(times.as_slice())
+}
+
+/// The same, in a runtime of its own with so many data positions.
+pub(crate) fn beside<R: Clock + Threads + Wait + Sync>(
+    rt: &R,
+    alloc: Global,
+    deed: Deed,
+    k: u32,
+) -> Option<(u64, u64)> {
+    match begun(alloc, k) {
+        Ok((shared, mut first)) => run_beside(rt, alloc, &shared, &mut first, deed),
+        Err(_) => None,
+    }
+}
+
 /// The time of the slowest thread of a slice in nanoseconds, in a runtime of its own with so many
 /// data positions.
 pub(crate) fn slice<R: Clock + Threads + Wait + Sync>(

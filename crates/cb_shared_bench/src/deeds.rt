@@ -99,8 +99,8 @@ pub(crate) fn deed_of(word: &str) -> Option<Deed> {
 }
 
 /// How many calls a slice has: some milliseconds of them, in which the start of a thread is little.
-/// Those of a peek are in rounds over the words of an object. Of rounds, and of turns beside them,
-/// a slice has as many as there is time for; its time is told as that of so many.
+/// Those of a peek are in rounds over the words of an object. Of rounds a slice has as many as there
+/// is time for; its time is told as that of so many.
 pub(crate) fn calls_of(deed: Deed) -> u32 {
     match deed {
         Deed::Pin | Deed::Look | Deed::WriteShort | Deed::Write => 200_000,
@@ -109,8 +109,8 @@ pub(crate) fn calls_of(deed: Deed) -> u32 {
         Deed::WriteLong => 10_000,
         Deed::Read | Deed::StepRead | Deed::Turn => 40_000,
         Deed::ReadFar | Deed::StepFar => 500,
-        Deed::Alone(_) | Deed::Beside(_) | Deed::Rounds(_) | Deed::Idle => 1_000,
-        Deed::Await | Deed::Hold => 1,
+        Deed::Alone(_) => 1_000,
+        Deed::Beside(_) | Deed::Rounds(_) | Deed::Idle | Deed::Await | Deed::Hold => 1,
     }
 }
 

@@ -9,11 +9,13 @@
 //! `begin`, `gather`, `swap` and `fetch` are rounds of turns on one thread. Those of its turns are
 //! timed that have coding work in them, or leave it to be done under no lock: a batch that begins
 //! to leave, and as many far reads as a set has parities, each of an object whose shard is lost.
-//! With `beside` before them they are turns that find nothing to do, beside a thread that makes
-//! these rounds. A fourth word is how many data positions a set has; it has as many parities, at
-//! most four.
+//! With `beside` before them one thread makes so many of these rounds, and another one turns that
+//! find nothing to do until the first is done: it prints how many these were, and the time of all
+//! rounds in nanoseconds. A fourth word is how many data positions a set has; it has as many
+//! parities, at most four.
 #![tactic(auto)]
 
+mod beside;
 mod calls;
 mod crew;
 mod deeds;
@@ -94,6 +96,15 @@ fn main(rt: HostRuntime) -> io::Result<ExitCode> {
     let Some(deed) = deed else {
         return Ok(ExitCode::FAILURE);
     };
+    if let Deed::Beside(_) = deed {
+        return match crew::beside(&rt, rt.alloc(), deed, k) {
+            Some((turns, took)) => {
+                println!(rt; "{turns} {took}")?;
+                Ok(ExitCode::SUCCESS)
+            }
+            None => Ok(ExitCode::FAILURE),
+        };
+    }
     match least(&rt, rt.alloc(), deed, threads, slices, k) {
         Some(least) => {
             println!(rt; "{least}")?;

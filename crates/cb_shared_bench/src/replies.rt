@@ -26,3 +26,8 @@ pub(crate) fn is_right(reply: &Result<Reply, NoMemory>) -> bool
         )
     )
 }
+
+/// Whether a turn of Join found its node up.
+pub(crate) fn finds_up(reply: &Result<Reply, NoMemory>) -> bool {
+    matches!(reply, Ok(Reply::Up { .. }))
+}

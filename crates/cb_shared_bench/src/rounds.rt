@@ -1,13 +1,12 @@
 //! Rounds of turns on spans that leave and come back, with their coding work under the far lock and
-//! outside of it, and turns that find nothing to do. None is answered where a turn was not answered
-//! so.
+//! outside of it. None is answered where a turn was not answered so.
 ghost use Rattle.std.specs.Prelude.{◌≡◌, true, Some};
 ghost use Rattle.cb_types.specs.declared.order.Kept.TheVariants.{Encode, Decode};
 ghost use Rattle.cb_shared.specs.Passes.{record_of};
 ghost use Rattle.cb_shared_bench.specs.Callers.{IsCaller, IsPlain};
 
 use crate::calls::turn;
-use crate::deeds::{Deed, Round, calls_of};
+use crate::deeds::Round;
 use crate::objects::SLOTS;
 use crate::timing::{more, now, since};
 use cb_core::{Fetching, Gathered};
@@ -18,13 +17,13 @@ use std::alloc::Global;
 use std::sync::Wait;
 use std::time::Clock;
 
-/// How long a slice takes, in nanoseconds. A thread that makes rounds beside the one that is timed
-/// goes on a little longer.
+/// How long a slice takes, in nanoseconds.
 const WINDOW: u64 = 50_000_000;
 
-const LONGER: u64 = 55_000_000;
+/// As the time of how many rounds it is told.
+const ROUNDS: u64 = 1_000;
 
-/// More turns than a slice has.
+/// More rounds than a slice has.
 const MOST: u32 = 100_000_000;
 
 /// The batch of the order that was run gets its parities; the time of that, and the time before.
@@ -125,7 +124,7 @@ fn fetch<R: Clock + Wait>(
 }
 
 /// Whether a job is about no object, or about a span or a node that there is.
-fn is_plain(config: &Config, job: &Job) -> bool
+pub(crate) fn is_plain(config: &Config, job: &Job) -> bool
     ensures { result ≡ true → IsPlain config.now job.now }
 {
     match job {
@@ -245,7 +244,7 @@ fn length(round: Round, config: &Config) -> u32 {
 }
 
 /// A round; the time of the turns in it that are timed.
-fn time_round<R: Clock + Wait>(
+pub(crate) fn time_round<R: Clock + Wait>(
     rt: &R,
     alloc: Global,
     shared: &Shared,
@@ -268,62 +267,24 @@ fn time_round<R: Clock + Wait>(
     Some(sum)
 }
 
-/// One round, with the time of it that is told, or one turn that finds nothing to do.
-fn once<R: Clock + Wait>(
-    rt: &R,
-    alloc: Global,
-    shared: &Shared,
-    pass: &mut Pass,
-    h: Handle,
-    deed: Deed,
-) -> Option<u64>
-    requires caller { IsCaller shared.now h pass.old }
-    ensures caller { IsCaller shared.now h pass.new }
-{
-    match deed {
-        Deed::Alone(round) | Deed::Rounds(round) => time_round(rt, alloc, shared, pass, h, round),
-        _ => turn(rt, alloc, shared, pass, h, &Job::Part).then_some(0),
-    }
-}
-
-/// How long a thread goes on.
-fn window_of(deed: Deed) -> u64 {
-    match deed {
-        Deed::Rounds(_) => LONGER,
-        _ => WINDOW,
-    }
-}
-
-/// What is told of so many rounds or turns, of which some time was timed: the time of as many as a
-/// slice is said to have.
-fn told(deed: Deed, timed: u64, took: u64, count: u32) -> u64 {
-    let time = match deed {
-        Deed::Alone(_) => timed,
-        Deed::Rounds(_) => 0,
-        _ => took,
-    };
-    time.saturating_mul(u64::from(calls_of(deed))) / u64::from(count.max(1))
-}
-
-/// As many rounds or turns as there is time for in a slice; the time of so many of them as a slice
-/// is said to have.
+/// As many rounds as there is time for in a slice; the time of so many of them as a slice is said
+/// to have.
 pub(crate) fn time_window<R: Clock + Wait>(
     rt: &R,
     alloc: Global,
     shared: &Shared,
     pass: &mut Pass,
     h: Handle,
-    deed: Deed,
+    round: Round,
 ) -> Option<u64>
     requires caller { IsCaller shared.now h pass.old }
 {
     let start = now(rt)?;
     let mut timed = 0u64;
     for count in 1..MOST {
-        timed = timed.saturating_add(once(rt, alloc, shared, pass, h, deed)?);
-        let took = since(rt, start)?;
-        if took >= window_of(deed) {
-            return Some(told(deed, timed, took, count));
+        timed = timed.saturating_add(time_round(rt, alloc, shared, pass, h, round)?);
+        if since(rt, start)? >= WINDOW {
+            return Some(timed.saturating_mul(ROUNDS) / u64::from(count));
         }
     }
     None

@@ -1,4 +1,23 @@
 //! A safe wrapper over `include/carbink.h`. Rows lie in a slice one after another, `len` bytes each. A world is in `world`.
+//!
+//! What the header asks of its caller, Rust's borrows keep: what a call reads is shared while it runs, and what it
+//! writes is borrowed by nobody else. So nothing that is written overlaps what is read, and no position is changed
+//! while a call runs:
+//!
+//! ```compile_fail,E0502
+//! # let code = carbink::Code { k: 2, r: 2, len: 8 };
+//! let mut block = [0; 32];
+//! code.encode(&block[..16], &mut block[8..24]).unwrap();
+//! ```
+//!
+//! ```compile_fail,E0506
+//! # fn changed(code: carbink::Code, mut rows: [u8; 32], mut present: [u8; 2]) {
+//! std::thread::scope(|scope| {
+//!     scope.spawn(|| code.solve(&mut rows, &present));
+//!     present[0] = 3;
+//! });
+//! # }
+//! ```
 
 pub mod world;
 
@@ -110,10 +129,19 @@ impl Code {
     }
 }
 
-/// The table of a code, and room for the parities of rows of one length, made once and used many times.
+/// The table of a code, for rows of one length, made once and used many times. It may go to another thread.
+///
+/// ```no_run
+/// let mut encoder = carbink::Encoder::new(carbink::Code { k: 2, r: 1, len: 4 })?;
+/// std::thread::spawn(move || encoder.encode(b"far data", &mut [0; 4])).join().unwrap()?;
+/// # Ok::<(), carbink::Refused>(())
+/// ```
 pub struct Encoder {
     handle: raw::Handle,
 }
+
+// The table says the same to every thread: `encoder_crosses` of crates/carbink_c proves it.
+unsafe impl Send for Encoder {}
 
 impl Encoder {
     /// An encoder of this code.

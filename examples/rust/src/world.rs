@@ -1,4 +1,4 @@
-//! A far-memory world on one thread.
+//! A far-memory world, which one thread steps at a time.
 
 use std::os::raw::c_void;
 
@@ -126,10 +126,41 @@ fn answer(status: u32) -> Result<(), Refused> {
     }
 }
 
-/// A world. It may not be sent to another thread, and its memory is given back when it is dropped.
+/// A world. It may go to another thread, and its memory is given back when it is dropped.
+///
+/// ```no_run
+/// # let config = carbink::world::Config { k: 2, r: 1, nodes: 3, frames: 2, room: 4, handles: 8 };
+/// let mut world = carbink::world::World::new(config)?;
+/// std::thread::spawn(move || world.make(b"bytes")).join().unwrap()?;
+/// # Ok::<(), carbink::world::Refused>(())
+/// ```
+///
+/// Two threads can't step it at once, nor can anybody change the bytes of an event while a step runs:
+///
+/// ```compile_fail,E0499
+/// # fn two(world: &mut carbink::world::World) {
+/// std::thread::scope(|scope| {
+///     scope.spawn(|| world.make(b"bytes"));
+///     scope.spawn(|| world.make(b"more"));
+/// });
+/// # }
+/// ```
+///
+/// ```compile_fail,E0506
+/// # fn changed(world: &mut carbink::world::World, mut bytes: [u8; 4]) {
+/// std::thread::scope(|scope| {
+///     scope.spawn(|| world.make(&bytes));
+///     bytes[0] = 1;
+/// });
+/// # }
+/// ```
 pub struct World {
     handle: Handle,
 }
+
+// What is behind the handle says the same to every thread: `world_crosses` of crates/carbink_c proves it. A method
+// takes the world by `&mut`, so each call of one thread comes before or after those of another.
+unsafe impl Send for World {}
 
 impl World {
     /// The empty world of these sizes.

@@ -1,7 +1,7 @@
 use Rattle.cb_shared.specs.Passes.{record_of}
 use Rattle.cb_shared.proofs.Laws.{turn_keeps}
 use Rattle.cb_shared_bench.proofs.Plain.{plain_may}
-use Rattle.cb_shared_bench.proofs.calls.turn.Goals as goal
+use Rattle.cb_shared_bench.proofs.calls.asked.Goals as goal
 
 pub turn-reply-requires-clause-job : goal.turn-reply-requires-clause-job
 turn-reply-requires-clause-job g c = (plain_may c.args.shared.now.config
