@@ -1,5 +1,6 @@
 # What the launcher and ./prove share: where the proved program and the kept trial build lie, and whether they are
-# current. The folder of the repository is $here.
+# current. The folder of the repository is $here. The sources are those of the crate $goal and of the crates below it, and
+# who says what is said is $speaker; both are set before this is read, as cb_app and carbink for the program.
 
 version=0.13
 program=$here/build/carbink
@@ -20,7 +21,7 @@ fi
 now_times=
 now_text=
 
-say() { printf 'carbink: %s\n' "$*" >&2; }
+say() { printf '%s: %s\n' "$speaker" "$*" >&2; }
 
 has_toolchain() { command -v rt >/dev/null; }
 
@@ -182,8 +183,8 @@ left_by_gate() {
     [[ $(LC_ALL=C sort <<<"$born" | head -n 1) > $start ]]
 }
 
-# The crates below the program and itself, the lowest first, and their sources.
-mapfile -t crates < <(levels_of cb_app)
+# The crates below $goal and itself, the lowest first, and their sources.
+mapfile -t crates < <(levels_of "$goal")
 crates=("${crates[@]#* }")
 sources=(crates.txt)
 for crate in "${crates[@]}"; do
