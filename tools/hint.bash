@@ -83,8 +83,6 @@ stray_bytes() {
 badly_spaced() { [[ $1 = ' '* || $1 = *' ' || $1 = *'  '* ]]; }
 spacing="words have exactly one space between them, and none stands before the first or behind the last"
 
-is_number() { [[ $1 =~ ^(0|[1-9][0-9]{0,8})$ ]]; }
-
 setting_out_of_range() {
     local word name value low high k=0 r=0 nodes=64
     for word in $1; do
@@ -295,13 +293,7 @@ wrong_option() {
             continue
             ;;
         esac
-        case $name in
-        --seed) low=0 high=999999999 ;;
-        --lines) low=1 high=4000 ;;
-        --lanes) low=1 high=15 ;;
-        *) continue ;;
-        esac
-        if ! is_number "$word" || [ "$word" -lt "$low" ] || [ "$word" -gt "$high" ]; then
+        if range_of_option "$name" && ! is_value "$name" "$word"; then
             say "$name is a number $low to $high without leading zeros, and not $(quoted "$word")"
             return
         fi
@@ -342,7 +334,7 @@ hint_status=$1
 shift
 LC_ALL=C
 case $hint_status in
-1) [ -n "${hint_said-}" ] || hint_at_1 "$@" ;;
+1) hint_at_1 "$@" ;;
 2) hint_at_2 ;;
 3) hint_at_3 ;;
 4) hint_at_4 ;;
