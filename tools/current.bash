@@ -6,6 +6,12 @@ version=0.13
 program=$here/build/carbink
 # A trial build that the launcher kept. It is compiled with checks, and not proved.
 trial=$here/build/trial
+# Where the tree can't be written a trial build is kept below the user's cache, in a folder that is named by the sum of
+# the sources; what stands for this tree there is a link to the folder. Nothing where there is no cache.
+cache=${XDG_CACHE_HOME-}
+[[ $cache = /* ]] || cache=${HOME:+$HOME/.cache}
+cache=${cache:+$cache/carbink}
+cached=$cache/at${here//\//%}
 # Beside each of the two stands what it was built from: in .sources a sum of the sources and the toolchain's name, in
 # .times the sizes and times of both. Where the times stand no text is read. Beside the proved program stands the
 # processor that it was built for, and beside the trial build, in .itself, its own size and time.
@@ -64,7 +70,7 @@ see_times() { [ -n "$now_times" ] || now_times=$(times_now); }
 see_text() {
     local made
     [ -z "$now_text" ] || return 0
-    for made in "$program" "$trial"; do
+    for made in "$program" "$trial" "$cached/trial"; do
         [ ! -f "$made.sources" ] || ! has_these_times "$made" || now_text=$(<"$made.sources")
     done
     [ -n "$now_text" ] || now_text=$(text_now)
@@ -151,6 +157,23 @@ is_current() { is_of_these "$program" && fits_here; }
 # Whether a trial build of the sources as they stand is kept, as it was put there: one that lost its text would answer
 # nothing, with status 0.
 is_kept() { is_of_these "$trial" && [ "$(size_of "$trial")" = "$(<"$trial.itself")" ]; } 2>/dev/null
+
+# Sets $elsewhere to where a trial build of the sources is kept, where the tree can't be written.
+see_elsewhere() {
+    [ -n "$cache" ] || return
+    see_times
+    see_text
+    elsewhere=$cache/${now_text%%[!0-9a-f]*}/trial
+}
+
+# Finds the trial build that is kept of the sources as they stand: it is $trial then.
+find_kept() {
+    local in_tree=$trial
+    is_kept && return
+    [ -d "$cache" ] && see_elsewhere && trial=$elsewhere && is_kept && return
+    trial=$in_tree
+    return 1
+}
 
 size_of() { stat -c '%s %.9Y' "$1"; }
 
