@@ -1,4 +1,4 @@
-# What the launcher and ./prove share: where the proved program and the kept trial build lie, and whether they are
+# What the launcher, ./prove and the tools share: where the proved program and the kept trial build lie, and whether they are
 # current. The folder of the repository is $here. The sources are those of the crate $goal and of the crates below it, and
 # who says what is said is $speaker; both are set before this is read, as cb_app and carbink for the program.
 
@@ -173,6 +173,18 @@ find_kept() {
     [ -d "$cache" ] && see_elsewhere && trial=$elsewhere && is_kept && return
     trial=$in_tree
     return 1
+}
+
+# Finds the program that answers calls of the sources as they stand, the proved one or else a kept trial build: $found.
+find_program() {
+    found=
+    if is_current; then
+        found=$program
+    elif find_kept; then
+        found=$trial
+    else
+        return 1
+    fi
 }
 
 size_of() { stat -c '%s %.9Y' "$1"; }
