@@ -290,6 +290,156 @@ uint32_t carbink_world_step(struct carbink_world *CARBINK_ALONE world, const str
  * coding work outside of a turn: 57 the seat keeps no order, 58 the row is not lost, 59 rows were given out for the
  * row of a set (first) at a position (second). */
 
+/* ---- What a reply says, by its name
+ *
+ * Each is 0 where the reply's kind has no such number. The kinds above name which they have, where `len` is the length,
+ * `count` the pins, and of two sets the second one is the other.
+ */
+/* The number of the object that was made. */
+static inline uint64_t carbink_reply_handle(const struct carbink_reply *reply) {
+    return reply->kind == CARBINK_REPLY_MADE ? reply->first : 0;
+}
+
+/* The version of the object that was made, read, written, freed or pinned. */
+static inline uint64_t carbink_reply_version(const struct carbink_reply *reply) {
+    switch (reply->kind) {
+    case CARBINK_REPLY_MADE:
+        return reply->second;
+    case CARBINK_REPLY_VERSION:
+    case CARBINK_REPLY_BYTES:
+        return reply->first;
+    default:
+        return 0;
+    }
+}
+
+/* The set that the reply is about; of a pair, the first. */
+static inline uint64_t carbink_reply_set(const struct carbink_reply *reply) {
+    switch (reply->kind) {
+    case CARBINK_REPLY_SET:
+    case CARBINK_REPLY_BATCH:
+    case CARBINK_REPLY_PAIR:
+    case CARBINK_REPLY_MERGED:
+    case CARBINK_REPLY_REBUILT:
+    case CARBINK_REPLY_UNAVAILABLE:
+    case CARBINK_REPLY_LEAVING:
+    case CARBINK_REPLY_JOINING:
+    case CARBINK_REPLY_CHANGED:
+    case CARBINK_REPLY_STUCK:
+        return reply->first;
+    default:
+        return 0;
+    }
+}
+
+/* The second set of a pair. */
+static inline uint64_t carbink_reply_other_set(const struct carbink_reply *reply) {
+    switch (reply->kind) {
+    case CARBINK_REPLY_PAIR:
+    case CARBINK_REPLY_JOINING:
+        return reply->second;
+    default:
+        return 0;
+    }
+}
+
+/* How many far spans came from the second of two sets that became one. */
+static inline uint64_t carbink_reply_moved(const struct carbink_reply *reply) {
+    return reply->kind == CARBINK_REPLY_MERGED ? reply->second : 0;
+}
+
+/* The position whose row was put or made again. */
+static inline uint64_t carbink_reply_position(const struct carbink_reply *reply) {
+    switch (reply->kind) {
+    case CARBINK_REPLY_SHIPPED:
+    case CARBINK_REPLY_STEPPED:
+        return reply->first;
+    case CARBINK_REPLY_REBUILT:
+        return reply->second;
+    default:
+        return 0;
+    }
+}
+
+/* The node that the reply is about. */
+static inline uint64_t carbink_reply_node(const struct carbink_reply *reply) {
+    switch (reply->kind) {
+    case CARBINK_REPLY_REBUILT:
+        return reply->third;
+    case CARBINK_REPLY_NODE_FULL:
+    case CARBINK_REPLY_DOWN:
+    case CARBINK_REPLY_UP:
+        return reply->first;
+    default:
+        return 0;
+    }
+}
+
+/* The epoch of a crash or a join. */
+static inline uint64_t carbink_reply_epoch(const struct carbink_reply *reply) {
+    return reply->kind == CARBINK_REPLY_EPOCH ? reply->first : 0;
+}
+
+/* How many objects can be made, and were. */
+static inline uint64_t carbink_reply_handles(const struct carbink_reply *reply) {
+    return reply->kind == CARBINK_REPLY_FULL ? reply->first : 0;
+}
+
+/* How many frames there are, in which no slot was found. */
+static inline uint64_t carbink_reply_frames(const struct carbink_reply *reply) {
+    switch (reply->kind) {
+    case CARBINK_REPLY_NO_ROOM:
+    case CARBINK_REPLY_NO_SLOT:
+        return reply->first;
+    default:
+        return 0;
+    }
+}
+
+/* How many spans could leave, too few for an eviction. */
+static inline uint64_t carbink_reply_loose(const struct carbink_reply *reply) {
+    switch (reply->kind) {
+    case CARBINK_REPLY_NO_ROOM:
+        return reply->second;
+    case CARBINK_REPLY_NO_SPANS:
+        return reply->first;
+    default:
+        return 0;
+    }
+}
+
+/* How many nodes are up and have room for a row. */
+static inline uint64_t carbink_reply_nodes(const struct carbink_reply *reply) {
+    switch (reply->kind) {
+    case CARBINK_REPLY_NO_ROOM:
+        return reply->third;
+    case CARBINK_REPLY_NO_NODES:
+        return reply->first;
+    default:
+        return 0;
+    }
+}
+
+/* How many bytes the object has. */
+static inline uint64_t carbink_reply_length(const struct carbink_reply *reply) {
+    return reply->kind == CARBINK_REPLY_RANGE ? reply->first : 0;
+}
+
+/* How many pins the object has. */
+static inline uint64_t carbink_reply_pins(const struct carbink_reply *reply) {
+    return reply->kind == CARBINK_REPLY_PINNED ? reply->first : 0;
+}
+
+/* How many sets have lost more rows than they have parities. */
+static inline uint64_t carbink_reply_gone(const struct carbink_reply *reply) {
+    return reply->kind == CARBINK_REPLY_WHOLE ? reply->first : 0;
+}
+
+/* The frame at which the span stands that came back. */
+static inline uint64_t carbink_reply_frame(const struct carbink_reply *reply) {
+    return reply->kind == CARBINK_REPLY_SWAPPED ? reply->first : 0;
+}
+
 /* ---- Each verb by its name
  *
  * What these answer is the status of carbink_world_step; what the verb does stands beside its number. Their room is

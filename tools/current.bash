@@ -1,10 +1,17 @@
-# What the launcher and ./prove share: where the proved program and the kept trial build lie, and whether they are
-# current. The folder of the repository is $here.
+# What the launcher, ./prove and the tools share: where the proved program and the kept trial build lie, and whether they are
+# current. The folder of the repository is $here. The sources are those of the crate $goal and of the crates below it, and
+# who says what is said is $speaker; both are set before this is read, as cb_app and carbink for the program.
 
 version=0.13
 program=$here/build/carbink
 # A trial build that the launcher kept. It is compiled with checks, and not proved.
 trial=$here/build/trial
+# Where the tree can't be written a trial build is kept below the user's cache, in a folder that is named by the sum of
+# the sources; what stands for this tree there is a link to the folder. Nothing where there is no cache.
+cache=${XDG_CACHE_HOME-}
+[[ $cache = /* ]] || cache=${HOME:+$HOME/.cache}
+cache=${cache:+$cache/carbink}
+cached=$cache/at${here//\//%}
 # Beside each of the two stands what it was built from: in .sources a sum of the sources and the toolchain's name, in
 # .times the sizes and times of both. Where the times stand no text is read. Beside the proved program stands the
 # processor that it was built for, and beside the trial build, in .itself, its own size and time.
@@ -20,7 +27,7 @@ fi
 now_times=
 now_text=
 
-say() { printf 'carbink: %s\n' "$*" >&2; }
+say() { printf '%s: %s\n' "$speaker" "$*" >&2; }
 
 has_toolchain() { command -v rt >/dev/null; }
 
@@ -63,7 +70,7 @@ see_times() { [ -n "$now_times" ] || now_times=$(times_now); }
 see_text() {
     local made
     [ -z "$now_text" ] || return 0
-    for made in "$program" "$trial"; do
+    for made in "$program" "$trial" "$cached/trial"; do
         [ ! -f "$made.sources" ] || ! has_these_times "$made" || now_text=$(<"$made.sources")
     done
     [ -n "$now_text" ] || now_text=$(text_now)
@@ -151,6 +158,35 @@ is_current() { is_of_these "$program" && fits_here; }
 # nothing, with status 0.
 is_kept() { is_of_these "$trial" && [ "$(size_of "$trial")" = "$(<"$trial.itself")" ]; } 2>/dev/null
 
+# Sets $elsewhere to where a trial build of the sources is kept, where the tree can't be written.
+see_elsewhere() {
+    [ -n "$cache" ] || return
+    see_times
+    see_text
+    elsewhere=$cache/${now_text%%[!0-9a-f]*}/trial
+}
+
+# Finds the trial build that is kept of the sources as they stand: it is $trial then.
+find_kept() {
+    local in_tree=$trial
+    is_kept && return
+    [ -d "$cache" ] && see_elsewhere && trial=$elsewhere && is_kept && return
+    trial=$in_tree
+    return 1
+}
+
+# Finds the program that answers calls of the sources as they stand, the proved one or else a kept trial build: $found.
+find_program() {
+    found=
+    if is_current; then
+        found=$program
+    elif find_kept; then
+        found=$trial
+    else
+        return 1
+    fi
+}
+
 size_of() { stat -c '%s %.9Y' "$1"; }
 
 # Writes $1 to the file $2, whole or not at all.
@@ -182,8 +218,8 @@ left_by_gate() {
     [[ $(LC_ALL=C sort <<<"$born" | head -n 1) > $start ]]
 }
 
-# The crates below the program and itself, the lowest first, and their sources.
-mapfile -t crates < <(levels_of cb_app)
+# The crates below $goal and itself, the lowest first, and their sources.
+mapfile -t crates < <(levels_of "$goal")
 crates=("${crates[@]#* }")
 sources=(crates.txt)
 for crate in "${crates[@]}"; do

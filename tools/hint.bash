@@ -79,11 +79,51 @@ stray_bytes() {
     esac
 }
 
+# What another command than the one that was called takes: what a line says that shows it is one of those, the header of the
+# input or a later line. Nothing where none does. Each tells it of the lines that stand there.
+is_event_header() { [[ $1 = "rma 1" || $1 = "rma 1 "* ]]; }
+is_row_header() { [[ $1 = "scrub 1" || $1 = "scrub 1 "* ]]; }
+is_script_header() { [[ $1 = "carbink 1" || $1 = "carbink 1 "* ]]; }
+
+is_request() {
+    local lane verb
+    read -r lane verb _ <<<"$1"
+    [[ $lane =~ ^[0-9]+$ ]] && [ -n "$(form_of "$verb")" ]
+}
+
+is_command() {
+    local verb first rest
+    read -r verb first rest <<<"$1"
+    [ -n "$(command_form_of "$verb")" ] && [[ "$first$rest" =~ ^[0-9\ ]*$ ]]
+}
+
+other_header() {
+    if is_event_header "$1"; then
+        echo "this is a schedule of remote orders: try carbink rma"
+    elif is_row_header "$1"; then
+        echo "these are rows: try carbink scrub"
+    elif is_script_header "$1" && is_command "$(line_of 2)"; then
+        echo "these are commands on a list and a map: try carbink map"
+    elif is_script_header "$1"; then
+        echo "this is a script: try carbink seq"
+    fi
+}
+
+# The first word of this text that is a number with a leading zero, and what is wrong with it.
+leading_zero() {
+    local word words
+    IFS=' ' read -r -a words <<<"$1"
+    for word in ${words[@]+"${words[@]}"}; do
+        if [[ ${word##*=} =~ ^0[0-9]+$ ]]; then
+            echo "$(quoted "$word") has a leading zero, and no number has one"
+            return
+        fi
+    done
+}
+
 # Whether words are set apart by other than one space each.
 badly_spaced() { [[ $1 = ' '* || $1 = *' ' || $1 = *'  '* ]]; }
 spacing="words have exactly one space between them, and none stands before the first or behind the last"
-
-is_number() { [[ $1 =~ ^(0|[1-9][0-9]{0,8})$ ]]; }
 
 setting_out_of_range() {
     local word name value low high k=0 r=0 nodes=64
@@ -121,7 +161,9 @@ wrong_word() {
         place=$((place + 1))
         [ "$word" != "$wanted" ] || [[ $wanted = *N ]] || continue
         [[ $wanted != *N || $word != "${wanted%N}"* ]] || ! is_number "${word#*=}" || continue
-        if [ -n "$word" ]; then echo "word $place is $wanted, and not $(quoted "$word")"; else echo "word $place, $wanted, is missing"; fi
+        if [[ $wanted = *N && $word =~ ^${wanted%N}0[0-9]+$ ]]; then
+            echo "word $place is $wanted, and $(leading_zero "$word")"
+        elif [ -n "$word" ]; then echo "word $place is $wanted, and not $(quoted "$word")"; else echo "word $place, $wanted, is missing"; fi
         return
     done
     [ -z "${words[place]-}" ] || echo "nothing stands behind turns=N, and $(quoted "${words[place]}") does"
@@ -131,6 +173,10 @@ wrong_header() {
     local stray form="line 1 is carbink 1 k=N r=N nodes=N frames=N room=N handles=N turns=N"
     if [ -z "$1" ]; then
         echo "the header is missing: $form"
+        return
+    fi
+    if is_event_header "$1" || is_row_header "$1"; then
+        other_header "$1"
         return
     fi
     stray=$(stray_bytes "$1")
@@ -149,6 +195,8 @@ wrong_shape() {
         echo "$stray"
     elif badly_spaced "$1"; then
         echo "$spacing"
+    elif is_command "$1"; then
+        echo "this is a command on a list or a map: try carbink map"
     elif [ -n "$(form_of "$lane")" ]; then
         echo "the lane is missing: before $lane stands a number 0 to 15"
     elif [ -z "$verb" ]; then
@@ -162,8 +210,22 @@ wrong_shape() {
 
 # What is wrong with the line $2 for the reason $1.
 reason_text() {
-    local lane verb name rest
+    local lane verb name rest cause=
     read -r lane verb name rest <<<"$2"
+    # What looks like nothing, and a number that is none, come before what they break.
+    case $1 in
+    5) ;;
+    6) cause=$(stray_bytes "$2") && [ -n "$cause" ] || cause=$(leading_zero "$lane") ;;
+    9)
+        [ "$verb" = write ] || rest=$name
+        cause=$(stray_bytes "$2") && [ -n "$cause" ] || cause=$(leading_zero "${rest%% *}")
+        ;;
+    [78] | 10 | 11) cause=$(stray_bytes "$2") ;;
+    esac
+    if [ -n "$cause" ]; then
+        echo "$cause"
+        return
+    fi
     case $1 in
     1) echo "the input has more than 1,048,576 bytes" ;;
     2) wrong_header "$2" ;;
@@ -191,12 +253,15 @@ reason_text() {
 
 # What is wrong with the line $2 of a schedule, which has the number $1.
 event_text() {
-    local stray verb form
+    local stray verb form word
     stray=$(stray_bytes "$2")
-    read -r verb _ <<<"$2"
+    read -r verb word _ <<<"$2"
     if [ "$1" = 0 ]; then
         echo "the input has more than 1,048,576 bytes"
+    elif [ "$1" = 1 ] && { is_script_header "$2" || is_row_header "$2"; }; then
+        other_header "$2"
     elif [ "$1" = 1 ]; then
+        [ -n "$stray" ] || stray=$(leading_zero "$2")
         echo "${stray:+$stray; }line 1 is rma 1 window=N, N a number 1 to 64 without leading zeros"
     elif [ "$1" = 20002 ]; then
         echo "a schedule has at most 20,000 lines behind the header"
@@ -206,8 +271,34 @@ event_text() {
         echo "$stray"
     elif form=$(event_form_of "$verb") && [ -z "$form" ]; then
         echo "$(quoted "$verb") is no verb; docs/FORMATS.md lists them"
+    elif stray=$(leading_zero "$word") && [ -n "$stray" ]; then
+        echo "$stray"
     else
         echo "behind $verb stands $form, with one space between words: a number has at most nine digits, C two lower-case hexadecimal digits, and HEX two for each of 1 to 4,096 bytes"
+    fi
+}
+
+# How many characters the line $1 of the input has.
+length_of() { input_again | LC_ALL=C sed -n "$1{p;q}" | tr -d '\n' | wc -c; }
+
+# What is wrong with the row of line $1, which begins with $2, where its length is.
+row_length_text() {
+    local rows=0 own first word
+    for word in $(line_of 1); do
+        case $word in k=* | r=*) rows=$((rows + ${word#*=})) ;; esac
+    done
+    own=$(length_of "$1")
+    first=$(length_of 2)
+    if [ "$1" -gt $((rows + 1)) ]; then
+        echo "line 1 asks for k + r = $rows rows, and this line is one more"
+    elif [ "$own" = 0 ]; then
+        echo "line 1 asks for k + r = $rows rows, and row $(($1 - 1)) is missing"
+    elif [[ ! $2 =~ ^[0-9a-f]*$ ]]; then
+        return
+    elif [ $((own % 2)) = 1 ]; then
+        echo "the row has an odd number of digits, $own, and a byte has two"
+    elif [ "$own" != "$first" ] && [ "$1" -gt 2 ]; then
+        echo "the row has $((own / 2)) bytes, and the first one $((first / 2)): all have as many"
     fi
 }
 
@@ -217,9 +308,14 @@ row_text() {
     stray=$(stray_bytes "$2")
     if [ "$1" = 0 ]; then
         echo "the input has more than 1,048,576 bytes"
+    elif [ "$1" = 1 ] && { is_script_header "$2" || is_event_header "$2"; }; then
+        other_header "$2"
     elif [ "$1" = 1 ]; then
+        [ -n "$stray" ] || stray=$(leading_zero "$2")
         echo "${stray:+$stray; }line 1 is scrub 1 k=K r=R, K a number 1 to 16 and R 1 to 4, without leading zeros"
     elif [ -n "$stray" ]; then
+        echo "$stray"
+    elif stray=$(row_length_text "$1" "$2") && [ -n "$stray" ]; then
         echo "$stray"
     else
         echo "behind line 1 stand k + r rows and no more, each of as many bytes, 1 to 4,096, in lower-case hexadecimal"
@@ -233,6 +329,8 @@ command_text() {
     read -r verb _ <<<"$2"
     if [ "$1" = 0 ]; then
         echo "the input has more than 1,048,576 bytes"
+    elif [ "$1" = 1 ] && { is_event_header "$2" || is_row_header "$2"; }; then
+        other_header "$2"
     elif [ "$1" = 1 ] && [ -n "$2" ] && [ -z "$stray$(wrong_word "$2")" ] && ! badly_spaced "$2"; then
         setting_out_of_range "$2"
     elif [ "$1" = 1 ]; then
@@ -245,6 +343,10 @@ command_text() {
         echo "$stray"
     elif badly_spaced "$2"; then
         echo "$spacing"
+    elif is_request "$2"; then
+        echo "this is a line of a script: try carbink seq"
+    elif stray=$(leading_zero "${2#* }") && [ -n "$stray" ]; then
+        echo "$stray"
     elif form=$(command_form_of "$verb") && [ -z "$form" ]; then
         echo "$(quoted "$verb") is no verb; docs/FORMATS.md lists them"
     else
@@ -295,13 +397,7 @@ wrong_option() {
             continue
             ;;
         esac
-        case $name in
-        --seed) low=0 high=999999999 ;;
-        --lines) low=1 high=4000 ;;
-        --lanes) low=1 high=15 ;;
-        *) continue ;;
-        esac
-        if ! is_number "$word" || [ "$word" -lt "$low" ] || [ "$word" -gt "$high" ]; then
+        if range_of_option "$name" && ! is_value "$name" "$word"; then
             say "$name is a number $low to $high without leading zeros, and not $(quoted "$word")"
             return
         fi
@@ -342,7 +438,7 @@ hint_status=$1
 shift
 LC_ALL=C
 case $hint_status in
-1) [ -n "${hint_said-}" ] || hint_at_1 "$@" ;;
+1) hint_at_1 "$@" ;;
 2) hint_at_2 ;;
 3) hint_at_3 ;;
 4) hint_at_4 ;;

@@ -7,9 +7,11 @@ import argparse
 import collections
 import os
 import re
+import subprocess
 import sys
 
-sys.path.append(os.path.join(os.path.dirname(os.path.realpath(__file__)), "..", "tests"))
+TOP = os.path.dirname(os.path.dirname(os.path.realpath(__file__)))
+sys.path.append(os.path.join(TOP, "tests"))
 import model  # noqa: E402
 
 # The most bytes of a script, and the most lines behind its header.
@@ -120,6 +122,20 @@ def printable(text):
     """At most 80 characters of a text in printable ones."""
     shown = "".join(it if " " <= it <= "~" else f"\\x{ord(it):02x}" for it in text[:80])
     return shown if len(shown) <= 80 else shown[:78] + ".."
+
+
+# ---- the program
+def program_here(top=TOP):
+    """The program that answers calls of the sources as they stand, as the launcher finds it: its path, and whether it is a
+    kept trial build; None where there is none."""
+    ask = ('here=$1 goal=cb_app speaker=carbink; . "$here/tools/current.bash" || exit; find_program && echo "$found" && '
+           '[ "$found" = "$trial" ] && echo trial')
+    try:
+        told = subprocess.run(["bash", "-c", ask, "_", top], stdin=subprocess.DEVNULL, capture_output=True, check=False).stdout
+    except OSError:
+        return None, False
+    found = os.fsdecode(told).splitlines()
+    return (found[0], found[1:] == ["trial"]) if found else (None, False)
 
 
 # ---- a script

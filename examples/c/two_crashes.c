@@ -39,12 +39,12 @@ int main(void) {
     for (uint32_t i = 0; i < PAGES; i++) {
         fill(page, i);
         done(carbink_make(&world, 0, page, SIZE, &reply));
-        handles[i] = (uint32_t)reply.first;
+        handles[i] = (uint32_t)carbink_reply_handle(&reply);
     }
     printf("%d pages of %d bytes in 4 frames: %u are whole\n", PAGES, SIZE, (unsigned)whole_pages(handles));
     for (uint32_t node = 1; node <= 3; node += 2) {
         done(carbink_crash(&world, 0, node, &reply));
-        unsigned epoch = (unsigned)reply.first;
+        unsigned epoch = (unsigned)carbink_reply_epoch(&reply);
         printf("node %u crashed, epoch %u: %u are whole\n", (unsigned)node, epoch, (unsigned)whole_pages(handles));
     }
     carbink_world_given(&world, &given);
