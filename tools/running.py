@@ -9,7 +9,8 @@ import os
 import re
 import sys
 
-sys.path.append(os.path.join(os.path.dirname(os.path.realpath(__file__)), "..", "tests"))
+TOP = os.path.dirname(os.path.dirname(os.path.realpath(__file__)))
+sys.path.append(os.path.join(TOP, "tests"))
 import model  # noqa: E402
 
 # The most bytes of a script, and the most lines behind its header.
