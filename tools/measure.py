@@ -8,8 +8,7 @@ import subprocess
 import sys
 import time
 
-import model
-from running import CountedWorld, DONE, Ending, TOP, kind_of
+from running import CountedWorld, DONE, Ending, TOP, kind_of, model
 
 PAGE = model.PAGE
 # Why rows move. Sent: by evictions. Given: for spans that come back. Joined: made where two sets become one. Taken:

@@ -71,6 +71,16 @@ class Words(argparse.ArgumentParser):
         raise Ending(f"{message}; {os.path.basename(sys.argv[0])} --help tells the words", USAGE)
 
 
+def number_of(asked, field, low, high):
+    """The number of a word's value, which is one already where the word was not given."""
+    word = getattr(asked, field)
+    if isinstance(word, int):
+        return word
+    if not NUMBER.fullmatch(word) or not low <= int(word) <= high:
+        raise Ending(f"--{field.replace('_', '-')}: '{printable(word)}' is no number from {low:,} to {high:,}", USAGE)
+    return int(word)
+
+
 def put(text):
     """Writes all of the text to standard output. A reader that is gone ends the tool without a word."""
     rest = memoryview(text.encode())
