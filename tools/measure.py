@@ -31,7 +31,8 @@ class Progress:
     def tell(self, done):
         if self.is_terminal and time.monotonic() >= self.next:
             self.next, self.told = time.monotonic() + 0.25, True
-            print(f"\r\x1b[K{self.what}: {done:,} of {self.total:,}", end="", file=sys.stderr, flush=True)
+            of = f" of {self.total:,}" if self.total else ""
+            print(f"\r\x1b[K{self.what}: {done:,}{of}", end="", file=sys.stderr, flush=True)
 
     def end(self):
         if self.told:
@@ -368,11 +369,22 @@ def program_at(path=None):
 
 
 def ask_program(program, mode, text):
-    """What the program prints of a script."""
+    """What the program prints of a script. On a terminal it tells how long that takes."""
+    pipes = {"stdin": subprocess.PIPE, "stdout": subprocess.PIPE}
+    progress, began = Progress(f"{os.path.basename(program)} {mode}, seconds", 0), time.monotonic()
     try:
-        done = subprocess.run([program, mode], input=text.encode(), stdout=subprocess.PIPE, check=False)
+        with subprocess.Popen([program, mode], **pipes) as child:
+            left = {"input": text.encode()}
+            while True:
+                try:
+                    out = child.communicate(timeout=0.25, **left)[0]
+                    break
+                except subprocess.TimeoutExpired:
+                    left = {}
+                    progress.tell(int(time.monotonic() - began))
     except OSError as error:
         raise Ending(f"{program} can't be run: {error.strerror}", 69) from None
-    if done.returncode != 0:
-        raise Ending(f"{program} {mode} ended with {done.returncode}: {done.stdout.decode('latin-1')[:200].strip()}", 70)
-    return done.stdout.decode("latin-1")
+    progress.end()
+    if child.returncode != 0:
+        raise Ending(f"{program} {mode} ended with {child.returncode}: {out.decode('latin-1')[:200].strip()}", 70)
+    return out.decode("latin-1")
