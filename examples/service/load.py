@@ -16,7 +16,7 @@ import subprocess
 import sys
 
 TALK = os.path.join(os.path.dirname(os.path.realpath(__file__)), "..", "..", "tools", "talk")
-K, R, NODES, FRAMES, ROOM = 4, 2, 8, 24, 256
+K, R, NODES, FRAMES, ROOM = 4, 2, 8, 48, 256
 SIZES = [16, 100, 100, 300, 300, 300, 1000, 4000]
 
 

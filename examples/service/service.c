@@ -181,8 +181,13 @@ int main(int count, char **words) {
         return 64;
     }
     while (fgets(line, sizeof line, stdin)) {
-        line[strcspn(line, "\n")] = 0;
-        answer(line, config.nodes);
+        if (strlen(line) == sizeof line - 1 && line[sizeof line - 2] != '\n') {
+            for (int c = getchar(); c != '\n' && c != EOF;) c = getchar();
+            puts("too_long");
+        } else {
+            line[strcspn(line, "\n")] = 0;
+            answer(line, config.nodes);
+        }
         fflush(stdout);
     }
     carbink_world_free(&world);
