@@ -5,10 +5,9 @@ world answers as the model's does, which tests/tools looks at, and is quicker in
 import collections
 import os
 import subprocess
-import sys
 import time
 
-from running import CountedWorld, DONE, Ending, TOP, kind_of, model
+from running import CountedWorld, DONE, Ending, Progress, TOP, kind_of, model
 
 PAGE = model.PAGE
 # Why rows move. Sent: by evictions. Given: for spans that come back. Joined: made where two sets become one. Taken:
@@ -18,25 +17,6 @@ CAUSES = ("sent", "given", "joined", "taken", "rebuilt", "read")
 UPKEEP = frozenset("filter evict begin ship commit abort compact pair patch merge part rebuild".split())
 # The lines that need an object in local memory.
 USES = frozenset(("read", "write", "pin"))
-
-
-class Progress:
-    """Tells on a terminal how far a tool is, once it ran for two seconds; elsewhere nothing."""
-
-    def __init__(self, what, total):
-        self.what, self.total, self.told = what, total, False
-        self.next = time.monotonic() + 2
-        self.is_terminal = bool(sys.stderr) and sys.stderr.isatty()
-
-    def tell(self, done):
-        if self.is_terminal and time.monotonic() >= self.next:
-            self.next, self.told = time.monotonic() + 0.25, True
-            of = f" of {self.total:,}" if self.total else ""
-            print(f"\r\x1b[K{self.what}: {done:,}{of}", end="", file=sys.stderr, flush=True)
-
-    def end(self):
-        if self.told:
-            print("\r\x1b[K", end="", file=sys.stderr, flush=True)
 
 
 class Blank:
