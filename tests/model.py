@@ -64,6 +64,9 @@ class Object:
 
 
 class World:
+    # What an object is; a world that counts may keep its length alone.
+    new_object = Object
+
     def __init__(self, k, r, nodes, frames, room, handles, local=False):
         self.local = local  # whether a compact line is done by the compute side
         self.k, self.r, self.n = k, r, k + r
@@ -304,7 +307,7 @@ class World:
             if not self.evict().startswith("set"):
                 return None, self.no_room()
             at = self.place(handle, len(data), "hot")
-        self.objects.append(Object(data, *at))
+        self.objects.append(self.new_object(data, *at))
         return handle, "v1"
 
     def read(self, handle):
@@ -511,28 +514,35 @@ def run(text, watch=None, local=False, world=World):
     lines = text.rstrip("\n").split("\n")
     head = dict(w.split("=") for w in lines[0].split()[2:])
     w = world(*(int(head[f]) for f in ("k", "r", "nodes", "frames", "room", "handles")), local)
-    names, scopes = {}, {}
-    last = {l.split()[0]: i for i, l in enumerate(lines[1:])}
-    out = []
+    out = answers(w, [line.split() for line in lines[1:]], watch)
+    if local:
+        out.append("given %d" % w.given)
+    return "".join(line + "\n" for line in out), w
+
+
+def answers(w, lines, watch=None, bytes_of=bytes.fromhex):
+    """The answers of lines, each a list of words, in a world that nothing was done in. bytes_of gives the bytes of the
+    last word of a make or a write."""
+    names, scopes, out = {}, {}, []
+    last = {words[0]: i for i, words in enumerate(lines)}
 
     def give_back(lane):
         for handle in scopes.get(lane, []):
             w.objects[handle].pins -= 1
         scopes[lane] = []
 
-    for i, line in enumerate(lines[1:]):
-        lane, verb, *rest = line.split()
+    for i, (lane, verb, *rest) in enumerate(lines):
         scope = scopes.setdefault(lane, [])
         named = verb in ("make", "read", "write", "free", "pin", "peek", "unpin", "filter")
         h = names.get(rest[0]) if named else None
         if verb == "make":
-            names[rest[0]], reply = w.make(bytes.fromhex(rest[1]))
+            names[rest[0]], reply = w.make(bytes_of(rest[1]))
         elif named and h is None:
             reply = "unmade"
         elif verb == "read":
             reply = w.read(h)
         elif verb == "write":
-            reply = w.write(h, int(rest[1]), b"" if rest[2] == "-" else bytes.fromhex(rest[2]))
+            reply = w.write(h, int(rest[1]), b"" if rest[2] == "-" else bytes_of(rest[2]))
         elif verb == "free":
             reply = w.free(h)
         elif verb == "pin":
@@ -573,9 +583,7 @@ def run(text, watch=None, local=False, world=World):
             give_back(lane)
         if watch:
             watch(i + 2, words, reply, w, names)
-    if local:
-        out.append("given %d" % w.given)
-    return "".join(line + "\n" for line in out), w
+    return out
 
 
 def main():

@@ -9,6 +9,7 @@ import os
 import re
 import subprocess
 import sys
+import time
 
 TOP = os.path.dirname(os.path.dirname(os.path.realpath(__file__)))
 sys.path.append(os.path.join(TOP, "tests"))
@@ -72,6 +73,16 @@ class Words(argparse.ArgumentParser):
         raise Ending(f"{message}; {os.path.basename(sys.argv[0])} --help tells the words", USAGE)
 
 
+def number_of(asked, field, low, high):
+    """The number of a word's value, which is one already where the word was not given."""
+    word = getattr(asked, field)
+    if isinstance(word, int):
+        return word
+    if not NUMBER.fullmatch(word) or not low <= int(word) <= high:
+        raise Ending(f"--{field.replace('_', '-')}: '{printable(word)}' is no number from {low:,} to {high:,}", USAGE)
+    return int(word)
+
+
 def put(text):
     """Writes all of the text to standard output. A reader that is gone ends the tool without a word."""
     rest = memoryview(text.encode())
@@ -104,6 +115,25 @@ def say(text):
             print(f"{os.path.basename(sys.argv[0])}: {text}", file=sys.stderr, flush=True)
     except OSError:
         pass
+
+
+class Progress:
+    """Tells on a terminal how far a tool is, once it ran for two seconds; elsewhere nothing."""
+
+    def __init__(self, what, total):
+        self.what, self.total, self.told = what, total, False
+        self.next = time.monotonic() + 2
+        self.is_terminal = bool(sys.stderr) and sys.stderr.isatty()
+
+    def tell(self, done):
+        if self.is_terminal and time.monotonic() >= self.next:
+            self.next, self.told = time.monotonic() + 0.25, True
+            of = f" of {self.total:,}" if self.total else ""
+            print(f"\r\x1b[K{self.what}: {done:,}{of}", end="", file=sys.stderr, flush=True)
+
+    def end(self):
+        if self.told:
+            print("\r\x1b[K", end="", file=sys.stderr, flush=True)
 
 
 def end_of(main):
@@ -421,12 +451,14 @@ class Statistics:
 def answer(script, local=False, watch=None):
     """The text of a script's answers, its statistics as plain data, and the world at its end. watch is called
     behind each line as that of the model."""
-    counts = Statistics()
+    counts, progress = Statistics(), Progress("lines", len(script.lines))
 
     def take(number, words, reply, world, names):
         counts.take(words, reply, world)
+        progress.tell(number - 1)
         if watch:
             watch(number, words, reply, world, names)
 
     text, world = model.run(script.text(), take, local, CountedWorld)
+    progress.end()
     return text, counts.counts(world), world
