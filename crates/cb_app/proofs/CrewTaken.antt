@@ -273,11 +273,11 @@ workers_split handles n (f ∷ e ∷ c ∷ r ∷ x ∷ more) before after leaves
     absurd leaves.1.1.1.1
 workers_split handles n (f ∷ e ∷ c ∷ r ∷ []) before after (lf, (le, (lc, (lr, end))))
     (tf, isf, (te, ise, (tc, isc, (tb, isr, taken)))) = record {
-  made = each_of (left tf) (left te) (left tc) (left tb);
-  turns = taken ∙ ap (λ (ts : List Turn).
-      left tb ++ (left tc ++ (left te ++ (left tf ++ ts)))) (sym none);
-  works = works;
-}
+      made = each_of (left tf) (left te) (left tc) (left tb);
+      turns = taken ∙ ap (λ (ts : List Turn).
+          left tb ++ (left tc ++ (left te ++ (left tf ++ ts)))) (sym none);
+      works = works;
+    }
   where
     none : lines_taken (f ∷ e ∷ c ∷ r ∷ []) before ≡ before
     none = (λ i. no_lines handles n worker.Rebuild r lr i

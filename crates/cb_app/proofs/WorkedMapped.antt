@@ -244,8 +244,13 @@ module _ (world : WorldState) (seal : Seal) (there : IsLeft world seal) where
   gone = record {
     array = no_array;
     buckets = no_map 64;
-    go = (opener small, no_array, no_map 64, popped,
-        (opener small, no_array, no_map 64, looked, (refl, refl, refl)));
+    go = (
+      opener small,
+      no_array,
+      no_map 64,
+      popped,
+      (opener small, no_array, no_map 64, looked, (refl, refl, refl)),
+    );
     both = both;
   }
 

@@ -135,6 +135,7 @@ fn is_noted<R: Threads + Wait + Sync>(rt: &R, alloc: Global) -> Result<bool, NoM
 /// A script, and what `seq` tells of it.
 const SHORT: &[u8] = b"carbink 1 k=2 r=2 nodes=6 frames=8 room=64 handles=16 turns=0\n\
 0 make a 0a\n0 read a\n";
+
 const SHORT_TEXT: &[u8] = b"0 make a v1\n0 read a v1 0a\n";
 
 /// Whether the program, over a slice and a `Vec`, tells what `seq` is to tell.

@@ -204,8 +204,11 @@ module _ (s : Plain) (t : IsTallied s) (all : IsCounted s) (key : ℕ) where
       by q (inr off) = ap is_some (drop_other s.pairs key q off)
   drop_keys true is = counted_then s t all key (count_at s key - 1) (map.remove s.pairs key)
       (λ q off. ap is_some (drop_other s.pairs key q off))
-      (λ keys old long. (without key keys, λ q. one keys old q (same_or_not q key),
-      (let l = less_length key keys (some keys old) in omega (arith, long, l))))
+      (λ keys old long. (
+        without key keys,
+        λ q. one keys old q (same_or_not q key),
+        (let l = less_length key keys (some keys old) in omega (arith, long, l)),
+      ))
     where
       stands : (keys : List ℕ) → AreKeysIn s (bucket_of key) keys → times_in key keys ≡ 1
       stands keys old = old key ∙ ap (share key (bucket_of key)) is ∙ share_on key
@@ -232,8 +235,12 @@ module _ (s : Plain) (t : IsTallied s) (all : IsCounted s) (key : ℕ) where
 
 -- ---- all commands
 fresh_counted : IsCounted fresh
-fresh_counted bucket low = ([], λ q. sym (ap (λ o. share q bucket (is_some o)) (none q)
-    ∙ share_none q bucket), get_or-replicate 64 bucket 0 0 low)
+fresh_counted bucket low = (
+  [],
+  λ q. sym (ap (λ o. share q bucket (is_some o)) (none q)
+      ∙ share_none q bucket),
+  get_or-replicate 64 bucket 0 0 low,
+)
   where
     none : (q : ℕ) → map.get fresh.pairs q ≡ None
     none q = map.get-empty nat_cmp q

@@ -87,12 +87,11 @@ module _ (on : ℕ → Type 0) (vain : Turn → Type 0) where
   -- one try more that came to nothing
   pub tries_after : (v w u : View) (d : Part) → IsInVain v.order on vain d → Grows v d w
       → TriesInVain on vain w u → TriesInVain on vain v u
-  tries_after v w u d x is (e, y, next) =
-      (
-        sum d e,
-        vain_sum v.order d e x (vain_behind v w d e is y),
-        next ∙ ap (grown e) is ∙ grown_sum d e v,
-      )
+  tries_after v w u d x is (e, y, next) = (
+    sum d e,
+    vain_sum v.order d e x (vain_behind v w d e is y),
+    next ∙ ap (grown e) is ∙ grown_sum d e v,
+  )
 
   -- or one that ends the call
   pub ends_after : (P : View → Part → Type 0) (f : View → View) (v w u : View) (d e : Part)
