@@ -1,5 +1,5 @@
 -- Which turns of the joined record the workers made, and which the lines.
-use Rattle.std.proofs.Common.{◌≡◌, ℕ, suc, ◌+◌, ◌<◌, List, [], ◌∷◌, ◌++◌, length, map, Result, Ok, Err, refl, sym, ap, ◌∙◌, subst, append-nil, append_assoc, arith}
+use Rattle.std.proofs.Common.{◌≡◌, ℕ, suc, ◌+◌, ◌<◌, List, [], ◌∷◌, ◌++◌, length, map, Result, Ok, refl, sym, ap, ◌∙◌, subst, append-nil, append_assoc, arith}
 use Rattle.std.specs.Prelude.{IfOk, slice_index_or}
 use Rattle.std.specs.List.{AllByRecursion}
 use Rattle.std.proofs.lemmas.List.{map-append}
@@ -23,12 +23,12 @@ use Rattle.cb_lanes.specs.Asked.{asked}
 use Rattle.cb_lanes.proofs.Laws.{all_both}
 use Rattle.cb_workers.specs.Bodies.{WorkerWorks}
 use Rattle.cb_workers.specs.Rules.{end_of, first_job}
-use Rattle.cb_workers.specs.Work.{IsOnly, IsWork}
+use Rattle.cb_workers.specs.Work.{IsOnly}
 use Rattle.cb_workers.specs.declared.worker.Worker.{Worker as Worker'}
 use Rattle.cb_workers.specs.declared.worker.Worker.TheVariants as worker
 use Rattle.cb_app.specs.ByLane.{IsApart}
 use Rattle.cb_app.specs.Crew.{IsDealtOne, IsEnded, IsFreshRecord, IsLaneTold, lines_in, lines_left}
-use Rattle.cb_app.specs.CrewTurns.{AllLeave, HasCrew, HasTaken, IsCrew, IsLane, IsLeftBy, IsWorkOf, Joins, JoinsEnded, LeavesWork, TurnsTaken, bodies_of, lines_taken, turns_of_lines, with_turns}
+use Rattle.cb_app.specs.CrewTurns.{AllLeave, HasCrew, HasTaken, IsCrew, IsLane, IsWorkOf, JoinsEnded, LeavesWork, TurnsTaken, bodies_of, lines_taken, turns_of_lines, with_turns}
 use Rattle.cb_app.specs.declared.crew.Body.{Body}
 use Rattle.cb_app.specs.declared.crew.Body.TheVariants.{Lane, Worker}
 use Rattle.cb_app.specs.declared.crew.Ended.{Ended}

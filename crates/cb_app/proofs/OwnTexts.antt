@@ -1,11 +1,10 @@
 -- Two lists of answers to one script, each of which answers a lane's own lines as if the lane were
 -- alone, have one text of these lines.
-use Rattle.std.proofs.Common.{◌≡◌, ◌≢◌, ◌⊎◌, ℕ, ◌^◌, ◌<◌, Bool, true, false, ◌&&◌, ◌||◌, nat_eq, List, [], ◌∷◌, ◌++◌, map, Option, None, Some, Result, Ok, Err, IfOk, inl, inr, refl, sym, ap, ◌∙◌, subst, if◌then◌else◌, decimal}
+use Rattle.std.proofs.Common.{◌≡◌, ◌≢◌, ℕ, Bool, true, false, ◌&&◌, ◌||◌, nat_eq, List, [], ◌∷◌, ◌++◌, map, Result, Ok, Err, IfOk, refl, sym, ap, ◌∙◌, subst, if◌then◌else◌, decimal}
 use Rattle.std.specs.List.{AllByRecursion, filter}
-use Rattle.std.proofs.lemmas.Bool.{cases_Bool, false≢true}
+use Rattle.std.proofs.lemmas.Bool.{false≢true}
 use Rattle.cb_member.specs.declared.no_memory.NoMemory.{NoMemory}
 use Rattle.cb_types.specs.declared.answer.Answer.{Answer}
-use Rattle.cb_types.specs.declared.handle.Lane.{Lane}
 use Rattle.cb_types.specs.declared.request.Request.{Request}
 use Rattle.cb_types.specs.declared.request.Request.TheVariants as line
 use Rattle.cb_types.specs.declared.reply.Reply.{Reply}
@@ -14,16 +13,13 @@ use Rattle.cb_types.specs.Table.{IsReplyOf}
 use Rattle.cb_script.specs.declared.script.Line.{Line}
 use Rattle.cb_script.specs.declared.script.Script.{Script}
 use Rattle.cb_script.specs.Form.{IsScript}
-use Rattle.cb_script.specs.Roomy.{IsRoomy, has_step_line}
 use Rattle.cb_script.proofs.PublicLaws.{roomy_at_ease}
 use Rattle.cb_text.specs.Line.{answer_line, reply_text, spaced, subject_text, text_of, verb_of}
-use Rattle.cb_lanes.specs.Alone.{AloneSays, HasOwnLines, KeepAlone, LaneState, alone_after, alone_more, fresh_lane, is_leave, is_maker_of, is_own, leaves, own_name}
+use Rattle.cb_lanes.specs.Alone.{AloneSays, KeepAlone, LaneState, alone_after, alone_more, fresh_lane, is_leave, is_maker_of, is_own, own_name}
 use Rattle.cb_lanes.specs.Asked.{HasLineReply, answer_to, asked}
 use Rattle.cb_lanes.specs.Scopes.{Scope, scope_after}
-use Rattle.cb_lanes.specs.declared.side.Side.TheVariants.{Nodes}
-use Rattle.cb_app.specs.ByLane.{by_lane, of_lane}
+use Rattle.cb_app.specs.ByLane.{of_lane}
 use Rattle.cb_app.specs.OwnLines.{to_lane}
-use Rattle.cb_app.specs.Scripts.{IsAnswered}
 use Rattle.cb_app.specs.Threaded.{IsRun}
 use Rattle.cb_app.specs.TwoTexts.{TellsAsSeq, own_text}
 use Rattle.cb_app.specs.declared.threads.ThreadsEnd.{ThreadsEnd}

@@ -1,35 +1,30 @@
 -- Worked examples: which turns of a record the workers made and which the lines; and what breaks each
 -- part alone.
-use Rattle.std.proofs.Common.{◌≡◌, ℕ, suc, ◌+◌, ◌<◌, ◌≤◌, List, [], ◌∷◌, ◌++◌, length, map, Option, Some, None, Result, Ok, Err, refl, sym, ap, ◌∙◌, subst, arith}
-use Rattle.std.specs.List.{AllByRecursion}
+use Rattle.std.proofs.Common.{◌≡◌, ℕ, ◌+◌, ◌≤◌, List, [], ◌∷◌, ◌++◌, length, map, Some, Result, Ok, Err, refl, sym, ap, ◌∙◌, subst, arith}
 use Rattle.std.proofs.lemmas.List.{length-append, length-map}
 use Rattle.cb_member.specs.declared.no_memory.NoMemory.{NoMemory}
 use Rattle.cb_types.specs.declared.answer.Answer.{Answer}
 use Rattle.cb_types.specs.declared.config.Config.{Config}
 use Rattle.cb_types.specs.declared.job.Job.TheVariants as job
 use Rattle.cb_types.specs.declared.reply.Reply.TheVariants as answer
-use Rattle.cb_types.specs.declared.request.Request.TheVariants.{Evict}
 use Rattle.cb_script.specs.declared.script.Line.{Line}
 use Rattle.cb_world.specs.World.{WorldState}
 use Rattle.cb_rule.specs.declared.turn.Turn.{Turn}
 use Rattle.cb_rule.specs.declared.view.View.{View}
-use Rattle.cb_rule.specs.Steps.{joined}
 use Rattle.cb_record.specs.Backs.{Backs, turn_needed}
-use Rattle.cb_record.specs.Deeds.{Deed, deed}
+use Rattle.cb_record.specs.Deeds.{deed}
 use Rattle.cb_record.specs.Lists.{IsSublist, newest_first}
 use Rattle.cb_record.specs.Lists.IsSublist.{both, ended}
 use Rattle.cb_record.specs.Told.{tolds}
 use Rattle.cb_record.specs.Upheld.{as_part}
 use Rattle.cb_shared.specs.declared.seal.Seal.{Seal}
-use Rattle.cb_shared.specs.Joining.{unpinned_all}
 use Rattle.cb_shared.specs.Passes.{record_of}
 use Rattle.cb_shared.specs.Sealing.{sealed_record}
-use Rattle.cb_lanes.specs.declared.body.LaneEnd.{LaneEnd}
 use Rattle.cb_workers.specs.Rules.{visit}
 use Rattle.cb_workers.specs.declared.worker.Worker.{Worker as Worker'}
 use Rattle.cb_workers.specs.declared.worker.Worker.TheVariants as worker
 use Rattle.cb_workers.proofs.Laws.{work_is_done}
-use Rattle.cb_app.specs.CrewTurns.{AllLeave, HasCrew, HasTaken, IsCrew, IsLane, IsLeftBy, IsWorkOf, Joins, JoinsEnded, LeavesWork, TurnsTaken, lines_taken, turns_of_lines}
+use Rattle.cb_app.specs.CrewTurns.{HasCrew, IsCrew, IsLane, IsWorkOf, TurnsTaken, lines_taken, turns_of_lines}
 use Rattle.cb_app.specs.Threaded.{IsRun}
 use Rattle.cb_app.specs.declared.crew.Body.{Body}
 use Rattle.cb_app.specs.declared.crew.Body.TheVariants.{Lane, Worker}

@@ -47,15 +47,15 @@ pub record HasCrew (c : Config) (v : View) (answers : List Answer) : Type 0 wher
 
 -- ---- thread by thread
 
--- what a thread has to leave: a worker its work
-abbrev pub IsLeftBy : ℕ → Body → List Turn → Type 0
-IsLeftBy handles (Lane lane) made = Unit {0}
-IsLeftBy handles (Worker w turns) made = IsWorkOf handles w turns made
+-- a worker left its work, unless memory was wanting
+abbrev pub IsLeftBy : ℕ → Body → Result ToldEnd NoMemory → Type 0
+IsLeftBy handles (Lane lane) left = Unit {0}
+IsLeftBy handles (Worker w turns) left =
+    IfOk left (λ told. IsWorkOf handles w turns (record_of told.end.pass).turns)
 
--- it does, unless memory was wanting
+-- a thread left the body that it was given, and a worker its work
 abbrev pub LeavesWork : ℕ → Body → Ended → Type 0
-LeavesWork handles body e = (e.body ≡ body)
-    × IfOk e.left (λ told. IsLeftBy handles body (record_of told.end.pass).turns)
+LeavesWork handles body e = (e.body ≡ body) × IsLeftBy handles body e.left
 
 -- so of each thread
 abbrev pub AllLeave : ℕ → List Body → List Ended → Type 0
