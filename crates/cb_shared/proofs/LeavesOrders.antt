@@ -1,5 +1,5 @@
 -- What a turn leaves of the order that its seat kept, by its job and its reply.
-use Rattle.std.proofs.Common.{◌≡◌, ℕ, List, [], Option, None, Some, sym, refl, ap, ◌∙◌, subst, inl}
+use Rattle.std.proofs.Common.{◌≡◌, List, [], Option, None, Some, sym, refl, ap, ◌∙◌, subst, inl}
 use Rattle.std.proofs.Common.{inr, arith, ⊎_elim, false, Ok}
 use Rattle.cb_types.specs.declared.config.Config.{Config}
 use Rattle.cb_types.specs.declared.handle.Handle.{Handle}
@@ -13,7 +13,6 @@ use Rattle.cb_ptr.specs.Word.{state_of}
 use Rattle.cb_world.specs.declared.access.Access.{Access}
 use Rattle.cb_world.specs.declared.shown.Shown.{Shown}
 use Rattle.cb_world.specs.FarState.{FarState}
-use Rattle.cb_world.specs.Played.{played}
 use Rattle.cb_evict.specs.declared.gathering.Gathered.{Gathered}
 use Rattle.cb_evict.specs.declared.gathering.Gathered.TheVariants as gathered
 use Rattle.cb_evict.specs.Gathering.{HandsOut, gathered_order, gathered_reply, order_for}
@@ -23,13 +22,11 @@ use Rattle.cb_swapin.specs.declared.fetching.Fetching.TheVariants as fetching
 use Rattle.cb_swapin.specs.FetchStep.{fetching_order, fetching_reply}
 use Rattle.cb_core.specs.OrderParts.{landed_order, not_far, was_far}
 use Rattle.cb_core.specs.Ordered.TurnedWith.{done as done_with, worn as worn_with}
-use Rattle.cb_core.specs.Parts.{Holding}
 use Rattle.cb_core.specs.Turned.{done, once_counted, worn}
 use Rattle.cb_rule.specs.declared.turn.Turn.{Turn}
 use Rattle.cb_shared.specs.Ordering.{IsPlainFetch, IsPlainGather}
 use Rattle.cb_shared.specs.OrdersKept.{FetchKeeps, GatherKeeps, LeavesOrder}
-use Rattle.cb_shared.specs.Turning.{Did, DidAs, DidBy, DidWith, Slate, held_by, slate_run}
-use Rattle.cb_shared.specs.Turning.{slate_shows}
+use Rattle.cb_shared.specs.Turning.{Did, DidBy, DidWith, held_by}
 use Rattle.cb_shared.proofs.Asks.{IsBatchOf, begun_kind, fetch_kept, fetched_kind, find_kind}
 use Rattle.cb_shared.proofs.Asks.{gather_kept, kind_of, plain_fetch, plain_gather}
 use Rattle.cb_shared.proofs.DidAlone.{kept_alone}

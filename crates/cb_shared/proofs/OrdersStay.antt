@@ -1,5 +1,5 @@
 -- A call whose turns neither hand an order out nor take one leaves its pass the order that it kept.
-use Rattle.std.proofs.Common.{◌≡◌, ◌⊎◌, ℕ, List, [], ◌∷◌, ◌++◌, Option, Some, Result, Ok, sym, refl, ap}
+use Rattle.std.proofs.Common.{◌≡◌, ◌⊎◌, ℕ, List, [], ◌∷◌, Option, Result, Ok, sym, refl, ap}
 use Rattle.std.proofs.Common.{◌∙◌, subst, inl, inr}
 use Rattle.cb_member.specs.declared.no_memory.NoMemory.{NoMemory}
 use Rattle.cb_types.specs.declared.config.Config.{Config}
@@ -11,7 +11,7 @@ use Rattle.cb_core.specs.Jobs.{NeedsNoOrder}
 use Rattle.cb_rule.specs.declared.turn.Turn.{Turn}
 use Rattle.cb_rule.specs.declared.view.View.{View}
 use Rattle.cb_rule.specs.Lists.{Each}
-use Rattle.cb_record.specs.Parts.{Part, grown, keeps_after, sum}
+use Rattle.cb_record.specs.Parts.{Part, grown, keeps_after}
 use Rattle.cb_shared.specs.Calls.{IsInVain, IsUnanswered, LooksOf, OfThis, TriesInVain, TurnGives}
 use Rattle.cb_shared.specs.Calls.{TurnLacks, TurnStops}
 use Rattle.cb_shared.specs.OrdersKept.{KeepInTurn, LeavesOrder}

@@ -42,9 +42,11 @@ use std::sync::Wait;
 impl Shared {
     /// The version and the bytes of an object that the pass knows, under a pin of its own beside
     /// those of the scope; Freed where it was freed. A far object is brought in as `bring` says,
-    /// and looked at again at once; where it has left again by then, by a turn of the job Read,
-    /// which reads it too. Where that can't be, the answer is why: Unavailable, NoRoom, or Worn by
-    /// the count of turns. Tries again where the object is being moved or written, has as many pins
+    /// and looked at again at once. Where this call brought it in and it has left again by then, it
+    /// is brought in by a turn of the job Read, which reads it too. Where it can't be, the answer is
+    /// why: Unavailable or NoRoom by a turn on this object, or Worn by the count of turns. The pass
+    /// keeps another order then, or none, where its row was lost.
+    /// Tries again where the object is being moved or written, has as many pins
     /// as its word can count, or another pass came first, and where too few spans were loose but
     /// there are so many frames that more may come. Waits.
     ///
@@ -79,9 +81,11 @@ impl Shared {
     /// where it is and has no pins: Version with its next version; Freed where it was freed; Range
     /// with its length where the bytes go past its end; Pinned with the count of its pins; Worn
     /// where its version has no next one. Of a far object whose row is lost that row is made and
-    /// landed, as `bring` says, and the write looks again; but where the bytes go past its end, and
-    /// where its row is not lost, it is written by a turn of the job Write. Where it can't be
-    /// brought in, the answer is why: Unavailable, NoRoom, or Worn by the count of turns. Tries
+    /// landed, as `bring` says, and the write looks again; but where the bytes go past its end,
+    /// where its row is not lost, and after a landing that lacks shards or room, it is written by a
+    /// turn of the job Write. Where it can't be brought in, the answer is why: Unavailable or NoRoom
+    /// by a turn on this object, or Worn by the count of turns. The pass keeps another order then,
+    /// or none, where its row was lost. Tries
     /// again where the object is being moved or written, or another pass came first, and where too
     /// few spans were loose but there are so many frames that more may come. Waits. It is compiled
     /// into its callers: the reply of a short write then never goes through memory.
@@ -261,9 +265,9 @@ impl Shared {
         }
     }
 
-    /// Turns of a read that found its object far: they bring it in, and where that was done before
-    /// and it has left again, a turn of the job Read reads it too. Nobody can take the object away
-    /// between the two parts of such a turn.
+    /// Turns of a read that found its object far: they bring it in, and where a turn of the call
+    /// did so before and it has left again, a turn of the job Read reads it too. Nobody can take the
+    /// object away between the two parts of such a turn.
     fn read_far<R: Wait>(
         &self,
         rt: &R,

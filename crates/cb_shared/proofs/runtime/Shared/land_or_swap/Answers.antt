@@ -2,7 +2,7 @@ use Rattle.std.proofs.Common.{Option, None, ap, refl, subst}
 use Rattle.std.proofs.lemmas.Result.{IfOk-from_err, IfOk-weaker, on_err_weaker}
 use Rattle.cb_types.specs.declared.job.Job.TheVariants as jobs
 use Rattle.cb_types.specs.declared.reply.Reply.{Reply}
-use Rattle.cb_shared.specs.Calls.{AtNone, Brings, OfThis, TriesBy, TurnTries}
+use Rattle.cb_shared.specs.Calls.{AtNone, Brings, TurnTries}
 use Rattle.cb_shared.specs.Passes.{record_of}
 use Rattle.cb_shared.specs.Ways.{landing_told}
 use Rattle.cb_shared.proofs.CallSteps.{err_always, stops_then}

@@ -2,7 +2,7 @@ use Rattle.std.proofs.Common.{Option, None, ap, inl, inr, refl, subst}
 use Rattle.std.proofs.lemmas.Result.{IfOk-from_err, IfOk-weaker, on_err_weaker}
 use Rattle.cb_types.specs.declared.job.Job.TheVariants as jobs
 use Rattle.cb_types.specs.declared.reply.Reply.{Reply}
-use Rattle.cb_shared.specs.Calls.{AtNone, IsUnanswered, IsWriteJob, OfThis, TriesBy, TurnTries}
+use Rattle.cb_shared.specs.Calls.{AtNone, IsUnanswered, IsWriteJob, OfThis, TurnTries}
 use Rattle.cb_shared.specs.Passes.{record_of}
 use Rattle.cb_shared.specs.Ways.{landing_told}
 use Rattle.cb_shared.proofs.CallSteps.{err_always, known_still, stops_then}

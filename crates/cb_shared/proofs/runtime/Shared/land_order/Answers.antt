@@ -1,5 +1,4 @@
 use Rattle.std.proofs.Common.{◌∙◌, [], Some, ap, sym, inl, refl}
-use Rattle.std.proofs.lemmas.Option.{none-some}
 use Rattle.std.proofs.lemmas.Result.{IfOk-from_err}
 use Rattle.cb_types.specs.declared.job.Job.TheVariants.{Land}
 use Rattle.cb_types.specs.declared.order.DecodeOrder.{DecodeOrder}
