@@ -3,9 +3,13 @@
 A code has k data rows (1 to 16) and r parities (1 to 4). Rows are bytes of one length, 1 or more, and a word
 is k + r rows. A World holds objects, in local memory and on nodes that may crash. A call that can't be made
 raises Refused with the status that the library answered; a reply that refuses is a value like any other.
+
+Other threads of Python run while the library does. An Encoder and a World take one call at a time, by a lock of
+their own; what a call is given is copied or can't be changed.
 """
 import ctypes
 import os
+import threading
 
 DONE, BAD_CODE, BAD_LENGTH, BAD_BUFFER, BAD_POSITIONS, NO_MEMORY = range(6)
 NAMES = {DONE: "done", BAD_CODE: "no such code", BAD_LENGTH: "rows of no bytes", BAD_BUFFER: "a buffer of another size",
@@ -146,19 +150,21 @@ class Encoder:
     """The table of a code, and room for parities of rows of one length, made once and used many times."""
 
     def __init__(self, k, r, length):
-        self._held, self._length = _World(), length
+        self._held, self._length, self._lock = _World(), length, threading.Lock()
         _must(_lib.carbink_encoder_new(self._held, k, r, length))
         self._parities = (ctypes.c_ubyte * (r * length))()
 
     def encode(self, data):
         """The parities of these data rows."""
         block, size = b"".join(data), len(self._parities)
-        _must(_lib.carbink_encoder_encode(self._held, block, len(block), self._parities, size))
-        return _rows(self._parities, size, self._length)
+        with self._lock:
+            _must(_lib.carbink_encoder_encode(self._held, block, len(block), self._parities, size))
+            return _rows(self._parities, size, self._length)
 
     def close(self):
         """Gives the memory back; the encoder is gone then."""
-        _lib.carbink_encoder_free(self._held)
+        with self._lock:
+            _lib.carbink_encoder_free(self._held)
 
     def __enter__(self):
         return self
@@ -186,15 +192,15 @@ class World:
     """A world on one thread. Each verb is a method, as world.make(b"bytes") or world.crash(node=3)."""
 
     def __init__(self, k, r, nodes, frames, room, handles):
-        self._held, self._room = _World(), (ctypes.c_ubyte * ROOM)()
+        self._held, self._room, self._lock = _World(), (ctypes.c_ubyte * ROOM)(), threading.Lock()
         _must(_lib.carbink_world_new(self._held, _Config(k, r, nodes, frames, room, handles)))
 
     def step(self, verb, data=b"", seat=0, handle=0, node=0, at=0):
         """One event. Verbs are those of VERBS; what a verb does not take is not looked at."""
-        reply = _Reply()
-        _must(_lib.carbink_world_step(self._held, _Event(VERBS.index(verb), seat, handle, node, at), data, len(data),
-                                      reply, self._room, ROOM))
-        return Reply(reply, self._room)
+        reply, event = _Reply(), _Event(VERBS.index(verb), seat, handle, node, at)
+        with self._lock:
+            _must(_lib.carbink_world_step(self._held, event, data, len(data), reply, self._room, ROOM))
+            return Reply(reply, self._room)
 
     def __getattr__(self, verb):
         if verb not in VERBS:
@@ -204,12 +210,14 @@ class World:
     def given(self):
         """How many rows the nodes have given out."""
         told = ctypes.c_uint64()
-        _must(_lib.carbink_world_given(self._held, told))
+        with self._lock:
+            _must(_lib.carbink_world_given(self._held, told))
         return told.value
 
     def close(self):
         """Gives the memory back; the world is gone then."""
-        _lib.carbink_world_free(self._held)
+        with self._lock:
+            _lib.carbink_world_free(self._held)
 
     def __enter__(self):
         return self
