@@ -1,5 +1,9 @@
 /* carbink.h: the Reed-Solomon code of carbink and a far-memory world on one thread, for callers in C99 and C++.
  *
+ * The nodes are simulated in this process; carbink_crash crashes one of these. No other machine is asked, and nothing
+ * lasts longer than the process. What can be put to work today is the code, on rows that the caller keeps on machines of
+ * its own; the world is for trying a runtime's rules. docs/TRUST.md says what is proved, tested and trusted of either.
+ *
  * The code comes first, then the world.
  *
  * A code has k data rows (1 to 16) and r parities (1 to 4), each a row of `len` bytes, 1 or more.

@@ -176,9 +176,10 @@ find_kept() {
 }
 
 # Finds the program that answers calls of the sources as they stand, the proved one or else a kept trial build: $found.
+# What tools/install put in place has no sources, and is of none but its own.
 find_program() {
     found=
-    if is_current; then
+    if [ -f "$program.installed" ] || is_current; then
         found=$program
     elif find_kept; then
         found=$trial
@@ -219,10 +220,11 @@ left_by_gate() {
 }
 
 # The crates below $goal and itself, the lowest first, and their sources.
-mapfile -t crates < <(levels_of "$goal")
-crates=("${crates[@]#* }")
+crates=()
+[ ! -f "$here/crates.txt" ] || mapfile -t crates < <(levels_of "$goal")
+crates=(${crates[@]+"${crates[@]#* }"})
 sources=(crates.txt)
-for crate in "${crates[@]}"; do
+for crate in ${crates[@]+"${crates[@]}"}; do
     for part in src specs proofs; do
         [ ! -d "$here/crates/$crate/$part" ] || sources+=("crates/$crate/$part")
     done

@@ -68,6 +68,8 @@ module _ (c : Config) (t : Turn) where
       goes_on = λ e x wrote. absurd (wrote_none kept refl e wrote);
       ends = λ h last n freed gone has.
           ⊎_elim (λ x. absurd (x.1)) (λ x. absurd (x.1)) gone;
+      same_read = λ s t has. absurd has;
+      keeps_read = λ e s wrote. absurd (wrote_none kept refl e wrote);
     };
     whole = λ share. absurd (eqb-false 0 64 refl share);
   }
