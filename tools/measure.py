@@ -57,6 +57,8 @@ class MeasuredWorld(CountedWorld):
         self.dead_before = self.dead_after = 0.0
         self.merges = self.lost_objects = self.crashes = self.survived = 0
         self.broken = set()
+        self.masks, self.damaged = {}, set()
+        self.may_pair = True  # whether sets changed since none were found that can become one
 
     # Quicker than the model, with the same answers.
     def loose(self):
@@ -138,7 +140,7 @@ class MeasuredWorld(CountedWorld):
         return super().abort()
 
     def commit_set(self, number, frames, shards):
-        pages = self.spans[frames[0]].pages
+        pages, self.may_pair = self.spans[frames[0]].pages, True
         inside = [sum(handle is not None for handle in self.spans[frame].slots) for frame in frames]
         reply = super().commit_set(number, frames, shards)
         ids = list(range(self.next_id, self.next_id + len(frames)))
@@ -151,6 +153,7 @@ class MeasuredWorld(CountedWorld):
 
     def leave_nodes(self, key, pages, what):
         self.far_pages -= pages
+        self.may_pair = True
         it = self.ids.pop(key)
         for scheme in self.schemes:
             getattr(scheme, what)(it)
@@ -175,6 +178,37 @@ class MeasuredWorld(CountedWorld):
         return reply
 
     # Two sets that become one.
+    def mask_of(self, one):
+        """The live positions of a set as bits. They only get fewer."""
+        count, mask = self.masks.get(one.number, (0, 0))
+        if count != len(one.slots):
+            mask = sum(1 << position for position in one.slots)
+            self.masks[one.number] = (len(one.slots), mask)
+        return mask
+
+    def first_pair(self):
+        """As the model's, by the few kinds of sets that there are: those of one length with the same live positions."""
+        if not self.may_pair:
+            return None
+        kinds = collections.defaultdict(list)
+        for number in sorted(self.sets):
+            if number not in self.damaged:
+                one = self.sets[number]
+                kinds[one.pages, self.mask_of(one)].append(number)
+        found = None
+        for (pages, mask), numbers in kinds.items():
+            for (other_pages, other_mask), others in kinds.items():
+                if pages == other_pages and not mask & other_mask and numbers[0] < others[-1]:
+                    pair = numbers[0], next(it for it in others if it > numbers[0])
+                    found = min(found or pair, pair)
+        self.may_pair = found is not None
+        return found and tuple(self.sets[it] for it in found)
+
+    def note_damage(self):
+        """Crashes and rebuilt rows alone change which sets have lost rows."""
+        self.may_pair = True
+        self.damaged = {one.number for one in self.sets.values() if any(map(self.is_lost, one.shards))}
+
     def pair(self):
         reply = super().pair()
         if reply.startswith("pair "):
@@ -205,6 +239,7 @@ class MeasuredWorld(CountedWorld):
         reply = super().merge()
         if reply.startswith("set "):
             number = int(reply.split()[1])
+            self.may_pair = True
             for (old, position), it in live.items():
                 self.ids[number, position] = self.ids.pop((old, position))
             self.merges += 1
@@ -226,6 +261,7 @@ class MeasuredWorld(CountedWorld):
             return reply
         self.total -= self.held[node]
         self.held[node] = 0
+        self.note_damage()
         self.crashes += 1
         anew = [one for one in self.sets.values() if one.number not in self.broken and self.is_broken(one)]
         self.broken.update(one.number for one in anew)
@@ -247,6 +283,7 @@ class MeasuredWorld(CountedWorld):
         reply = super().rebuild()
         if reply.startswith("rebuilt "):
             number, node = int(reply.split()[2]), int(reply.split()[-1])
+            self.note_damage()
             self.count("read", self.k, self.sets[number].pages)
             self.hold(node, self.sets[number].pages, "rebuilt")
         for scheme in self.schemes:

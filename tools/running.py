@@ -327,8 +327,13 @@ def read_script(data, threads=False):
 def script_at(path, threads=False):
     """The script of a file. One that is refused ends the tool as it ends the program: with its text and the
     status 2."""
+    return script_of(read_input(path, MOST_BYTES + 1), threads)
+
+
+def script_of(data, threads=False):
+    """The script of bytes, likewise."""
     try:
-        return read_script(read_input(path, MOST_BYTES + 1), threads)
+        return read_script(data, threads)
     except Refused as refused:
         put(refused.text + "\n")
         raise Ending(refused.said, REFUSED) from None
