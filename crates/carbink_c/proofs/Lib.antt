@@ -4,6 +4,7 @@ mod WorkedEnds
 mod AsBox
 mod AsEncoder
 pub mod Crosses
+mod Apart
 mod Worlds
 mod Losses
 mod FewBytes

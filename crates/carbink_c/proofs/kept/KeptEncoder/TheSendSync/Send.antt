@@ -10,7 +10,7 @@ use denote.Param.Send.{IsSend, AllSend, owning_send, struct_send, sendable}
 use Rattle.std.specs.Global.{Global}
 use Rattle.std.proofs.Crossing as heap
 use Rattle.std.proofs.alloc.Global.TheSendSync as handle
-use Rattle.std_alloc.proofs.SendSync.{quiet, lies}
+use Rattle.carbink_c.proofs.Apart.{quiet, lies}
 use Rattle.carbink_c.specs.contracts.encoder.Encoder as Encoder
 use Rattle.carbink_c.proofs.encoder.Encoder.TheSendSync.{the_send as inner}
 use Rattle.carbink_c.specs.KeptEncoder.{encoder_owns}
