@@ -53,6 +53,7 @@ mod Closes
 mod WorkedClosing
 mod WorkedTurns
 mod WorkedUnder
+mod WorkedStanding
 mod WorkedSeat
 mod WorkedWork
 mod WorkedTurned
