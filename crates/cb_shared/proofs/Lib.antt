@@ -55,6 +55,7 @@ mod Closes
 mod WorkedClosing
 mod WorkedTurns
 mod WorkedUnder
+mod WorkedStanding
 mod WorkedSeat
 mod WorkedWork
 mod WorkedTurned

@@ -42,6 +42,9 @@ join_seats-requires-clause-other c = let o = c.requires.other in let g = c.give_
 pub join_seats-requires-clause-fresh : goal.join_seats-requires-clause-fresh
 join_seats-requires-clause-fresh c = c.requires.of.rest.fresh
 
+pub join_seats-requires-clause-out : goal.join_seats-requires-clause-out
+join_seats-requires-clause-out c = c.requires.of.rest.out.0
+
 pub load-requires : goal.load-requires
 load-requires c = let s = c.args.self.now in (
   c.join_seats.ensures.0 ∙ c.requires.of.table,
