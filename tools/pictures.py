@@ -86,7 +86,7 @@ class Frame:
 
 def told(title, x_label, y_label, names, points):
     """What a screen reader says: each row of the picture with its numbers."""
-    rows = [f"{name}: " + ", ".join(f"{y} at {x}" for x, y in row) for name, row in zip(names, points)]
+    rows = [f"{name}: " + ", ".join(row) for name, row in zip(names, points)]
     return f"{title}. {x_label} against {y_label}. " + ". ".join(rows) + "."
 
 
@@ -97,7 +97,7 @@ def lines(title, x_label, y_label, series):
     first, last = min(xs), max(xs)
     few = [(name, points if len(points) <= 12 else points[::max(1, len(points) // 10)]) for name, points in series]
     desc = told(title, x_label, y_label, [it[0] for it in series],
-                [[(number(x), number(y)) for x, y in points] for _, points in few])
+                [[f"{number(y)} at {number(x)}" for x, y in points] for _, points in few])
     frame = Frame(title, desc, y_label, most, len(series))
 
     def x_of(x):
@@ -121,7 +121,7 @@ def bars(title, x_label, y_label, groups, parts):
     """Groups are pairs of a name and a number for each part; the numbers of a group stand on one another."""
     most = max((sum(values) for _, values in groups), default=1) or 1
     desc = told(title, x_label, y_label, [name for name, _ in groups],
-                [[(part, number(value)) for part, value in zip(parts, values)] for _, values in groups])
+                [[f"{part} {number(value)}" for part, value in zip(parts, values)] for _, values in groups])
     frame = Frame(title, desc, y_label, most, len(parts))
     room = (WIDTH - RIGHT - LEFT) / len(groups)
     width = min(90, room * 0.6)
