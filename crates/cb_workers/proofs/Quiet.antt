@@ -60,7 +60,7 @@ adds_turn c work r v w owed (d, adds, grows) = record {
   are = λ i. record { job = adds.job_is i; reply = adds.reply_is i } ∷ [];
   grows = grows ∙ ap (λ made. with_own made (grown d v)) (q.made (answer_of r))
       ∙ ap (λ part. grown part v) alone;
-  calls = (v, refl, r, refl, d, adds, grows);
+  calls = (v, refl, (r, refl, (d, adds, grows)));
 }
   where
     q : IsQuietWork work

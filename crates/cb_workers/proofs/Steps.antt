@@ -151,7 +151,7 @@ none_made c w due v first = record {
   adds = none_added c v;
 }
 
-pub one_made : (handles : ℕ) → (w : Worker) → (n : ℕ) → (due new : Job) → (v u t : View)
+pub one_made : (c : Config) → (w : Worker) → (n : ℕ) → (due new : Job) → (v u t : View)
     → HasMade c w n due v u → Steps c w due new u t → HasMade c w (n + 1) new v t
 one_made c w n due new v u t made (reply, next, adds) = record {
   done = record { job = due; reply = reply } ∷ made.done;

@@ -138,7 +138,7 @@ module _ (c : Config) (s : Shown) (far : FarState) (v : View) where
   adds_no_call e some x = by x.calls
     where
       by : Gathers → ⊥
-      by (u, same, r, is, d, adds, grows) =
+      by (u, same, (r, is, (d, adds, grows))) =
           let begun_is : begins ∷ v.turns ≡ adds.turn ∷ u.turns =
           ap (λ (w : View). w.turns) grows ∙ ap (λ (p : Part). p.turns ++ u.turns) adds.part in
           let had : [] ≡ v.written = ap (λ (ts : List Turn). (turn_in begins ts).had) begun_is
