@@ -82,7 +82,7 @@ module _ (c : Config) (start : Shown) (es : List Access) (took gave : FarState) 
       (λ does. room_for slate_run slate_shows c [] bytes _ _ r does) tt (did tt)) off
   turn_want again (job.Swap h) r is answers off did = lack_want again (job.Swap h) r answers
   turn_want again (job.Fetch h) r is answers off did = lack_want again (job.Fetch h) r answers
-  turn_want again job.Land r is answers off did = lack_want again job.Land r answers
+  turn_want again job.Land r is answers off did = worn answers
   turn_want again (job.Read h) r is answers off did = read_want again h r answers off
   turn_want again (job.Write h at bytes) r is answers off did = write_want again h at bytes r
       (turned_so slate_run slate_shows c ReadsByPin (job.Write h at bytes) (line.Write [] at bytes) r

@@ -193,7 +193,7 @@ told_worn t = record {
   newest = refl;
   reply_is = refl;
   job_is = inr landed;
-  answers = tt;
+  answers = refl;
   lacks = λ x. x;
 }
 

@@ -69,7 +69,7 @@ module _ (c : Config) (r : View) where
     record {
       before = nothing_more;
       last = read_once 5 here n (2826 ∷ []);
-      in_vain = record { looks = []; turns = []; at = tt; of = tt; idle = tt; part = refl };
+      in_vain = record { looks = []; turns = []; at = tt; of = tt; kept = tt; idle = tt; part = refl };
       ends_so = inl (record {
         word = here;
         words = 2826 ∷ [];
@@ -100,7 +100,7 @@ module _ (c : Config) (r : View) where
     record {
       before = nothing_more;
       last = looked_freed 5 1 0;
-      in_vain = record { looks = []; turns = []; at = tt; of = tt; idle = tt; part = refl };
+      in_vain = record { looks = []; turns = []; at = tt; of = tt; kept = tt; idle = tt; part = refl };
       ends_so = inl (0, 1, refl, newest 1 (omega arith), refl);
       part = refl;
     },
