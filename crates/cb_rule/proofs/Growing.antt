@@ -102,16 +102,15 @@ module _ (more es : List Entry) where
   turn_more c first t ok = record {
     lasted = ok.lasted;
     reached = let a = ok.reached in let b = longer more es in omega (arith, a, b);
-    read = λ handle version bytes asked told. let z = ok.read handle version bytes asked told in
-        (
-          z.0,
-          settled_more t.until z.0 z.1,
-          z.2,
-          z.3,
-          z.4,
-          z.5,
-          now_more t.since t.until t.until handle.n version _ (omega arith) z.6,
-        );
+    read = λ handle version bytes asked told. let z = ok.read handle version bytes asked told in (
+      z.0,
+      settled_more t.until z.0 z.1,
+      z.2,
+      z.3,
+      z.4,
+      z.5,
+      now_more t.since t.until t.until handle.n version _ (omega arith) z.6,
+    );
     wrote = λ h n told. let z = ok.wrote h n told in (z.0, settled_more t.until z.0 z.1, z.2, z.3);
     had_by = all_settled t.since t.had ok.had_by;
     had_later = later_more t.old t.ended t.had ok.had_later;
