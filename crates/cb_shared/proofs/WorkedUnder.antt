@@ -31,7 +31,7 @@ use Rattle.cb_shared.specs.UnderLock.{CameThere, IsBeginning, IsBelow, IsEnding,
 use Rattle.cb_shared.specs.UnderLock.{IsReplyTo, IsTriedAgain, TakesLock}
 use Rattle.cb_shared.proofs.WorkedGround.{made, part, two}
 
-accepted : IsAccepted two
+pub accepted : IsAccepted two
 accepted K = (lit≤ tt, lit≤ tt)
 accepted R = (lit≤ tt, lit≤ tt)
 accepted Nodes = (lit≤ tt, lit≤ tt)
