@@ -2,7 +2,7 @@
 # current. The folder of the repository is $here. The sources are those of the crate $goal and of the crates below it, and
 # who says what is said is $speaker; both are set before this is read, as cb_app and carbink for the program.
 
-version=0.13
+version=0.14
 program=$here/build/carbink
 # A trial build that the launcher kept. It is compiled with checks, and not proved.
 trial=$here/build/trial
