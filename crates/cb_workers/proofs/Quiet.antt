@@ -1,5 +1,5 @@
 -- A turn of a worker brings nothing but itself to the record of its pass.
-use Rattle.std.proofs.Common.{◌≡◌, ℕ, List, [], ◌∷◌, Option, None, Result, Ok, Err, IsOk, refl, ap}
+use Rattle.std.proofs.Common.{◌≡◌, ℕ, List, [], ◌∷◌, Option, None, Some, Result, Ok, Err, IfOk, IsOk, OnErr, refl, ap, sym}
 use Rattle.std.proofs.Common.{◌∙◌, subst}
 use Rattle.cb_member.specs.declared.no_memory.NoMemory.{NoMemory}
 use Rattle.cb_types.specs.declared.config.Config.{Config}
@@ -19,6 +19,7 @@ use Rattle.cb_shared.proofs.Laws.{asked_alone}
 use Rattle.cb_shared.specs.Turning.{DidAs, FindsFreedAfter, JobReads, TurnBy, answer_of, freed_of}
 use Rattle.cb_shared.specs.Turning.{made_by_turn, object_of, turn_part, with_own}
 use Rattle.cb_workers.specs.Bodies.{AddsTurns, IsEnd, IsOwed, one_deed, turns_alone}
+use Rattle.cb_workers.specs.Work.{lack_of}
 
 -- what a worker's job leaves alone: it reads no object under a pin, is about no object that a pass
 -- knows, makes none, and writes no version
@@ -101,3 +102,24 @@ pub takes_no_memory : (c : Config) → (work : Job) → (r : Result Reply NoMemo
 takes_no_memory c work (Ok r) v w is by_turn = refl
 takes_no_memory c work (Err e) v w is (d, adds, grows) = absurd (ends_with c work is adds.turn
     (asked_alone c adds.turn work None (end_alone work is) adds.job_is adds.reply_is adds.did))
+
+-- a gather whose answer was told on is one that `turn` makes
+of_gather : (c : Config) → (r q : Result Reply NoMemory) → (v w : View) → q ≡ r
+    → TurnBy c job.Gather r v w → AddsTurns c (one_deed job.Gather (answer_of q)) v w
+of_gather c r q v w told turn = adds_turn c job.Gather q v w tt
+    (subst (λ (x : Result Reply NoMemory). TurnBy c job.Gather x v w) (sym told) turn)
+
+pub gather_adds : (c : Config) → (due : Job) → (r q : Result Reply NoMemory) → (v w : View)
+    → due ≡ job.Gather → q ≡ r → TurnBy c job.Gather r v w
+    → IfOk q (λ reply. AddsTurns c (one_deed due (Some reply)) v w)
+gather_adds c due r (Ok reply) v w is told turn =
+    subst (λ (j : Job). AddsTurns c (one_deed j (Some reply)) v w) (sym is)
+    (of_gather c r (Ok reply) v w told turn)
+gather_adds c due r (Err e) v w is told turn = tt
+
+pub gather_lacks : (c : Config) → (due : Job) → (r q : Result Reply NoMemory) → (v w : View)
+    → due ≡ job.Gather → q ≡ r → TurnBy c job.Gather r v w
+    → OnErr q (AddsTurns c (lack_of due) v w)
+gather_lacks c due r (Ok reply) v w is told turn = tt
+gather_lacks c due r (Err e) v w is told turn =
+    subst (λ (j : Job). AddsTurns c (lack_of j) v w) (sym is) (of_gather c r (Err e) v w told turn)
