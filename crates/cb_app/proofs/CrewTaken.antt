@@ -39,7 +39,7 @@ use Rattle.cb_app.proofs.ToldApart.{tolds_apart}
 -- ---- a worker
 
 -- no turn is the work of one that owes none
-idle_work : (handles : ℕ) (w : Worker') → IsWorkOf handles w 0 []
+pub idle_work : (handles : ℕ) (w : Worker') → IsWorkOf handles w 0 []
 idle_work handles w = record {
   done = [];
   ending = [];

@@ -36,11 +36,13 @@ use Rattle.cb_workers.specs.Rules.{lane_of, visit}
 use Rattle.cb_workers.specs.declared.worker.Worker.{Worker as Worker'}
 use Rattle.cb_workers.specs.declared.worker.Worker.TheVariants as worker
 use Rattle.cb_app.specs.Crew.{AllMade, AreKnownTo, AreMade, BodyIsReady, HasText, IsDealt, IsDealtOne, IsEnded, IsFreshRecord, IsLaneTold, IsTaskReady, TakesIn, TaskRuns, if_same, lines_in, turns_for, work_in}
+use Rattle.cb_app.specs.CrewTurns.{IsWorkOf}
 use Rattle.cb_app.specs.declared.crew.Body.{Body}
 use Rattle.cb_app.specs.declared.crew.Body.TheVariants.{Lane, Worker}
 use Rattle.cb_app.specs.declared.crew.Task.{Task}
 use Rattle.cb_app.specs.declared.crew.ToldEnd.{ToldEnd}
 use Rattle.cb_app.proofs.AnswersRise.{none_known, none_rise}
+use Rattle.cb_app.proofs.CrewTaken.{idle_work}
 use Rattle.cb_app.proofs.Crews.{dealt_none}
 use Rattle.cb_app.proofs.LanesAlone.{none_alone}
 use Rattle.cb_app.proofs.WorkedLanes.{on_no_name}
@@ -304,7 +306,8 @@ module _ (s : Shared) (p : Pass) (of : IsPassOf s p) (fresh : IsFreshRecord (rec
   with_none ended = absurd (let e = ended.lines_are in cc)
 
   runs : (w : Worker') → TaskRuns s leaves none (task (Worker w 0)) (record { body = Worker w 0; left = Ok (told_end []) })
-  runs w = (refl, λ given named known. none_told given, λ other. none_due other w, refl)
+  runs w = (refl, λ given named known. none_told given, λ other. none_due other w, refl,
+      (refl, subst (IsWorkOf s.config.handles w 0) (sym fresh.turns) (idle_work s.config.handles w)))
 
   ran_another_body : (w : Worker')
       → TaskRuns s leaves none (task (lane 2)) (record { body = Worker w 0; left = Ok (told_end []) })

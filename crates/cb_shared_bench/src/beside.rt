@@ -88,11 +88,27 @@ pub(crate) fn count_turns<R: Wait>(
     let job = Job::Join {
         node: last_node(&config),
     };
-    if !is_plain(&config, &job) {
-        return None;
+    if is_plain(&config, &job) {
+        count_while_up(rt, alloc, shared, pass, h, &job)
+    } else {
+        None
     }
+}
+
+/// Turns of a job until it finds its node down; how many there were before that.
+fn count_while_up<R: Wait>(
+    rt: &R,
+    alloc: Global,
+    shared: &Shared,
+    pass: &mut Pass,
+    h: Handle,
+    job: &Job,
+) -> Option<u64>
+    requires caller { IsCaller shared.now h pass.old }
+    requires plain { IsPlain shared.now.config job.now }
+{
     for count in 0..MOST {
-        if !turn_finds_up(rt, alloc, shared, pass, h, &job) {
+        if !turn_finds_up(rt, alloc, shared, pass, h, job) {
             return Some(count);
         }
     }

@@ -9,3 +9,10 @@ returns g c = record {
       c.args.pass.now c.gather.new.pass c.requires.caller c.gather.ensures.of
       c.gather.ensures.turn;
 }
+
+pub returns-in-Ok-Order : goal.returns-in-Ok-Order
+returns-in-Ok-Order g c = record {
+  caller = turned_caller c.args.shared.now c.args.h jobs.Gather (gather_answer c.gather.result)
+      c.args.pass.now c.gather.new.pass c.requires.caller c.gather.ensures.of
+      c.gather.ensures.turn;
+}
