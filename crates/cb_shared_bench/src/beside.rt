@@ -1,7 +1,7 @@
 //! Turns that find nothing to do, beside a thread that makes a fixed number of rounds. That thread
 //! lets a node crash behind its last round; the other one asks again and again that this node joins,
 //! which finds it up until then.
-ghost use Rattle.cb_shared_bench.specs.Callers.{IsCaller};
+ghost use Rattle.cb_shared_bench.specs.Callers.{IsCaller, IsPlain};
 
 use crate::calls::{turn, turn_finds_up};
 use crate::deeds::Round;
