@@ -53,8 +53,8 @@ pub record IsRun (script : Script) (end : ThreadsEnd) : Type 0 where
   -- and what they say beside the record is so: of the handles that there are, of lengths, of names
   pub upheld : AllByRecursion (Upholds 1 script.config.handles (calls_of end.answers)
       (sealed_record end.seal)) (calls_of end.answers)
-  -- so they are legal: those of a map whose operations took place one at a time, and to no lane,
-  -- nor from lane 0 to another, did a version fall
+  -- so they are legal: of each object they fit one history by its versions, and to no lane, nor from
+  -- lane 0 to another, did a version fall
   pub legal : IsLegal 1 script.config.handles end.answers
   -- and the world holds of each object the last entry of its history in them, or it is gone
   pub holds : HasHistoryEnds end.answers end.world
