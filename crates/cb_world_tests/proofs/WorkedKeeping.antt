@@ -8,7 +8,7 @@ use Rattle.std.specs.List.Sorted.{IsStrictlyIncreasing}
 use Rattle.cb_gf256.specs.Rows.{HaveLength, row_at}
 use Rattle.cb_member.specs.Membership.{Membership, fresh_members, with_crash}
 use Rattle.cb_node.specs.NodesState.{empty_nodes}
-use Rattle.cb_set.specs.SetState.{PositionState, SetState, dead_position, parities, set_of}
+use Rattle.cb_set.specs.SetState.{SetState, dead_position, parities, set_of}
 use Rattle.cb_types.specs.declared.config.Config.{Config}
 use Rattle.cb_types.specs.declared.order.DecodeOrder.{DecodeOrder}
 use Rattle.cb_types.specs.declared.order.EncodeOrder.{EncodeOrder}
