@@ -43,7 +43,7 @@ use Rattle.cb_record.specs.Told.{tolds}
 use Rattle.cb_record.specs.Upheld.{as_part}
 use Rattle.cb_record.proofs.Laws.{has_left, has_right}
 use Rattle.cb_shared.proofs.Laws.{asked_alone}
-use Rattle.cb_shared.specs.Turning.{Did, DidAs, ReadsByPin, Slate, held_by, slate_run, slate_shows}
+use Rattle.cb_shared.specs.Turning.{Did, ReadsByPin, Slate, held_by, slate_run, slate_shows}
 use Rattle.cb_lanes.specs.Asked.{HasLineReply}
 use Rattle.cb_lanes.specs.Lost.{told_loss, losses_of}
 use Rattle.cb_app.specs.Telling.{TellsLost, TellsRoom}

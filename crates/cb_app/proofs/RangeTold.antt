@@ -1,11 +1,9 @@
 -- A write whose turn is told the end of its object found that end in a word of the object, which has
 -- an entry of that length.
-use Rattle.std.proofs.Common.{◌≡◌, ℕ, zero, suc, ◌+◌, ◌<◌, List, [], ◌∷◌, ◌++◌, length, Option, Some, refl, sym, ◌∙◌, subst, inr}
+use Rattle.std.proofs.Common.{◌≡◌, ℕ, zero, suc, ◌+◌, ◌<◌, List, [], ◌∷◌, ◌++◌, length, Some, refl, sym, ◌∙◌, subst, inr}
 use mathlib.Core.Option.{some-injective, some-ne-none}
 use Rattle.cb_types.specs.declared.config.Config.{Config}
-use Rattle.cb_types.specs.declared.job.Job.{Job}
 use Rattle.cb_types.specs.declared.job.Job.TheVariants as job
-use Rattle.cb_types.specs.declared.reply.Reply.{Reply}
 use Rattle.cb_types.specs.declared.reply.Reply.TheVariants as answer
 use Rattle.cb_world.specs.declared.entry.Entry.{Entry}
 use Rattle.cb_world.specs.Played.{played}
@@ -19,7 +17,7 @@ use Rattle.cb_rule.specs.Promised.{EntriesStand, Is, Wrote}
 use Rattle.cb_record.specs.Needs.{the_object}
 use Rattle.cb_record.specs.Upheld.{IsLong}
 use Rattle.cb_shared.proofs.Laws.{asked_alone}
-use Rattle.cb_shared.specs.Turning.{Did, DidAs, ReadsByPin, held_by, slate_run, slate_shows}
+use Rattle.cb_shared.specs.Turning.{Did, ReadsByPin, held_by, slate_run, slate_shows}
 use Rattle.cb_lanes.proofs.Laws.{FoundIn, turned_in}
 
 -- ---- a closed record

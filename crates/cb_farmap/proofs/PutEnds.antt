@@ -13,7 +13,7 @@ use Rattle.cb_farmap.specs.declared.kept.Cannot.{Cannot}
 use Rattle.cb_farmap.specs.declared.kept.KeptObject.{KeptObject}
 use Rattle.cb_farmap.specs.BucketChanges.{AddsPair, Becomes, FindsAt, IsFound, WritesPair, dropped_at, dropped_in, put_at, put_in, value_in, value_of, with_pair}
 use Rattle.cb_farmap.specs.Buckets.{IsBucket, all_pairs, pairs_in}
-use Rattle.cb_farmap.specs.Calls.{Ask, AskMake, AskWrite, Goes, trouble}
+use Rattle.cb_farmap.specs.Calls.{Ask, AskMake, AskWrite, Goes}
 use Rattle.cb_farmap.specs.Changes.{AreLoose, AreSole, IsCalm, IsLoose, IsSole, Makes, Rewrites, with_next}
 use Rattle.cb_farmap.specs.Numbers.{pair_at}
 use Rattle.cb_farmap.specs.Objects.{IsObject, blank, object_at}

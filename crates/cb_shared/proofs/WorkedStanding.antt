@@ -1,12 +1,11 @@
 -- Worked examples of what stands at a table between any two steps: what meets the definition, and what
 -- breaks one part alone.
-use Rattle.std.proofs.Common.{◌≡◌, ℕ, ◌*◌, ◌<◌, ◌≤◌, [], ◌∷◌, Some, replicate, refl, sym, inl, lit≤, arith}
+use Rattle.std.proofs.Common.{◌≡◌, ◌*◌, ◌≤◌, [], ◌∷◌, Some, replicate, refl, sym, inl, lit≤, arith}
 use mathlib.Core.Option.{Option as Maybe, none, some, some-injective, some-ne-none}
 use Rattle.atomic_table.specs.Table.{opening}
 use Rattle.cb_types.specs.declared.job.Job.TheVariants as job
 use Rattle.cb_world.specs.Empty.{empty_far}
 use Rattle.cb_world.specs.FarState.{FarState}
-use Rattle.cb_rule.specs.declared.turn.Turn.{Turn}
 use Rattle.cb_rule.specs.declared.view.View.{View}
 use Rattle.cb_rule.specs.Slot.{LockSlot, Table}
 use Rattle.cb_rule.specs.Steps.{opener}

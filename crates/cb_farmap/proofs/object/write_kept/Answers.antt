@@ -1,4 +1,4 @@
-use Rattle.std.proofs.Common.{◌≡◌, ◌+◌, Ok, IfOk, OnErr, None, Some, Result, sym, subst}
+use Rattle.std.proofs.Common.{◌≡◌, ◌+◌, Ok, IfOk, OnErr, None, Some, sym, subst}
 use Rattle.cb_types.specs.declared.reply.Reply.TheVariants as answer
 use Rattle.cb_rule.specs.Steps.{Knows}
 use Rattle.cb_shared.specs.Calls.{WriteAnswers, WriteStops}
