@@ -61,14 +61,15 @@ struct Reserved {
 }
 
 /// Begins to evict k spans, as many as the code in force has data positions: they are leaving from
-/// here, as one batch, until a commit or an abort. Of the spans none of whose objects is pinned or
-/// claimed, the first k are taken, the cold ones before the hot ones and then by frame number. All
+/// here, as one batch, until a commit or an abort. The loose spans are those none of whose objects
+/// is pinned or claimed. Of the greatest length of which k are loose the first k are taken, the cold
+/// ones before the hot ones and then by frame number. All
 /// their objects are claimed and stay in local memory, the parities of their frames are made, and
 /// the number of the set that they will be is drawn; the memory that its commit needs is taken. No
 /// row is put.
 ///
 /// Answers Leaving where a batch is leaving already, and then looks at nothing; then NoSpans where
-/// fewer than k spans are loose, and then NoNodes where fewer than k + r nodes have room. Every
+/// of no length k spans are loose, and then NoNodes where fewer than k + r nodes have room. Every
 /// object of every span that may leave is looked at, once and in one pass; nothing walks over all
 /// sets or homes. Where there is no memory, which may be only where no batch is leaving, nothing
 /// has changed.

@@ -27,13 +27,13 @@ use cb_class::PAGE_BYTES;
 use cb_types::{NoMemory, Reply, Rows, SetId};
 use cb_world::{Desk, Far, Former, next_number};
 
-/// Evicts k spans at once, as many as the code in force has data positions. Of the spans none of
-/// whose objects is pinned or claimed, and which are not leaving, the first k go, the cold ones
-/// before the hot ones and then by frame number: they are coded together, their rows are put at
-/// k + r nodes, and the objects are far.
+/// Evicts k spans at once, as many as the code in force has data positions. The loose spans are
+/// those none of whose objects is pinned or claimed, and which are not leaving. Of the greatest
+/// length of which k are loose the first k go, the cold ones before the hot ones and then by frame
+/// number: they are coded together, their rows are put at k + r nodes, and the objects are far.
 ///
-/// Refuses with NoSpans where fewer than k spans are so, and then with NoNodes where fewer than k +
-/// r nodes have room. A batch that is leaving does not hinder it and stays as it is. Every object
+/// Refuses with NoSpans where of no length k spans are loose, with the most of one length, and then
+/// with NoNodes where fewer than k + r nodes have room. A batch that is leaving does not hinder it and stays as it is. Every object
 /// of every span that may leave is looked at, once and in one pass; nothing walks over all sets or
 /// homes. Where there is no memory, nothing has changed.
 pub fn evict_now<D: Desk>(desk: &mut D, far: &mut Far) -> Result<Reply, NoMemory>

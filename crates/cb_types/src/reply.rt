@@ -75,8 +75,9 @@ pub enum Reply {
     Full {
         handles: u32,
     },
-    /// There is no room in local memory: the configured frames, the spans that could leave, and
-    /// the nodes that could take them.
+    /// There is no room in local memory: no run of free frames is as long as the span that is to
+    /// be made or brought in, also after what could leave has left. The configured frames, the most
+    /// spans of one length that could leave, and the nodes that could take them.
     NoRoom {
         frames: u32,
         loose: u32,
@@ -110,11 +111,13 @@ pub enum Reply {
     NotPinned,
     /// The object is not in local memory.
     NotHere,
-    /// There is neither a slot for the object's temperature nor a free frame; the configured frames.
+    /// There is neither a slot for the object's temperature nor a run of free frames as long as a
+    /// span of its class; the configured frames.
     NoSlot {
         frames: u32,
     },
-    /// Fewer spans could leave than a span-set has data positions; how many.
+    /// Of no length as many spans could leave as a span-set has data positions: the most of one
+    /// length.
     NoSpans {
         loose: u32,
     },
@@ -177,7 +180,7 @@ pub enum Reply {
     // No line is answered so.
     /// The object has as many pins as its word can count.
     Crowded,
-    /// There is neither a slot nor a free frame.
+    /// There is neither a slot nor a run of free frames as long as the span.
     NoFrame,
     /// The position of a set was swapped in, to this frame.
     Swapped {
