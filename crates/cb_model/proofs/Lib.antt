@@ -20,3 +20,4 @@ pub mod WorkedCrossing
 pub mod WorkedLanes
 mod WorkedParts
 pub mod Laws
+mod WorkedLater
