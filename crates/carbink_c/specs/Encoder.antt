@@ -23,7 +23,7 @@ abbrev pub shape_in : CarbinkEncoder → Option Shape
 shape_in handle = option_map shape_of handle.kept.encoder
 
 -- An encoder is made where there was none. A handle with an encoder, then no such code, rows of no
--- bytes and want of memory are told, and all stays.
+-- bytes and running out of memory are told, and all stays.
 abbrev pub BeginsEncoder : Shape → Option Shape → Option Shape → Status → Type 0
 BeginsEncoder s old new Done = (old ≡ None) × IsInRange s.k s.r × (0 < s.len) × (new ≡ Some s)
 BeginsEncoder s old new HasEncoder = IsSome old × (new ≡ old)

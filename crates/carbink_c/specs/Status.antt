@@ -27,7 +27,7 @@ IsRefusedShape k r len NoEncoder = ⊥
 IsRefusedShape k r len HasEncoder = ⊥
 
 -- A call on rows of `len` bytes of the code of k and r ends so: the first that is wrong, of the
--- code, the length, the sizes of the buffers and the positions, is told, and so is want of memory,
+-- code, the length, the sizes of the buffers and the positions, is told, and so is out of memory,
 -- and all stays; else what the call is for is made.
 abbrev pub Ends : ℕ → ℕ → ℕ → Type 0 → Type 0 → Type 0 → Type 0 → Status → Type 0
 Ends k r len sized placed stays made Done =

@@ -31,7 +31,8 @@ config_of c = record {
 }
 
 -- A world is made where there was none: it is the empty one of the configuration. A handle with a
--- world, then the first size that is out of its range, then want of memory are told, and all stays.
+-- world, then the first size that is out of its range, then running out of memory are told, and all
+-- stays.
 abbrev pub NewEnds : Config → Option WorldState → Option WorldState → Outcome → Type 0
 NewEnds c old new Done = (old ≡ None) × IsAccepted c × (new ≡ Some (empty_world c))
 NewEnds c old new HasWorld = IsSome old × (new ≡ old)

@@ -32,7 +32,7 @@ pub(crate) fn may_come(config: &Config, verb: Verb, asked: &CarbinkEvent, bytes:
     }
 }
 
-/// The event. The only error is want of memory.
+/// The event. The only error is out of memory.
 pub(crate) fn event_of(
     alloc: Global,
     config: &Config,

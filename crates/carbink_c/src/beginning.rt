@@ -1,3 +1,5 @@
+//! The begin of a world, of the sizes that C gives.
+
 ghost use Rattle.std.specs.Prelude.{◌≡◌, IfOk, None};
 ghost use Rattle.cb_types.specs.Config.{IsAccepted};
 ghost use Rattle.cb_world.specs.World.{empty_world};
@@ -92,7 +94,7 @@ fn sizes(config: &CarbinkConfig) -> Config
     }
 }
 
-/// The empty world in a block of its own. The only error is want of memory.
+/// The empty world in a block of its own. The only error is out of memory.
 fn held(alloc: Global, config: Config) -> Result<Box<Held>, NoMemory>
     requires { IsAccepted config }
     ensures { IfOk result (λ held. held.value.world ≡ empty_world config) }

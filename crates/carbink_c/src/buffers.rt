@@ -13,7 +13,7 @@ pub(crate) fn size_of_rows(count: u32, len: u32) -> usize
     count as usize * len as usize
 }
 
-/// A copy of the rows of a buffer. The only error is want of memory.
+/// A copy of the rows of a buffer. The only error is out of memory.
 pub(crate) fn rows_of(alloc: Global, count: u32, len: u32, buffer: &[u8]) -> Result<Rows, NoMemory>
     requires { length buffer.now ≡ count * len }
     ensures value { IfOk result (λ rows. rows ≡ cut_rows count len buffer.now) }

@@ -1,3 +1,5 @@
+//! Parities of the rows in a buffer, into another buffer.
+
 ghost use Rattle.std.specs.Prelude.{◌≡◌, ◌*◌, length};
 ghost use Rattle.cb_gf256.specs.Block.{cut_rows};
 ghost use Rattle.carbink_c.specs.Status.{EndsInPlace, IsNumberOf};

@@ -1,3 +1,5 @@
+//! What a world counts, and its end.
+
 ghost use Rattle.std.specs.Prelude.{◌≡◌, None};
 ghost use Rattle.carbink_c.specs.Handle.{IsSoundIn, world_of};
 ghost use Rattle.carbink_c.specs.Outcome.{IsOutcomeOf};

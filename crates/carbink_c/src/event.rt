@@ -1,3 +1,5 @@
+//! An event as C writes it: a verb and its numbers.
+
 ghost use Rattle.std.specs.Prelude.{◌≡◌, MatchOption};
 ghost use Rattle.carbink_c.specs.declared.event.Verb.{Verb};
 ghost use Rattle.carbink_c.specs.Asked.{verb_number};

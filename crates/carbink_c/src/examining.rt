@@ -1,3 +1,5 @@
+//! Rows in a buffer are examined for one wrong row.
+
 ghost use Rattle.std.specs.Prelude.{◌≡◌, ◌+◌, ◌*◌, ◌<◌, length, IfOk};
 ghost use Rattle.cb_gf256.specs.Block.{cut_rows};
 ghost use Rattle.cb_gf256.specs.InRange.{IsInRange};
@@ -72,7 +74,7 @@ fn examined(
 }
 
 /// What the rows of a buffer are. Rows that are a code word are told where they lie; others are
-/// copied first. The only error is want of memory.
+/// copied first. The only error is out of memory.
 fn finding(alloc: Global, k: u32, r: u32, len: u32, rows: &[u8]) -> Result<Found, NoMemory>
     requires in_range { IsInRange k r }
     requires some { 0 < len }

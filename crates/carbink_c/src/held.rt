@@ -1,3 +1,5 @@
+//! A world in a field of its own, with its drop written out.
+
 use cb_world::World;
 
 /// A world in a field of its own, with its drop written out: what drops one here drops none of the

@@ -30,7 +30,7 @@ impl Model for Kept {
 unsafe impl Send for Kept {}
 
 impl Kept {
-    /// Nothing, behind the null pointer.
+    /// Nothing, after the null pointer.
     pub(crate) fn blank(alloc: Global) -> Kept
         ensures { result.world ≡ None }
     {
@@ -95,7 +95,7 @@ impl Model for KeptEncoder {
 unsafe impl Send for KeptEncoder {}
 
 impl KeptEncoder {
-    /// Nothing, behind the null pointer.
+    /// Nothing, after the null pointer.
     pub(crate) fn blank(alloc: Global) -> KeptEncoder
         ensures { result.encoder ≡ None }
     {

@@ -1,3 +1,5 @@
+//! One wrong row in a buffer is made right.
+
 ghost use Rattle.std.specs.Prelude.{◌≡◌, ◌+◌, ◌*◌, ◌<◌, length, OnOk, OnErr};
 ghost use Rattle.cb_gf256.specs.Block.{cut_rows};
 ghost use Rattle.cb_gf256.specs.InRange.{IsInRange};
@@ -49,7 +51,7 @@ fn mended(alloc: Global, k: u32, r: u32, len: u32, rows: &mut [u8], position: u3
     }
 }
 
-/// Mends a row of a buffer. The only error is want of memory, which leaves all as it was.
+/// Mends a row of a buffer. The only error is out of memory, which leaves all as it was.
 fn put_mended(
     alloc: Global,
     k: u32,

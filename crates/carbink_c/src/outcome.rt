@@ -1,3 +1,5 @@
+//! How a call on a world ends, as a number for C.
+
 ghost use Rattle.std.specs.Prelude.{◌≡◌, ◌+◌};
 ghost use Rattle.cb_types.specs.Config.{place};
 ghost use Rattle.carbink_c.specs.Outcome.{outcome_number};

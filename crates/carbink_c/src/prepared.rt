@@ -1,3 +1,5 @@
+//! The handle by which C holds an encoder.
+
 ghost use Rattle.std.specs.Prelude.{◌≡◌, Option, Some, None, is_some};
 ghost use Rattle.std.specs.Option.{option_map};
 

@@ -1,3 +1,5 @@
+//! Encoders for C: made, used and sized.
+
 ghost use Rattle.std.specs.Prelude.{◌≡◌, ◌<◌, ◌↔◌, None, Some, IfOk, IsTrue};
 ghost use Rattle.cb_gf256.specs.InRange.{IsInRange};
 ghost use Rattle.carbink_c.specs.Encoder.{shape_in, shape_of, AreSized};
@@ -60,7 +62,7 @@ fn put_new(alloc: Global, handle: &mut CarbinkEncoder, k: u32, r: u32, len: u32)
     }
 }
 
-/// An encoder of this code in a block of its own, for rows of so many bytes. The only error is want
+/// An encoder of this code in a block of its own, for rows of so many bytes. The only error is out
 /// of memory.
 fn boxed(alloc: Global, k: u32, r: u32, len: u32) -> Result<Box<Encoder>, NoMemory>
     requires in_range { IsInRange k r }

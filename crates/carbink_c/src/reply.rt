@@ -1,3 +1,5 @@
+//! A reply as C reads it: a kind and three numbers.
+
 ghost use Rattle.std.specs.Prelude.{◌≡◌, ◌≤◌};
 ghost use Rattle.carbink_c.specs.Told.{kind_of, first_of, second_of, third_of};
 ghost use Rattle.carbink_c.specs.Told.{count_of, told_reply};

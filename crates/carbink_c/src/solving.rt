@@ -1,3 +1,5 @@
+//! Lost rows in a buffer are restored from k others.
+
 ghost use Rattle.std.specs.Prelude.{◌≡◌, ◌+◌, ◌*◌, ◌<◌, ◌↔◌, length, All, OnOk, OnErr, IsTrue};
 ghost use Rattle.std.specs.List.Sorted.{IsStrictlyIncreasing};
 ghost use Rattle.cb_gf256.specs.Block.{cut_rows};
@@ -86,7 +88,7 @@ fn are_below(n: u32, numbers: &[u8]) -> bool
     true
 }
 
-/// Puts the code word over the rows of a buffer. The only error is want of memory, which leaves all
+/// Puts the code word over the rows of a buffer. The only error is out of memory, which leaves all
 /// as it was.
 fn put_word(
     alloc: Global,

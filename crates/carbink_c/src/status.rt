@@ -1,3 +1,5 @@
+//! How a call on rows ends, as a number for C.
+
 ghost use Rattle.std.specs.Prelude.{◌≡◌, IfSome, IfNone, ◌<◌};
 ghost use Rattle.cb_gf256.specs.InRange.{IsInRange};
 ghost use Rattle.carbink_c.specs.Status.{status_number, IsRefusedShape};

@@ -1,3 +1,5 @@
+//! Whether the rows of a buffer are a code word.
+
 ghost use Rattle.std.specs.Prelude.{◌≡◌, ◌+◌, ◌*◌, ◌<◌, ◌↔◌, length, IfOk, IsTrue};
 ghost use Rattle.cb_gf256.specs.Block.{cut_rows};
 ghost use Rattle.cb_gf256.specs.CodeWord.{IsCodeWord};
@@ -56,7 +58,7 @@ fn told(alloc: Global, k: u32, r: u32, len: u32, rows: &[u8], is_word: &mut u32)
 const SHORT: u32 = 1_024;
 
 /// Whether the rows of a buffer are a code word, told in the way that takes less time. The only
-/// error is want of memory.
+/// error is out of memory.
 pub(crate) fn are_word(
     alloc: Global,
     k: u32,

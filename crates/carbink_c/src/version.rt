@@ -1,3 +1,5 @@
+//! The version of the library.
+
 ghost use Rattle.std.specs.Prelude.{◌≡◌};
 
 /// The version of the library: 1,000,000 times the first number, 1,000 times the second, and the

@@ -42,7 +42,7 @@ abbrev pub AreOfOthers : List Line → List Line → Type 0
 AreOfOthers before lines =
     AllByRecursion (λ b. AllByRecursion (λ l. WasTold b.lane.n l.lane.n → ⊥) lines) before
 
--- so each of these lists of lines, behind those before it
+-- so each of these lists of lines, after those before it
 abbrev pub AreLanesApart : List Line → List (List Line) → Type 0
 AreLanesApart before [] = Unit {0}
 AreLanesApart before (lines ∷ later) = IsApart before lines × AreOfOthers before lines

@@ -201,7 +201,7 @@ pub record IsDealt (s : Shared) (lines : List Line) (n m : ℕ) (v : View) (task
   pub lines_are : flat (map (lines_due lines) tasks) ≡ lanes_up_to n lines
   pub apart : AreLines s.config.nodes [] lines → AreLanesApart [] (map (lines_due lines) tasks)
 
--- The answers given before, others behind them and those of these lines were told one after the
+-- The answers given before, others after them and those of these lines were told one after the
 -- other.
 pub record TakesIn (s : Shared) (given others : List Answer) (lines : List Line) (e : LaneEnd)
     : Type 0 where

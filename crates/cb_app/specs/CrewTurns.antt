@@ -35,7 +35,7 @@ pub record IsWorkOf (handles : ℕ) (w : Worker') (turns : ℕ) (made : List Tur
 abbrev pub with_turns : View → List Turn → Part
 with_turns v turns = record (as_part v) { turns = turns }
 
--- The turns of a record are those of the lines, and behind them those that each worker made, worker
+-- The turns of a record are those of the lines, and after them those that each worker made, worker
 -- by worker; the answers are backed by those of the lines alone.
 pub record HasCrew (c : Config) (v : View) (answers : List Answer) : Type 0 where
   pub lines : List Turn
@@ -72,14 +72,14 @@ abbrev pub IsLane : Body → Type 0
 IsLane (Lane lane) = Unit {0}
 IsLane (Worker w turns) = ⊥
 
--- lanes, and behind them the four workers, each with so many turns
+-- lanes, and after them the four workers, each with so many turns
 pub record IsCrew (turns : ℕ) (bodies : List Body) : Type 0 where
   pub lanes : List Body
   pub all : AllByRecursion IsLane lanes
   pub are : bodies ≡ lanes ++ (Worker worker.Filter turns ∷ Worker worker.Evict turns
       ∷ Worker worker.Compact turns ∷ Worker worker.Rebuild turns ∷ [])
 
--- what one thread left was taken in: its record, and its answers behind those that there were
+-- what one thread left was taken in: its record, and its answers after those that there were
 pub record Joins (a told b : LaneEnd) : Type 0 where
   pub record_is : record_of b.pass ≡ joined (record_of a.pass) (unpinned_all (record_of told.pass))
   pub answers : b.answers ≡ a.answers ++ told.answers

@@ -59,7 +59,7 @@ IsTold c v w s a more said =
     (said ≡ plain_said s a) × (needs_object s a ≡ true → objects s < c.handles)
 
 -- So to each of them, one after another, where these are the turns before the first. All turns of
--- the record are theirs, one command's behind the other's.
+-- the record are theirs, one command's after the other's.
 abbrev pub AreTold : Config → View → WorldState → Plain → List Turn → List FarCommand
     → List FarAnswer → Type 0
 AreTold c v w s turns [] [] = v.turns ≡ turns
@@ -74,7 +74,7 @@ pub record AreAnswered (c : Config) (asks : List FarCommand) (saids : List FarAn
   pub shows : sealed_world seal ≡ w
   pub closed : IsClosed Did 1 c (sealed_record seal) w
   -- the commands made the calls of one array and one map, each its own, from the runtime that was
-  -- just begun to that record, in which these are the plain list and the plain map behind them all
+  -- just begun to that record, in which these are the plain list and the plain map after them all
   pub gone : HaveGone c 1 asks saids (opener c) (sealed_record seal)
   -- each turn of the record makes an object or is on one
   pub turns_are : Each (λ (t : Turn). IsMake t.job ⊎ IsOnObject (sealed_record seal) t.job)

@@ -24,7 +24,7 @@ pub record AreAllOf (nodes : ℕ) (lines : List Line) (answers : List Answer) : 
   pub script : AreLines nodes [] lines
   pub lines_are : map asked answers ≡ by_lane lines
 
--- The own lines of each lane all of whose answers stand among these, behind those given, are
+-- The own lines of each lane all of whose answers stand among these, after those given, are
 -- answered as if the lane were alone, once all answers of the script are known.
 abbrev pub KeepAloneWith : ℕ → List Answer → List Answer → Type 0
 KeepAloneWith nodes given answers = (lines : List Line) (all : List Answer)

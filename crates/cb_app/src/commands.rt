@@ -1,3 +1,5 @@
+//! What each command makes of the bytes that were read.
+
 ghost use Rattle.std.specs.Prelude.{◌≡◌, ℕ, IfOk, OnErr};
 ghost use Rattle.cb_script.specs.declared.fault.Reason.{Reason};
 ghost use Rattle.cb_script.specs.declared.script.Mode.TheVariants as scripts;

@@ -167,7 +167,7 @@ fn deal_lanes(
     Ok(())
 }
 
-/// The lane behind this one, where it has lines.
+/// The lane after this one, where it has lines.
 fn deal_lane(
     shared: &Shared,
     pass: &mut Pass,
@@ -429,7 +429,7 @@ pub(crate) fn with_text(alloc: Global, end: LaneEnd) -> Result<ToldEnd, NoMemory
     Ok(ToldEnd { end, text })
 }
 
-/// Takes the passes in, and puts the answers and their texts behind those that there are, thread by
+/// Takes the passes in, and puts the answers and their texts after those that there are, thread by
 /// thread.
 fn gather(
     shared: &Shared,
@@ -532,7 +532,7 @@ fn take_end(shared: &Shared, first: &mut LaneEnd, end: LaneEnd) -> Result<(), No
     append(&mut first.answers, answers)
 }
 
-/// Puts answers behind others.
+/// Puts answers after others.
 fn append(answers: &mut Answers, more: Answers) -> Result<(), NoMemory>
     ensures { IfOk result (λ _. answers.new ≡ answers.old ++ more) }
 {

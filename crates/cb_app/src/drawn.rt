@@ -1,3 +1,5 @@
+//! A script that is drawn from a seed, answered and summed up.
+
 ghost use Rattle.std.specs.Prelude.{◌≡◌, ◌≢◌, ◌⊎◌, List, String, Ok, Err, IfOk, OnErr};
 ghost use Rattle.std.specs.Prelude.{IsErr};
 ghost use Rattle.std.specs.declared.alloc.Global.{Global};

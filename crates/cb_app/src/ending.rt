@@ -1,3 +1,5 @@
+//! What a run leaves beside its text, for its contract alone.
+
 ghost use Rattle.std.specs.Prelude.{◌≡◌, [], None, Some};
 ghost use Rattle.cb_app.specs.Scripts.{given_by_nodes};
 
@@ -14,7 +16,7 @@ use std::alloc::Global;
 pub struct Ending {
     /// The configuration of the header, where a script or commands were run.
     pub config: Option<Config>,
-    /// The answers, one for each line of a script behind the header, in order.
+    /// The answers, one for each line of a script after the header, in order.
     pub answers: Answers,
     /// The crashes that took place.
     pub losses: Losses,

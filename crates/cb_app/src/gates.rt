@@ -24,10 +24,10 @@ const HELD_TEXT: &[u8] = b"1 make a v1\n1 pin a v1\n1 peek a v1 0a\n1 unpin a ok
 /// How often a lane that is held looks whether it may go on.
 const MOST_LOOKS: u64 = 1_000_000_000;
 
-/// Holds lane 1 behind line 3 until lane 2 was answered line 6.
+/// Holds lane 1 after line 3 until lane 2 was answered line 6.
 #[derive(Drop)]
 struct HoldingGate {
-    /// 1 behind that answer.
+    /// 1 after that answer.
     answered: AtomicU64,
     /// 1 where the hold ended by it.
     ended: AtomicU64,
@@ -66,7 +66,7 @@ impl Gate for HoldingGate {
 const NOTED: &[u8] = b"carbink 1 k=1 r=1 nodes=2 frames=8 room=64 handles=16 turns=2\n0 make s 00\n\
 1 leave\n2 leave\n1 leave\n15 leave\n";
 
-/// What is noted then: behind a 1 the digits of the lane's lines, or of the worker's turns.
+/// What is noted then: after a 1 the digits of the lane's lines, or of the worker's turns.
 const NOTES: [u64; 20] = [
     0x12, 0x135, 0x14, 1, 1, 1, 1, 1, 1, 1, 1, 1, 1, 1, 1, 0x16, 0x101, 0x1012, 0x101, 0x101,
 ];

@@ -110,7 +110,7 @@ fn run_map<R: Wait>(
     close_map(alloc, shared, pass, saids)
 }
 
-/// Closes the runtime behind its commands.
+/// Closes the runtime after its commands.
 fn close_map(
     alloc: Global,
     shared: Shared,

@@ -1,3 +1,5 @@
+//! One run: take the bytes, obey the command, put the text.
+
 ghost use Rattle.std.specs.Prelude.{◌≡◌, ◌≢◌, ◌≤◌, ◌⊎◌, ℕ, List, length, String, Ok, Err, IfOk, IsErr, OnErr};
 ghost use Rattle.std.specs.Io.KnownBytes.{Consumes};
 ghost use Rattle.std.specs.declared.alloc.Global.{Global};

@@ -29,7 +29,7 @@ use std::thread::Threads;
 /// What a script leaves that was run by threads.
 #[derive(Drop)]
 pub struct ThreadsEnd {
-    /// The answers, one for each line behind the header, by lane and then by line.
+    /// The answers, one for each line after the header, by lane and then by line.
     pub answers: Answers,
     /// The crashes that took place, in the order of their epochs.
     pub losses: Losses,
@@ -43,9 +43,9 @@ pub struct ThreadsEnd {
 
 /// Answers the lines of a script: those of lane 0 first, and then those of lanes 1 to 15, each lane
 /// in a thread of its own, beside the four workers, which make as many turns as are configured. The
-/// lanes and workers call one shared runtime, which is closed behind the last of them. A thread
-/// that can't be started is run by the caller. The gate is told of each answered line and of each
-/// turn of a worker.
+/// lanes and workers call one shared runtime, which is closed after the last of them. A thread that
+/// can't be started is run by the caller. The gate is told of each answered line and of each turn
+/// of a worker.
 pub fn run_threads<R: Threads + Wait + Sync, G: Gate>(
     rt: &R,
     alloc: Global,

@@ -1,3 +1,5 @@
+//! The top call of the program, whose contract is the theorem.
+
 ghost use Rattle.std.specs.Prelude.{◌≡◌, ◌≢◌, ◌≤◌, ◌⊎◌, ℕ, List, length, Some};
 ghost use Rattle.std.specs.Io.KnownBytes.{Appends, Consumes};
 ghost use Rattle.cb_types.specs.Faults.{Rose};
@@ -22,7 +24,7 @@ use std::thread::Threads;
 /// Runs the command that the words give, which come after the program's name. It takes bytes from
 /// the source, but where it draws a script of its own, puts text into the sink, leaves in `end`
 /// what the run was beside its text, and answers the exit status: 0 done, 1 words refused, 2 script
-/// refused, 3 reading failed, 4 writing failed, 5 want of memory.
+/// refused, 3 reading failed, 4 writing failed, 5 out of memory.
 pub fn carbink_run<R: Threads + Wait + Sync, S: Source, K: Sink>(
     rt: &R,
     alloc: Global,

@@ -1,3 +1,5 @@
+//! The size classes of slots, and the class of an object's length.
+
 ghost use Rattle.std.specs.Prelude.{◌≡◌, ◌≢◌, ◌*◌, ◌<◌, ◌≤◌, ◌⊎◌, IfNone, IfSome};
 ghost use Rattle.cb_class.specs.declared.class.Class.{Class};
 ghost use Rattle.cb_class.specs.Class.{IsClass, IsClassOf, IsClassOfSpan, bytes_of, largest, pages_of, slots_of, words_of};

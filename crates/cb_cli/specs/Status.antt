@@ -5,7 +5,7 @@ use Rattle.cb_cli.specs.declared.outcome.Due.TheVariants.{Done, WordsRefused, Sc
 use Rattle.cb_cli.specs.declared.outcome.Failure.{Failure}
 use Rattle.cb_cli.specs.declared.outcome.Failure.TheVariants.{Read, Write, NoMemory}
 
--- 0 done, 1 words refused, 2 script refused, 3 read fault, 4 write fault, 5 want of memory
+-- 0 done, 1 words refused, 2 script refused, 3 read fault, 4 write fault, 5 out of memory
 abbrev pub status_of : Result Due Failure → ℕ
 status_of (Ok Done) = 0
 status_of (Ok WordsRefused) = 1

@@ -19,7 +19,7 @@ fault_text line reason =
 abbrev pub given_line : ℕ → List ℕ
 given_line given = codes "given " ++ decimal given ++ codes "\n"
 
--- that a script was read, with its lines behind the header and its different lanes
+-- that a script was read, with its lines after the header and its different lanes
 abbrev pub check_text : Script → List ℕ
 check_text script =
     codes "script ok lines " ++ decimal (length script.lines) ++ codes " lanes "

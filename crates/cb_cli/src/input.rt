@@ -1,3 +1,5 @@
+//! A source is taken to its end, or to one byte more than a script may have.
+
 ghost use Rattle.std.specs.Prelude.{◌≡◌, ◌≢◌, ◌≤◌, List, ℕ, length, Err, IfOk};
 ghost use Rattle.std.specs.Io.KnownBytes.{Consumes};
 ghost use Rattle.cb_types.specs.Faults.{Rose};

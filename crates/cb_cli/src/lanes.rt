@@ -1,3 +1,5 @@
+//! How many lanes the lines of a script have.
+
 ghost use Rattle.std.specs.Prelude.{◌≡◌};
 ghost use Rattle.cb_cli.specs.Lanes.{lane_count};
 

@@ -1,3 +1,5 @@
+//! How a run ends, as an exit status.
+
 ghost use Rattle.std.specs.Prelude.{◌≡◌};
 ghost use Rattle.cb_cli.specs.Status.{status_of};
 

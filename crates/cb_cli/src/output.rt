@@ -1,3 +1,5 @@
+//! A text is put to its end, in pieces that end with a line.
+
 ghost use Rattle.std.specs.Prelude.{◌≡◌, ◌<◌, length, OnOk, OnErr};
 ghost use Rattle.std.specs.Io.KnownBytes.{Appends};
 ghost use Rattle.cb_types.specs.Faults.{Rose};
@@ -16,7 +18,7 @@ const MOST_PUT: usize = 4096;
 #[derive(Clone, Copy, Debug, PartialEq, Eq)]
 pub struct PutFailed;
 
-/// Where the next put ends: behind the last line that ends within it, so that who is killed while a
+/// Where the next put ends: after the last line that ends within it, so that who is killed while a
 /// pipe is full leaves no part of a line; where none does, at its most.
 fn put_end(bytes: &[u8], done: usize) -> usize
     requires { done < length bytes.now }

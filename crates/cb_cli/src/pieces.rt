@@ -1,3 +1,5 @@
+//! A text in pieces, which are not copied into one.
+
 ghost use Rattle.std.specs.Prelude.{◌≡◌, ◌++◌, OnErr, OnOk};
 ghost use Rattle.cb_cli.specs.Pieces.{joined_pieces};
 
@@ -5,7 +7,7 @@ use cb_types::{Bytes, NoMemory};
 use std::alloc::Global;
 use std::marker::Model;
 
-/// A text in pieces, one behind the other. Contracts see it as the list of all its bytes.
+/// A text in pieces, one after the other. Contracts see it as the list of all its bytes.
 #[derive(Drop)]
 pub struct Pieces {
     first: Bytes,
@@ -44,7 +46,7 @@ impl Pieces {
         Ok(())
     }
 
-    /// The first piece, and those behind it.
+    /// The first piece, and those after it.
     pub fn parts(&self) -> (&[u8], &[Bytes])
         ensures text { result.0.now ++ joined_pieces result.1.now ≡ self.now }
     {

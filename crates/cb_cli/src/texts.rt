@@ -1,3 +1,5 @@
+//! The texts of answers and of refusals, a line each.
+
 ghost use Rattle.std.specs.Prelude.{◌≡◌, ◌++◌, IfOk};
 ghost use Rattle.std.specs.List.{AllByRecursion};
 ghost use Rattle.cb_types.specs.Table.{IsReplyOf};
@@ -50,7 +52,7 @@ fn room_for(answers: &[Answer]) -> usize {
     room
 }
 
-/// The text, and behind it a line that tells how many rows the nodes gave out.
+/// The text, and after it a line that tells how many rows the nodes gave out.
 pub fn with_given(alloc: Global, text: Bytes, given: u64) -> Result<Bytes, NoMemory>
     ensures { IfOk result (λ longer. longer ≡ text ++ given_line given) }
 {

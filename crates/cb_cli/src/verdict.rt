@@ -1,3 +1,5 @@
+//! What a command makes of the bytes that were taken.
+
 use crate::pieces::Pieces;
 use cb_types::Bytes;
 

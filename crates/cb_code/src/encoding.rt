@@ -1,3 +1,5 @@
+//! The parities of data rows.
+
 ghost use Rattle.std.specs.Prelude.{◌≡◌, ℕ, ◌*◌, ◌<◌, ◌≤◌, List, ◌++◌, length, IfOk, slice_index};
 ghost use Rattle.cb_gf256.specs.Block.{cut_rows};
 ghost use Rattle.cb_gf256.specs.Rows.{row_at, HaveLength, HoldBytes};
@@ -8,7 +10,7 @@ use crate::Coeffs;
 use cb_gf256::{NoMemory, Rows, RowsRef, set_sums_in};
 use std::alloc::Global;
 
-/// The parities of these data rows, as many as the code has. The only error is want of memory.
+/// The parities of these data rows, as many as the code has. The only error is out of memory.
 pub fn encode(alloc: Global, c: &Coeffs, rows: &Rows) -> Result<Rows, NoMemory>
     requires { HaveLength (length rows.now) c.now }
     ensures sums { IfOk result (λ parities. AreCombinations c.now rows.now parities) }

@@ -1,3 +1,5 @@
+//! The laws of the coefficients, as clauses of a function that does nothing.
+
 ghost use Rattle.std.specs.Prelude.{◌≡◌, ℕ, List};
 ghost use Rattle.cb_gf256.specs.InRange.{IsInRange};
 ghost use Rattle.cb_code.specs.Coefficients.{AreCoefficients};

@@ -1,3 +1,5 @@
+//! Sets that may join: one code, one length, live positions apart.
+
 ghost use Rattle.std.specs.Prelude.{◌≡◌, ◌+◌, ◌<◌, true, false, IfNone, IfOk, IfSome, None, Some, length};
 ghost use Rattle.std.specs.FinMap as map;
 ghost use Rattle.cb_set.specs.SetState.{SetState};

@@ -1,3 +1,5 @@
+//! What the begin of a compaction ends in.
+
 ghost use Rattle.std.specs.Prelude.{◌≡◌, ◌+◌, ◌^◌, ◌<◌, ◌≤◌, Some, length, slice_get};
 ghost use Rattle.cb_member.specs.declared.names.Shard.{Shard};
 ghost use Rattle.cb_set.specs.SetState.{SetState};

@@ -1,3 +1,5 @@
+//! Rows of the merged word, made of deltas at the nodes.
+
 ghost use Rattle.std.specs.Prelude.{◌≡◌, ℕ, ◌+◌, ◌<◌, List, All, Some, false, true, length, slice_get, IfOk, OnErr};
 ghost use Rattle.cb_gf256.specs.Rows.{row_at};
 ghost use Rattle.cb_member.specs.declared.names.Shard.{Shard};

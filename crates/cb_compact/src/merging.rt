@@ -1,3 +1,5 @@
+//! One set of two, after all steps of the pair.
+
 ghost use Rattle.std.specs.Prelude.{◌≡◌, ℕ, ◌+◌, ◌^◌, ◌<◌, ◌≤◌, All, IfOk, OnErr, OnOk, [], ◌∷◌, true, None, Some, length, count_by};
 ghost use Rattle.std.specs.FinMap as map;
 ghost use Rattle.cb_member.specs.declared.names.Shard.{Shard};

@@ -1,3 +1,5 @@
+//! A joining pair is given up.
+
 ghost use Rattle.std.specs.Prelude.{◌≡◌, ℕ, ◌<◌, IfOk, IsOk, None, Some, length};
 ghost use Rattle.cb_member.specs.declared.names.Shard.{Shard};
 ghost use Rattle.cb_node.specs.NodesState.{with_dropped};

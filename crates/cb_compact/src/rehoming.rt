@@ -1,3 +1,5 @@
+//! Objects of the merged set get their homes there.
+
 ghost use Rattle.std.specs.Prelude.{◌<◌, length};
 ghost use Rattle.cb_set.specs.SetState.{position_of};
 ghost use Rattle.cb_world.specs.Homes.{HasHomes};

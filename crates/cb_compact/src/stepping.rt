@@ -1,3 +1,5 @@
+//! One step of the joining pair.
+
 ghost use Rattle.std.specs.Prelude.{◌≡◌, ℕ, ◌+◌, ◌^◌, ◌<◌, ◌≤◌, IfNone, IfOk, IfSome, OnErr, length};
 ghost use Rattle.cb_member.specs.declared.names.Shard.{Shard};
 ghost use Rattle.cb_set.specs.SetState.{SetState};

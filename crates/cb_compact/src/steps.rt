@@ -1,3 +1,5 @@
+//! Which positions of a pair have a step, and which are done.
+
 ghost use Rattle.std.specs.Prelude.{◌≡◌, ◌<◌, ◌≤◌, IfNone, IfSome, Some, length};
 ghost use Rattle.cb_member.specs.declared.names.Shard.{Shard};
 ghost use Rattle.cb_world.specs.JoinSteps.{with_step};

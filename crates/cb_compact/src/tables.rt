@@ -1,3 +1,5 @@
+//! The search for two sets to join, by a table of live positions.
+
 ghost use Rattle.std.specs.Prelude.{◌≡◌, ℕ, ◌-◌, ◌^◌, ◌<◌, ◌≤◌, true, false, IfOk, Some, length, slice_get, slice_index_or, bit_and};
 ghost use Rattle.std.specs.Int.{bit_at};
 ghost use Rattle.cb_compact.specs.declared.candidates.Candidate.{Candidate};

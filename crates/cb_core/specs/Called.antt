@@ -48,7 +48,7 @@ pub record ClaimCall : Type 0 where
   pub at : ℕ
   pub bytes : List ℕ
 
--- the claims that were granted, behind an event, the newest one first
+-- the claims that were granted, after an event, the newest one first
 abbrev pub claims_after : List ClaimCall → Event → Reply → List ClaimCall
 claims_after claims (event.Step seat (Claim handle at bytes)) answer.Claimed =
     record { seat = seat; handle = handle.n; at = at; bytes = bytes } ∷ claims
@@ -65,7 +65,7 @@ abbrev pub write_settled : ℕ → Option ℕ → Option ClaimCall → Reply →
 write_settled seat handle None r = []
 write_settled seat handle (Some c) r = call_of seat handle (line.Write [] c.at c.bytes) r
 
--- An answered event, behind the calls and the claims before it: a make, a turn on an object and a
+-- An answered event, after the calls and the claims before it: a make, a turn on an object and a
 -- pin are calls of their seat, with no name. A claim that is refused is a write that is refused,
 -- and the settling of one that was granted is its write. Every other event is none. (A pin of an
 -- object that is far, or that has as many pins as its word counts, is a call that was refused.)
@@ -87,14 +87,14 @@ called_as before claims (event.Step seat (Settle handle)) (answer.Version versio
     (answer.Version version)
 called_as before claims e r = []
 
--- the calls of answered events one after another, behind those before them
+-- the calls of answered events one after another, after those before them
 abbrev pub calls_by : List Called → List ClaimCall → List Event → List Reply → List Called
 calls_by before claims [] replies = []
 calls_by before claims (e ∷ events) [] = []
 calls_by before claims (e ∷ events) (r ∷ replies) = called_as before claims e r
     ++ calls_by (before ++ called_as before claims e r) (claims_after claims e r) events replies
 
--- the claims that were granted behind all of them
+-- the claims that were granted after all of them
 abbrev pub claims_by : List ClaimCall → List Event → List Reply → List ClaimCall
 claims_by claims [] replies = claims
 claims_by claims (e ∷ events) [] = claims

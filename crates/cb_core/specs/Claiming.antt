@@ -46,7 +46,7 @@ opened desk h at bytes = record {
   stored = 0;
 }
 
--- the object is Moving, and the seat has the open write behind its others
+-- the object is Moving, and the seat has the open write after its others
 pub record IsClaimTaken (seat h at : ℕ) (bytes : List ℕ) (w new : WorldState) : Type 0 where
   pub word : IsClaimed w.desk h new.desk
   pub seats : new.seats ≡ with_claims w.seats seat

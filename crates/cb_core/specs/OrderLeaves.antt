@@ -52,7 +52,7 @@ pub record InstallLeaves (c : Config) (far new : FarState) (order : Option Kept)
 
 -- What a turn leaves of a seat that kept `order` before it, whatever its outcome: what every turn
 -- leaves, and no version; and for all that the desk showed, where that was sound and the order was
--- kept, what the seat keeps behind it is kept then.
+-- kept, what the seat keeps after it is kept then.
 pub record LeavesWith {D : Type 0} (run : D → List Access → D → Type 0) (shows : D → Shown → Type 0)
     (c : Config) (a b : Holding D) (order keeps : Option Kept) : Type 0 where
   pub leaves : TurnLeaves run shows c a b (λ more. more ≡ [])

@@ -36,7 +36,7 @@ pub data FetchesBy {D : Type 0} (p : OrderParts D) (h : ℕ) (order : Option Kep
   was_far : (m : Holding D) (g : Fetching) → p.finds h a answer.NotHere m → p.fetches h m g b
       → r ≡ fetching_reply g → keeps ≡ fetching_order order g → FetchesBy p h order a r keeps b
 
--- What a seat keeps behind a landing with this reply: the order is taken where its position was
+-- What a seat keeps after a landing with this reply: the order is taken where its position was
 -- brought in.
 abbrev pub landed_order : Option Kept → Reply → Option Kept
 landed_order order (answer.Swapped f) = None
@@ -54,7 +54,7 @@ decode_in (Some (Encode o)) = None
 decode_in None = None
 
 -- What such a job does by these parts, once the turn is counted: what the seat kept before it, and
--- what it keeps behind it. No other job is one.
+-- what it keeps after it. No other job is one.
 abbrev pub DoesWithBy : {D : Type 0} → OrderParts D → Job → Option Kept → Holding D → Reply
     → Option Kept → Holding D → Type 0
 DoesWithBy p Gather order a r keeps b = (g : Gathered) × p.gathers a g b × (r ≡ gathered_reply g)

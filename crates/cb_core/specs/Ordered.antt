@@ -74,7 +74,7 @@ pub data FetchRun {D : Type 0} (run : D → List Access → D → Type 0) (shows
   was_far : (m : Holding D) → FindsWhere run shows h a answer.NotHere m
       → FetchesRows run h m g b → FetchRun run shows h a g b
 
--- A turn of a seat that kept `order` before it and keeps `keeps` behind it: where 2^40 turns were
+-- A turn of a seat that kept `order` before it and keeps `keeps` after it: where 2^40 turns were
 -- counted it is refused and nothing is done; else it is counted first, and then does its job.
 pub data TurnedWith {D : Type 0} (run : D → List Access → D → Type 0) (shows : D → Shown → Type 0)
     (c : Config) (job : Job) (order : Option Kept) (a : Holding D) (r : Reply) (keeps : Option Kept)
@@ -93,7 +93,7 @@ pub data InstallTurn (far : FarState) (r : Reply) (order keeps : Option Kept) (n
   done : far.counts.turns < 2 ^ 40 → InstallStep (counted far Install) new r order keeps
       → InstallTurn far r order keeps new
 
--- ---- want of memory
+-- ---- running out of memory
 
 -- rows that lack memory, and a landing that does, change nothing
 abbrev pub NothingDone : {D : Type 0} → (D → List Access → D → Type 0) → Holding D → Holding D
@@ -134,7 +134,7 @@ pub data StopsAt {D : Type 0} (run : D → List Access → D → Type 0) (shows 
       → NothingDone run (once_counted a job) b → StopsAt run shows c job order a b
   in_part : StoppedWith run shows c job order a b → StopsAt run shows c job order a b
 
--- ---- what a seat keeps behind such a turn, by its outcome
+-- ---- what a seat keeps after such a turn, by its outcome
 -- a turn that found no memory leaves it what it kept
 abbrev pub gather_keeps : Option Kept → Result Gathered NoMemory → Option Kept
 gather_keeps order (Ok g) = gathered_order order g

@@ -45,7 +45,7 @@ pub record RunStops (w : WorldState) (events : List Event) (new : WorldState) : 
   pub left : (new ≡ reached)
       ⊎ ((next : Event) × (rest : List Event) × (after ≡ next ∷ rest) × EventStops reached next new)
 
--- ---- want of memory
+-- ---- running out of memory
 
 -- the far state but for what it only counts, turns and rows that were given out, and for what is
 -- known of how the sets stand

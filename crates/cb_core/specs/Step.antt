@@ -184,12 +184,12 @@ still_orders = record {
   wins = StillRoom;
 }
 
--- such a job once the turn is counted, by what the seat keeps before it and behind it
+-- such a job once the turn is counted, by what the seat keeps before it and after it
 abbrev pub StillWith : Job → Option Kept → Holding Words → Reply → Option Kept → Holding Words
     → Type 0
 StillWith = DoesWithBy still_orders
 
--- A turn with such a job of a seat that kept `order` before it and keeps `keeps` behind it: where
+-- A turn with such a job of a seat that kept `order` before it and keeps `keeps` after it: where
 -- 2^40 turns were counted it is refused and changes nothing; else it is counted, and does its job.
 pub data OrderTurn (job : Job) (order : Option Kept) (a : Holding Words) (r : Reply)
     (keeps : Option Kept) (b : Holding Words) : Type 0 where
@@ -217,7 +217,7 @@ holding_of w = record { desk = w.desk; far = w.far }
 
 -- A turn of a seat: where another seat holds the far lock it is refused, not counted, and changes
 -- nothing. Else it takes place, whether the seat holds the lock or nobody does. A job that hands an
--- order out or takes one leaves the seat with what it keeps behind the turn.
+-- order out or takes one leaves the seat with what it keeps after the turn.
 pub data SeatTurn (seat : ℕ) (job : Job) (w : WorldState) (r : Reply) (new : WorldState) : Type 0
   where
     held : (holder : ℕ) → (holder ≡ seat → ⊥) → Holds w.seats holder → r ≡ answer.Held holder
@@ -250,7 +250,7 @@ Leads w (e ∷ es) (r ∷ rs) new = (between : WorldState) × Step w e r between
     × Leads between es rs new
 Leads w es rs new = ⊥
 
--- ---- want of memory
+-- ---- running out of memory
 
 abbrev pub StillMakeLacks : List ℕ → Holding Words → Holding Words → Type 0
 StillMakeLacks bytes a b = (b ≡ a) × NeedsNewSpan a.desk.settings.handles (length bytes) a.far

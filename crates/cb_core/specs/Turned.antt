@@ -219,7 +219,7 @@ pub data Turned {D : Type 0} (run : D → List Access → D → Type 0) (shows :
   done : a.far.counts.turns < 2 ^ 40 → Does run shows reads c job (once_counted a job) r b
       → Turned run shows reads c job a r b
 
--- ---- want of memory
+-- ---- running out of memory
 
 -- a make that lacks memory for a new span changes nothing
 abbrev pub MakeLacks : {D : Type 0} → (D → List Access → D → Type 0) → Config → List ℕ → Holding D

@@ -1,3 +1,5 @@
+//! A turn is counted, or refused after 2^40 of them.
+
 ghost use Rattle.std.specs.Prelude.{◌≡◌, ◌^◌, ◌<◌, IfNone, IfSome, true, false};
 ghost use Rattle.cb_world.specs.World.{AreCounted, IsSoundWorld};
 ghost use Rattle.cb_core.specs.Admitting.{IsAdmitted, IsTurnRefused};

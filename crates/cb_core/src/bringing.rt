@@ -1,3 +1,5 @@
+//! Room for an object, by evictions, and far objects brought in.
+
 ghost use Rattle.std.specs.Prelude.{◌≡◌, ℕ, ◌^◌, ◌+◌, ◌<◌, ◌≤◌, length, true, false, Some, IfOk, OnErr};
 ghost use Rattle.cb_types.specs.Config.{IsAccepted, most_bytes};
 ghost use Rattle.cb_types.specs.declared.reply.Reply.TheVariants as answer;

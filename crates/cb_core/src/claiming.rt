@@ -1,3 +1,5 @@
+//! The steps of a write in place: claim, store, settle.
+
 ghost use Rattle.std.specs.Prelude.{◌≡◌, ◌+◌, ◌-◌, ◌^◌, ◌<◌, ◌≤◌, length, IfSome, IfNone, IfOk, OnErr};
 ghost use Rattle.cb_ptr.specs.Word.{len_of, place_of};
 ghost use Rattle.cb_world.specs.Memory.{words_for};

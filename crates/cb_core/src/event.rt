@@ -1,3 +1,5 @@
+//! What may happen next in a world: an atomic step or a turn.
+
 use cb_types::{Bytes, Handle, Job};
 
 /// One atomic step on one word.

@@ -1,3 +1,5 @@
+//! Rows are handed out of a far object's set, to be decoded outside the lock.
+
 ghost use Rattle.std.specs.Prelude.{◌≡◌, ◌+◌, ◌^◌, ◌<◌, [], IfOk, None, OnErr, Option, Some};
 ghost use Rattle.cb_types.specs.Config.{IsAccepted};
 ghost use Rattle.cb_types.specs.declared.job.Job.TheVariants as job;

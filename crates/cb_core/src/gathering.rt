@@ -1,3 +1,5 @@
+//! Rows of a batch are handed out, and its parities taken in.
+
 ghost use Rattle.std.specs.Prelude.{◌≡◌, ◌^◌, ◌<◌, IfOk, OnErr, Option};
 ghost use Rattle.cb_types.specs.Config.{IsAccepted};
 ghost use Rattle.cb_types.specs.declared.config.Config.{Config};

@@ -1,3 +1,5 @@
+//! The far lock is taken by a seat, and given back.
+
 ghost use Rattle.std.specs.Prelude.{◌≡◌, ◌<◌, IfNone, IfSome};
 ghost use Rattle.cb_world.specs.Seats.{Holds};
 ghost use Rattle.cb_world.specs.World.{IsSoundWorld};

@@ -1,3 +1,5 @@
+//! Crashes and joins of nodes.
+
 ghost use Rattle.cb_member.specs.Membership.{alive};
 ghost use Rattle.std.specs.Prelude.{◌≡◌, true, ◌^◌, ◌-◌, ◌<◌, length, IfOk, OnErr};
 ghost use Rattle.cb_node.specs.NodesState.{held};
@@ -8,7 +10,7 @@ use cb_member::MemberAnswer;
 use cb_types::{NoMemory, NodeId, Reply};
 use cb_world::{Far, Survey};
 
-/// What is known of how the sets stand behind a crash of the node: where it held no row, no set had
+/// What is known of how the sets stand after a crash of the node: where it held no row, no set had
 /// a shard there, and each stands as it did. Else nothing more is known.
 fn survey_after_crash(far: &Far, node: NodeId) -> Survey
     requires node { node.n < length far.now.nodes.nodes }
@@ -20,9 +22,9 @@ fn survey_after_crash(far: &Far, node: NodeId) -> Survey
     Survey::new()
 }
 
-/// A crash of a node: it is down, and its rows are lost.
-/// Answers Down where it is down, and else the epoch that the crash began. Want of memory changes
-/// nothing, and is answered only where the node is up.
+/// A crash of a node: it is down, and its rows are lost. Answers Down where it is down, and else
+/// the epoch that the crash began. Running out of memory changes nothing, and is answered only
+/// where the node is up.
 pub(crate) fn crash(far: &mut Far, node: NodeId) -> Result<Reply, NoMemory>
     requires member { node.n < length far.old.members.nodes }
     requires node { node.n < length far.old.nodes.nodes }

@@ -1,3 +1,5 @@
+//! Turns that hand an order out, or take one that was run.
+
 ghost use Rattle.std.specs.Prelude.{◌≡◌, ◌^◌, ◌<◌, ℕ, IfOk, None, Ok, OnErr, Option, Some, true, false};
 ghost use Rattle.cb_types.specs.Config.{IsAccepted};
 ghost use Rattle.cb_types.specs.declared.config.Config.{Config};
@@ -28,11 +30,11 @@ use cb_world::{Desk, Far};
 use std::alloc::Global;
 
 /// A turn of the holder of the far lock with a job that hands an order out or takes one, for a seat
-/// that keeps this order: what the seat keeps behind it, and the answer.
+/// that keeps this order: what the seat keeps after it, and the answer.
 ///
 /// A new order replaces the one before. For an install and a landing the order that the seat keeps
 /// is run first; it is taken from the seat where the answer is Done or Swapped, and else put back.
-/// Where it can't be run for want of memory, the turn is counted and nothing else changes.
+/// Where it can't be run for lack of memory, the turn is counted and nothing else changes.
 pub(crate) fn turn_with<D: Desk>(
     alloc: Global,
     desk: &mut D,
@@ -84,7 +86,7 @@ fn gather_with<D: Desk>(
     behind_gather(order, gathered)
 }
 
-/// What a seat keeps behind a gather, and its answer.
+/// What a seat keeps after a gather, and its answer.
 fn behind_gather(
     order: Option<Kept>,
     gathered: Result<Gathered, NoMemory>,
@@ -124,7 +126,7 @@ fn fetch_with<D: Desk>(
     behind_fetch(order, fetched)
 }
 
-/// What a seat keeps behind a fetch, and its answer.
+/// What a seat keeps after a fetch, and its answer.
 fn behind_fetch(
     order: Option<Kept>,
     fetched: Result<Fetching, NoMemory>,
@@ -217,7 +219,7 @@ fn install_made(far: &mut Far, done: EncodeDone) -> (Option<Kept>, Result<Reply,
     behind_install(Some(Kept::Encode(done.into_order())), reply)
 }
 
-/// What a seat keeps behind an install, and its answer.
+/// What a seat keeps after an install, and its answer.
 fn behind_install(order: Option<Kept>, reply: Reply) -> (Option<Kept>, Result<Reply, NoMemory>)
     ensures keeps { result.0 ≡ kept_behind reply order }
     ensures answer { result.1 ≡ Ok reply }
@@ -311,7 +313,7 @@ fn land_made<D: Desk>(
     behind_land(Some(Kept::Decode(done.into_order())), ended)
 }
 
-/// What a seat keeps behind a landing, and its answer.
+/// What a seat keeps after a landing, and its answer.
 fn behind_land(
     order: Option<Kept>,
     ended: Result<Reply, NoMemory>,

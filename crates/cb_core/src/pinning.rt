@@ -1,3 +1,5 @@
+//! Pins of a seat in a world on one thread.
+
 ghost use Rattle.std.specs.Prelude.{◌≡◌, ◌<◌, length, Some};
 ghost use Rattle.cb_core.specs.Pinning.{PinStep, UnpinStep};
 ghost use Rattle.cb_world.specs.World.{ArePinned};

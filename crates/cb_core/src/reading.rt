@@ -1,3 +1,5 @@
+//! A read, wherever the object lies.
+
 ghost use Rattle.std.specs.Prelude.{◌≡◌, ◌+◌, ◌^◌, ◌<◌, true, false, [], IfOk, OnErr};
 ghost use Rattle.cb_types.specs.Config.{IsAccepted};
 ghost use Rattle.cb_types.specs.declared.reply.Reply.TheVariants as answer;

@@ -1,3 +1,5 @@
+//! Replies to events, in order.
+
 ghost use Rattle.std.specs.Prelude.{◌≡◌, [], ◌∷◌, ◌++◌, OnOk, OnErr};
 
 use cb_types::{NoMemory, Reply};
@@ -36,7 +38,7 @@ impl Replies {
         self.items.as_slice()
     }
 
-    /// Adds a reply at the end. Want of memory leaves the list as it was.
+    /// Adds a reply at the end. Running out of memory leaves the list as it was.
     pub fn push(&mut self, item: Reply) -> Result<(), NoMemory>
         ensures ok { OnOk result (self.new ≡ self.old ++ item ∷ []) }
         ensures err { OnErr result (self.new ≡ self.old) }

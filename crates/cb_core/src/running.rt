@@ -1,3 +1,5 @@
+//! Events one after another.
+
 ghost use Rattle.std.specs.Prelude.{◌≡◌, ◌++◌, List, [], IfOk, OnErr};
 ghost use Rattle.std.specs.List.{AllByRecursion};
 ghost use Rattle.cb_model.specs.Called.{Called};

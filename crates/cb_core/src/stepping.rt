@@ -1,3 +1,5 @@
+//! One event: the entry of every line into the core.
+
 ghost use Rattle.std.specs.Prelude.{◌≡◌, ◌<◌, IfOk, OnErr, length, true, false};
 ghost use Rattle.cb_world.specs.Seats.{with_order};
 ghost use Rattle.cb_world.specs.World.{IsSoundWorld};
@@ -29,7 +31,7 @@ use std::alloc::Global;
 ///
 /// A turn with a job that hands an order out or takes one goes by the order that its seat keeps: a
 /// new one replaces it; an install and a landing run it first, and it is taken from the seat where
-/// they are answered Done or Swapped. Where it can't be run for want of memory, the turn is counted
+/// they are answered Done or Swapped. Where it can't be run for lack of memory, the turn is counted
 /// and nothing else changes.
 ///
 /// Unavailable is answered exactly where a turn is to bring in a far object whose set has lost more

@@ -1,3 +1,5 @@
+//! The delta of a data row, and a parity that is patched by it.
+
 ghost use Rattle.std.specs.Prelude.{◌≡◌, ℕ, ◌<◌, List, length, slice_index, slice_set};
 ghost use Rattle.cb_gf256.specs.Row.{row_sum, scaled_row};
 ghost use Rattle.cb_gf256.specs.Rows.{row_at};

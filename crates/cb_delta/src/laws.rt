@@ -1,3 +1,5 @@
+//! The law of patched parities, as a clause of a function that does nothing.
+
 ghost use Rattle.std.specs.Prelude.{◌≡◌, ℕ, ◌<◌, List, length};
 ghost use Rattle.cb_gf256.specs.Rows.{row_at};
 ghost use Rattle.cb_gf256.specs.Combination.{AreCombinations};

@@ -1,3 +1,5 @@
+//! The law of weights, as a clause of a function that does nothing.
+
 ghost use Rattle.std.specs.Prelude.{◌≡◌, ℕ, ◌+◌, List};
 ghost use Rattle.cb_gf256.specs.InRange.{IsInRange};
 ghost use Rattle.cb_gf256.specs.Positions.{ArePositions};

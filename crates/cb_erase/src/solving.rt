@@ -1,3 +1,5 @@
+//! Lost rows from k present ones.
+
 ghost use Rattle.std.specs.Prelude.{◌≡◌, ℕ, ◌+◌, ◌<◌, List, length, All, IfOk, slice_index};
 ghost use Rattle.std.specs.List.Sorted.{IsStrictlyIncreasing};
 ghost use Rattle.cb_gf256.specs.Rows.{rows_at, byte_at, HaveLength, HoldBytes};
@@ -12,8 +14,8 @@ use crate::weighing::factor_row;
 use cb_gf256::{NoMemory, Rows, RowsRef};
 use std::alloc::Global;
 
-/// The code word that agrees with the rows at the `k` positions `present`; what the other rows
-/// hold does not matter. The only error is want of memory.
+/// The code word that agrees with the rows at the `k` positions `present`; what the other rows hold
+/// does not matter. The only error is out of memory.
 pub fn solve(alloc: Global, k: u32, r: u32, rows: &Rows, present: &[u8]) -> Result<Rows, NoMemory>
     requires in_range { IsInRange k r }
     requires positions { ArePositions (k + r) k present.now }

@@ -1,3 +1,5 @@
+//! The factors of present rows in every row of the word.
+
 ghost use Rattle.std.specs.Prelude.{◌≡◌, ◌<◌, ◌≤◌, length};
 ghost use Rattle.cb_gf256.specs.Corner.{corner};
 ghost use Rattle.cb_gf256.specs.Rows.{row_at, byte_at};

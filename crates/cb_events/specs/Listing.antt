@@ -1,4 +1,4 @@
--- How a list of events is laid out in bytes: a configuration, and then event behind event.
+-- How a list of events is laid out in bytes: a configuration, and then event after event.
 use Rattle.std.specs.Prelude.{◌≡◌, ℕ, ◌+◌, ◌*◌, ◌<◌, ◌≤◌, List, [], ◌∷◌, length, drop, slice_index, slice_range}
 use Rattle.cb_types.specs.Jobs.{job_index}
 use Rattle.cb_types.specs.declared.config.Config.{Config}
@@ -119,7 +119,7 @@ pub record IsListed (c : Config) (bytes : List ℕ) (e : Event) : Type 0 where
   pub said : IsEventOf (head_in bytes) (written_in bytes) e
   pub may : IsEvent c e
 
--- The events stand one behind the other at the front of the bytes, and behind them the rest.
+-- The events stand one after the other at the front of the bytes, and after them the rest.
 abbrev pub AreListed : Config → List ℕ → List Event → List ℕ → Type 0
 AreListed c bytes [] rest = rest ≡ bytes
 AreListed c bytes (e ∷ es) rest =

@@ -11,7 +11,7 @@ use Rattle.cb_core.specs.declared.event.Event.{Event}
 use Rattle.cb_core.specs.Step.{Leads}
 use Rattle.cb_events.specs.Listing.{AreListed, NoneListed, config_in}
 
--- The words of a reply, each behind a space: as in the answer of a line where a line can be answered
+-- The words of a reply, each after a space: as in the answer of a line where a line can be answered
 -- so, but that a make tells its handle too.
 abbrev pub told_text : Reply → List ℕ
 told_text (Made handle version) =
@@ -49,8 +49,8 @@ abbrev pub LeadFromEmpty : Config → List Event → List Reply → Type 0
 LeadFromEmpty config events replies =
     (new : WorldState) × Leads (empty_world config) events replies new
 
--- The text tells the replies to all events that stand one behind the other at the front of the bytes,
--- from the empty world of the configuration, and how many bytes stand behind them.
+-- The text tells the replies to all events that stand one after the other at the front of the
+-- bytes, from the empty world of the configuration, and how many bytes stand after them.
 pub record TellsReplies (config : Config) (bytes text : List ℕ) : Type 0 where
   pub events : List Event
   pub rest : List ℕ

@@ -1,3 +1,5 @@
+//! Events read from a source are answered, one after another.
+
 ghost use Rattle.std.specs.Prelude.{◌≡◌, ◌≢◌, ◌≤◌, ℕ, List, length, Err, IsErr, IfOk, MatchOption};
 ghost use Rattle.std.specs.Io.KnownBytes.{Appends};
 ghost use Rattle.std.specs.List.{AllByRecursion};
@@ -19,7 +21,7 @@ use std::alloc::Global;
 /// The bytes of a configuration.
 const CONFIG_BYTES: usize = 14;
 
-/// The events that stand at the front of some bytes, and how many bytes stand behind them.
+/// The events that stand at the front of some bytes, and how many bytes stand after them.
 #[derive(Drop)]
 struct Listed {
     events: Vec<Event>,

@@ -1,6 +1,6 @@
-//! Answers a list of events, for `tests/events`: it reads a configuration and the events behind it
-//! as bytes, lets them come one after another from the empty world, and writes a line for each reply
-//! and one that tells how many bytes it did not read.
+//! Answers a list of events, for `tests/events`: it reads a configuration and the events after it
+//! as bytes, lets them come one after another from the empty world, and writes a line for each
+//! reply and one that tells how many bytes it did not read.
 #![tactic(auto)]
 
 pub mod answering;
@@ -12,7 +12,7 @@ use cb_cli::{Due, status};
 use cb_types::{StdSink, StdSource};
 use std::process::ExitCode;
 
-/// The exit status: 0 done, 3 reading failed, 4 writing failed, 5 want of memory.
+/// The exit status: 0 done, 3 reading failed, 4 writing failed, 5 out of memory.
 fn main(rt: HostRuntime) -> ExitCode {
     let mut source = StdSource::new(rt.stdin());
     let mut sink = StdSink::new(rt.stdout());

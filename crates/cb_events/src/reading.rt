@@ -1,3 +1,5 @@
+//! Events as bytes.
+
 ghost use Rattle.std.specs.Prelude.{◌≡◌, ◌≢◌, ◌+◌, ◌<◌, ◌≤◌, List, ℕ, drop, length, IfOk, MatchOption};
 ghost use Rattle.cb_types.specs.Config.{most_bytes};
 ghost use Rattle.cb_core.specs.Events.{IsAtomic, IsEvent};
@@ -44,7 +46,7 @@ pub(crate) fn event_len(bytes: &[u8]) -> usize
     HEAD_BYTES + number_at(bytes, 6) as usize
 }
 
-/// What stands behind the event at the front.
+/// What stands after the event at the front.
 pub(crate) fn behind_event(bytes: &[u8]) -> &[u8]
     requires { len_of_event bytes.now ≤ length bytes.now }
     ensures { result.now ≡ drop (len_of_event bytes.now) bytes.now }

@@ -1,3 +1,5 @@
+//! Replies as lines.
+
 ghost use Rattle.std.specs.Prelude.{◌≡◌, ◌++◌, IfOk, OnOk};
 ghost use Rattle.std.specs.List.{flat_map};
 ghost use Rattle.cb_events.specs.Told.{no_config, rest_line, told_line, told_text};
@@ -7,7 +9,7 @@ use cb_text::word::{push_counted, push_number, push_version, push_word};
 use cb_types::{NoMemory, Reply};
 use std::alloc::Global;
 
-/// Adds the words of a reply at the end, each behind a space.
+/// Adds the words of a reply at the end, each after a space.
 fn push_told(text: &mut Vec<u8>, reply: &Reply) -> Result<(), NoMemory>
     ensures { OnOk result (text.new.items ≡ text.old.items ++ told_text reply.now) }
 {

@@ -21,7 +21,7 @@ abbrev pub gathered_reply : Gathered → Reply
 gathered_reply (gathered.Order o) = answer.Batch (record { n = o.set })
 gathered_reply (gathered.Answer r) = r
 
--- what the seat keeps behind it: a new order replaces the one before
+-- what the seat keeps after it: a new order replaces the one before
 abbrev pub gathered_order : Option Kept → Gathered → Option Kept
 gathered_order before (gathered.Order o) = Some (Encode o)
 gathered_order before (gathered.Answer r) = before

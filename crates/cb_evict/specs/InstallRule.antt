@@ -45,7 +45,7 @@ pub record HasInstalled (far new : FarState) (r : Reply) (o : EncodeOrder) : Typ
   pub bytes : HoldBytes (o.rows ++ parities)
   pub state : new ≡ with_made far batch parities
 
--- an install of an order: what the seat keeps behind it is the order still, where it is refused
+-- an install of an order: what the seat keeps after it is the order still, where it is refused
 abbrev pub Installs : FarState → FarState → Reply → EncodeOrder → Option Kept → Type 0
 Installs far new r o keeps = (HasNoBatch far new r × (keeps ≡ Some (Encode o)))
     ⊎ ((IsOfAnother far new r o × (keeps ≡ Some (Encode o)))
@@ -64,7 +64,7 @@ abbrev pub order_done : Option (Bor EncodeDoneState) → Option Kept
 order_done None = None
 order_done (Some done) = Some (Encode done.now.order)
 
--- what a seat keeps of its order behind an install: nothing where it is done
+-- what a seat keeps of its order after an install: nothing where it is done
 abbrev pub kept_behind : Reply → Option Kept → Option Kept
 kept_behind answer.Done order = None
 kept_behind r order = order

@@ -22,7 +22,7 @@ use Rattle.cb_evict.specs.Looking.{IsIn}
 abbrev pub AreLooseNow : FarState → List ℕ → List Access → Type 0
 AreLooseNow far loose es = AreLoose es far.spans (candidates far) loose
 
--- where those were loose before, these are so behind the events
+-- where those were loose before, these are so after the events
 abbrev pub AreLooseStill : FarState → List ℕ → List ℕ → List Access → Type 0
 AreLooseStill far was loose es = (before : List Access) → AreLooseNow far was before
     → AreLooseNow far loose (before ++ es)

@@ -1,3 +1,5 @@
+//! A batch that is leaving is given up.
+
 ghost use Rattle.std.specs.Prelude.{◌≡◌, ◌<◌, IfOk, IsOk, None, Some, length};
 ghost use Rattle.std.specs.FinMap as map;
 ghost use Rattle.cb_member.specs.declared.names.Shard.{Shard};

@@ -1,3 +1,5 @@
+//! A batch begins to leave: k spans are claimed, and its parities made.
+
 ghost use Rattle.std.specs.Prelude.{◌≡◌, ◌^◌, ◌+◌, ◌-◌, ◌*◌, ◌<◌, ◌≤◌, true, false, All, IfOk, OnErr, OnOk, List, None, Some, length, replicate};
 ghost use Rattle.std.specs.Option.{option_map};
 ghost use Rattle.cb_types.specs.Config.{IsAccepted};

@@ -1,3 +1,5 @@
+//! Which spans may leave.
+
 ghost use Rattle.std.specs.Prelude.{◌≡◌, ◌^◌, ◌<◌, ◌++◌, true, IfOk, OnOk, filter, length, slice_set};
 ghost use Rattle.std.specs.List.{range_with_len};
 ghost use Rattle.cb_evict.specs.Candidates.{AreFlags, same_temp, may_leave_by, candidates};

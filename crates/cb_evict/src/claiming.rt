@@ -1,3 +1,5 @@
+//! The objects of a span are claimed one by one, or given back.
+
 ghost use Rattle.std.specs.Prelude.{◌≡◌, ◌+◌, ◌*◌, ◌<◌, ◌≤◌, ◌≢◌, ℕ, [], All, IfSome, Some, drop, length, take, vec_len, vec_capacity};
 ghost use Rattle.std.specs.List.{AllPairs};
 ghost use Rattle.cb_span.specs.Contents.{Contents, IsSpan, handle_at};

@@ -1,3 +1,5 @@
+//! Spans that left are taken out of local memory.
+
 ghost use Rattle.std.specs.Prelude.{◌≡◌, ◌≢◌, ℕ, ◌+◌, ◌^◌, ◌<◌, ◌≤◌, All, None, Some, length, slice_set};
 ghost use Rattle.std.specs.List.{AllPairs};
 ghost use Rattle.cb_frame.specs.FreeFrames.{IsFreeFrame, with_run_given};

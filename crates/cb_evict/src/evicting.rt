@@ -1,3 +1,5 @@
+//! An eviction in one turn.
+
 ghost use Rattle.std.specs.Prelude.{◌≡◌, ◌^◌, ◌+◌, ◌*◌, ◌<◌, ◌≤◌, All, IfOk, OnErr, OnOk, List, Some, length};
 ghost use Rattle.cb_types.specs.Config.{IsAccepted};
 ghost use Rattle.cb_gf256.specs.Rows.{HaveLength};

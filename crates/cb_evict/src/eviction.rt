@@ -1,3 +1,5 @@
+//! What came of an eviction, and its reply.
+
 ghost use Rattle.std.specs.Prelude.{◌≡◌};
 ghost use Rattle.cb_evict.specs.Eviction.{reply_of};
 

@@ -1,3 +1,5 @@
+//! The k spans that leave next.
+
 ghost use Rattle.std.specs.Prelude.{[], IfOk, OnErr};
 ghost use Rattle.cb_types.specs.Config.{IsAccepted};
 ghost use Rattle.cb_world.specs.Desks.{IsReadyDesk};
@@ -34,8 +36,8 @@ pub(crate) enum Found {
 /// Finds the spans that can leave now: of the spans that may leave, those none of whose objects is
 /// pinned or claimed, the cold ones before the hot ones and then by frame number.
 ///
-/// Each object of each span that may leave is looked at once, and the nodes are counted behind
-/// that. Where there is no memory, nothing was looked at.
+/// Each object of each span that may leave is looked at once, and the nodes are counted after that.
+/// Where there is no memory, nothing was looked at.
 pub(crate) fn find_spans<D: Desk>(desk: &mut D, far: &Far) -> Result<Found, NoMemory>
     requires config { IsAccepted (D.settings desk.old) }
     requires configured { IsConfigured (D.settings desk.old) far.now }

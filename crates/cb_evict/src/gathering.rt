@@ -1,3 +1,5 @@
+//! A batch begins to leave, and its rows are handed out for coding.
+
 ghost use Rattle.std.specs.Prelude.{◌≡◌, ◌^◌, ◌<◌, false, IfOk, None, OnErr};
 ghost use Rattle.cb_types.specs.Config.{IsAccepted};
 ghost use Rattle.cb_world.specs.Desks.{IsReadyDesk, Operates};

@@ -1,3 +1,5 @@
+//! Parities that were made outside are given to the batch that waits for them.
+
 ghost use Rattle.std.specs.Prelude.{◌≡◌, ◌*◌, None, Some, length};
 ghost use Rattle.cb_gf256.specs.Rows.{HaveLength};
 ghost use Rattle.cb_types.specs.declared.order.Kept.TheVariants.{Encode};

@@ -1,3 +1,5 @@
+//! How many spans have each length.
+
 ghost use Rattle.std.specs.Prelude.{◌≡◌, ◌<◌, ◌^◌, All, Some, length};
 ghost use Rattle.cb_span.specs.Contents.{Contents};
 ghost use Rattle.cb_world.specs.FarState.{pages_at, span_in};

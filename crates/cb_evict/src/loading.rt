@@ -1,3 +1,5 @@
+//! The words of spans are read into rows.
+
 ghost use Rattle.std.specs.Prelude.{◌≡◌, ◌+◌, ◌*◌, ◌^◌, ◌<◌, ◌≤◌, All, length};
 ghost use Rattle.cb_gf256.specs.Rows.{HaveLength};
 ghost use Rattle.cb_types.specs.Config.{IsAccepted};

@@ -1,3 +1,5 @@
+//! Whether all objects of a span can be claimed, by one look at each.
+
 ghost use Rattle.std.specs.Prelude.{◌≡◌, ◌+◌, ◌<◌, ◌≤◌, ◌≢◌, ℕ, [], All, IfSome, Some, length};
 ghost use Rattle.std.specs.List.{AllPairs};
 ghost use Rattle.std.specs.Prelude.{vec_len, vec_capacity};

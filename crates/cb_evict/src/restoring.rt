@@ -1,3 +1,5 @@
+//! Claimed objects are settled as they were.
+
 ghost use Rattle.std.specs.Prelude.{◌<◌, All};
 ghost use Rattle.cb_world.specs.declared.shown.Shown.{Shown};
 ghost use Rattle.cb_world.specs.FarState.{FarState};

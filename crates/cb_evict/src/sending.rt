@@ -1,3 +1,5 @@
+//! Claimed objects are settled as away.
+
 ghost use Rattle.std.specs.Prelude.{◌<◌, All};
 ghost use Rattle.cb_world.specs.declared.shown.Shown.{Shown};
 ghost use Rattle.cb_evict.specs.Claims.{AreApart};

@@ -1,3 +1,5 @@
+//! One row of a leaving batch is put at its node.
+
 ghost use Rattle.std.specs.Prelude.{◌≡◌, ℕ, ◌+◌, ◌-◌, ◌*◌, ◌^◌, ◌<◌, ◌≤◌, true, false, All, IfOk, OnErr, OnOk, List, None, Some, length, slice_get};
 ghost use Rattle.cb_gf256.specs.InRange.{IsInRange};
 ghost use Rattle.cb_gf256.specs.Rows.{row_at};

@@ -1,3 +1,5 @@
+//! The rows of a set are put at their nodes.
+
 ghost use Rattle.std.specs.Prelude.{◌≡◌, ℕ, ◌+◌, ◌-◌, ◌^◌, ◌<◌, ◌≤◌, ◌++◌, All, IfOk, List, OnErr, OnOk, Some, length, map};
 ghost use Rattle.cb_gf256.specs.CodeWord.{IsCodeWord};
 ghost use Rattle.cb_gf256.specs.InRange.{IsInRange};

@@ -1,3 +1,5 @@
+//! The spans of a batch are claimed.
+
 ghost use Rattle.std.specs.Prelude.{◌≡◌, ◌+◌, ◌*◌, ◌≤◌, ◌≢◌, [], All, IfOk, OnErr, vec_capacity};
 ghost use Rattle.std.specs.List.{Contains, AllPairs};
 ghost use Rattle.cb_gf256.specs.InRange.{IsInRange};
@@ -43,9 +45,9 @@ pub(crate) enum Taken {
 /// of whose objects is pinned or claimed, the cold ones before the hot ones and then by frame
 /// number. The length is the greatest of which so many can. The nodes have room for a set of them.
 ///
-/// Each object of each span that may leave is looked at once, and the nodes are counted behind
-/// that; then spans of a length are claimed, and where fewer than k can be, all are given back, and
-/// the next length is tried. Where there is no memory, nothing is claimed.
+/// Each object of each span that may leave is looked at once, and the nodes are counted after that;
+/// then spans of a length are claimed, and where fewer than k can be, all are given back, and the
+/// next length is tried. Where there is no memory, nothing is claimed.
 pub(crate) fn take_spans<D: Desk>(desk: &mut D, far: &Far) -> Result<Taken, NoMemory>
     requires config { IsAccepted (D.settings desk.old) }
     requires configured { IsConfigured (D.settings desk.old) far.now }

@@ -1,3 +1,5 @@
+//! Which positions of a leaving batch still wait for their row.
+
 ghost use Rattle.std.specs.Prelude.{◌≡◌, ◌<◌, ◌≤◌, IfSome, length};
 ghost use Rattle.cb_evict.specs.Waiting.{PutAtMembers, is_waiting, least_waiting, waiting};
 

@@ -47,7 +47,7 @@ set_plan ks i x = AskWrite (object_at ks (i / 128)) (8 * (i % 128)) (little_byte
 abbrev pub is_full : List KeptObject → ℕ → Bool
 is_full ks len = len == 128 * length ks
 
--- the bytes of an object that has this number and zeros behind it
+-- the bytes of an object that has this number and zeros after it
 abbrev pub bytes_with : ℕ → List ℕ
 bytes_with x = little_bytes 8 x ++ replicate 1016 0
 
@@ -55,7 +55,7 @@ bytes_with x = little_bytes 8 x ++ replicate 1016 0
 abbrev pub make_plan : ℕ → List Ask
 make_plan x = AskMake (bytes_with x) ∷ []
 
--- a write behind the last number, or a make where all objects are full
+-- a write after the last number, or a make where all objects are full
 abbrev pub push_plan : List KeptObject → ℕ → ℕ → List Ask
 push_plan ks len x =
     if is_full ks len then make_plan x else set_plan ks len x
@@ -77,7 +77,7 @@ pub record WritesNumber (ks : List KeptObject) (i x : ℕ) (later : List KeptObj
   pub wrote : Rewrites v.written (object_at ks (i / 128)) (with_next (object_at ks (i / 128)))
       (8 * (i % 128)) (little_bytes 8 x) w.written
 
--- a number was put behind so many: an object was made where all were full, else one was written
+-- a number was put after so many: an object was made where all were full, else one was written
 abbrev pub PutsNumber : Bool → List KeptObject → ℕ → ℕ → List KeptObject → View → View → Type 0
 PutsNumber true ks len x later v w = Makes v.written ks later (bytes_with x) w.written
 PutsNumber false ks len x later v w = WritesNumber ks len x later v w
@@ -99,7 +99,7 @@ pub record IsCalmArray (v : View) (a : FarArray) : Type 0 where
   pub sole : AreSole v a.kept
   pub loose : AreLoose v a.kept
 
--- ---- what each call comes to: v and a are the record and the array before, w and b behind it
+-- ---- what each call comes to: v and a are the record and the array before, w and b after it
 
 -- What each keeps to, whatever it is answered: the array stays one of the pass; the calls made are
 -- those of the plan, and none where an answer is given for good; and nothing is told of other

@@ -35,7 +35,7 @@ value_of es b key = value_in (pairs_in es b) (place_of key (pairs_in es b))
 
 -- ---- what becomes of the pairs
 
--- a pair is put in this place, or behind the others
+-- a pair is put in this place, or after the others
 abbrev pub put_at : List Pair → Pair → Option ℕ → List Pair
 put_at pairs p None = pairs ++ p ∷ []
 put_at pairs p (Some place) = slice_set pairs place p
@@ -67,7 +67,7 @@ pub record WritesPair (es : List Entry) (ks : List KeptObject) (place : ℕ) (p 
   pub wrote : Rewrites es (object_at ks (place / 64)) (with_next (object_at ks (place / 64)))
       (16 * (place % 64)) (pair_bytes p) new
 
--- a pair was put behind so many: an object was made where all were full, else one was written
+-- a pair was put after so many: an object was made where all were full, else one was written
 abbrev pub AddsPair : Bool → List Entry → List KeptObject → ℕ → Pair → List KeptObject → List Entry
     → Type 0
 AddsPair true es ks count p later new = Makes es ks later (object_bytes p) new

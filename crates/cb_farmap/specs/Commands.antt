@@ -118,12 +118,12 @@ calls_of v a m (Look key) = look_plan v.written (bucket_in m.buckets key) key
 calls_of v a m (Drop key) = drop_plan v.written (bucket_in m.buckets key) key
 
 -- A command that finds this list and map, the record v of the pass, and the array a and the map m
--- of it; w, b and o are behind it.
+-- of it; w, b and o are after it.
 pub record CommandGoes (c : Config) (first : ℕ) (s : Plain) (ask : FarCommand) (said : FarAnswer)
     (v : View) (a : FarArray) (m : FarMap) (w : View) (b : FarArray) (o : FarMap) : Type 0 where
   -- its calls of the runtime, and no others
   pub calls : Goes c first (calls_of v a m ask) (refusal_in said) v w
-  -- behind them the array and the map are the list and the map behind the command
+  -- after them the array and the map are the list and the map after the command
   pub both : AreBothNow (after_said s ask said) w b o
   -- it adds one entry at the most, and turns that make an object or are on one of the record
   pub entries : List Entry
@@ -149,8 +149,8 @@ CommandsGo c first s v a m (ask ∷ asks) (said ∷ saids) w b o =
     × CommandsGo c first (after_said s ask said) u d e asks saids w b o
 CommandsGo c first s v a m asks saids w b o = ⊥
 
--- Commands went so from an empty array and an empty map of 64 buckets. In the record behind them
--- the array and the map that they left are the list and the map behind all commands.
+-- Commands went so from an empty array and an empty map of 64 buckets. In the record after them the
+-- array and the map that they left are the list and the map after all commands.
 pub record HaveGone (c : Config) (first : ℕ) (asks : List FarCommand) (saids : List FarAnswer)
     (v w : View) : Type 0 where
   pub array : FarArray

@@ -1,4 +1,4 @@
--- What each call on a map comes to: v and a are the record and the map before, w and b behind it.
+-- What each call on a map comes to: v and a are the record and the map before, w and b after it.
 use Rattle.std.specs.Prelude.{◌≡◌, ℕ, ◌+◌, ◌-◌, if◌then◌else◌, List, [], ◌∷◌, Option, is_some}
 use Rattle.std.specs.FinMap as finite
 use Rattle.cb_types.specs.declared.config.Config.{Config}

@@ -7,6 +7,6 @@ use Rattle.cb_farmap.specs.Pairs.{Pair}
 abbrev pub pair_bytes : Pair → List ℕ
 pair_bytes p = little_bytes 8 p.0 ++ little_bytes 8 p.1
 
--- a pair, and zeros behind it
+-- a pair, and zeros after it
 abbrev pub object_bytes : Pair → List ℕ
 object_bytes p = pair_bytes p ++ replicate 1008 0

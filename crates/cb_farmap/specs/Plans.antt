@@ -34,12 +34,12 @@ write_at ks place p = AskWrite (object_at ks (place / 64)) (16 * (place % 64)) (
 abbrev pub is_filled : List KeptObject → ℕ → Bool
 is_filled ks count = count == 64 * length ks
 
--- a write behind the last pair, or a make where all objects are full
+-- a write after the last pair, or a make where all objects are full
 abbrev pub add_ask : List KeptObject → ℕ → Pair → Ask
 add_ask ks count p =
     if is_filled ks count then AskMake (object_bytes p) else write_at ks count p
 
--- what a put asks behind its reads: a write in the place of the key, or one pair more
+-- what a put asks after its reads: a write in the place of the key, or one pair more
 abbrev pub put_ask : Bucket → Pair → Option ℕ → Ask
 put_ask b p None = add_ask b.kept b.count p
 put_ask b p (Some place) = write_at b.kept place p
@@ -61,7 +61,7 @@ move_asks es ks place last =
     if place == last then []
     else last_asks ks place last ++ write_at ks place (pair_of (all_pairs es ks) last) ∷ []
 
--- what a drop asks behind its reads
+-- what a drop asks after its reads
 abbrev pub drop_asks : List Entry → Bucket → Option ℕ → List Ask
 drop_asks es b None = []
 drop_asks es b (Some place) = move_asks es b.kept place (b.count - 1)

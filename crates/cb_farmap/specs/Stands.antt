@@ -42,7 +42,7 @@ abbrev pub AreReady : View → FarArray → FarMap → Type 0
 AreReady v a m = (n : ℕ) × (s : Plain) × Stands n s v a m × (n < 1000000000)
 
 -- The command goes as it should, whichever list and map they were, and leaves the array and the map
--- as the list and the map behind it.
+-- as the list and the map after it.
 abbrev pub GoesSo : Config → FarCommand → View → FarArray → FarMap → FarAnswer → View → FarArray
     → FarMap → Type 0
 GoesSo c ask v a m said w b o = (n : ℕ) (s : Plain) → Stands n s v a m → n < 1000000000

@@ -18,7 +18,7 @@ stop_of (cannot.Refused answer.Freed) = Some stop.Freed
 stop_of (cannot.Foreign handle kept found) = Some (stop.Foreign handle kept found)
 stop_of other = None
 
--- what a value stops with behind what was told
+-- what a value stops with after what was told
 abbrev pub stop_behind : Option Stop → Option Cannot → Option Stop
 stop_behind before None = before
 stop_behind before (Some c) = option_or before (stop_of c)

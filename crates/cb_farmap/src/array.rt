@@ -97,7 +97,7 @@ impl FarArray {
     /// Puts a number in the place of the one with this index, by one write into its object, which
     /// is not read. Refused by any reply of that write but a version, Foreign where that is another
     /// one than the one above the kept version; both leave the numbers as they were, and so does
-    /// want of memory.
+    /// running out of memory.
     pub fn set<R: Wait>(
         &mut self,
         rt: &R,
@@ -131,10 +131,10 @@ impl FarArray {
         }
     }
 
-    /// Puts a number behind the last one: by one write into its object, which is not read, or,
-    /// where all objects are full, by a make of one with this number. Takes the memory for the
-    /// object's place before the make. Refused by any other reply than the success of that call,
-    /// Foreign as in `set`; both leave the numbers as they were, and so does want of memory.
+    /// Puts a number after the last one: by one write into its object, which is not read, or, where
+    /// all objects are full, by a make of one with this number. Takes the memory for the object's
+    /// place before the make. Refused by any other reply than the success of that call, Foreign as
+    /// in `set`; both leave the numbers as they were, and so does running out of memory.
     pub fn push<R: Wait>(
         &mut self,
         rt: &R,
@@ -289,7 +289,7 @@ fn write_number<R: Wait>(
     write_kept(rt, alloc, shared, pass, kept, o, 8 * (i % 128), &bytes)
 }
 
-/// Makes an object of this number and zeros behind the others.
+/// Makes an object of this number and zeros after the others.
 #[inline(never)]
 fn make_number<R: Wait>(
     rt: &R,
@@ -313,7 +313,7 @@ fn make_number<R: Wait>(
     make_kept(rt, alloc, shared, pass, kept, &bytes)
 }
 
-/// Puts a number behind so many in objects of 128 each.
+/// Puts a number after so many in objects of 128 each.
 fn put_number<R: Wait>(
     rt: &R,
     alloc: Global,

@@ -1,4 +1,4 @@
-//! A bucket of a far map: pairs in the objects that it keeps, one behind the other.
+//! A bucket of a far map: pairs in the objects that it keeps, one after the other.
 ghost use Rattle.std.specs.Prelude.{◌≡◌, ◌*◌, ◌+◌, ◌-◌, ◌/◌, ◌<◌, ◌≤◌, ◌∷◌, [], ◌==◌, length, IfOk, OnErr, OnOk, Some, None};
 ghost use Rattle.std.specs.List.{AllByRecursion};
 ghost use Rattle.cb_shared.specs.Passes.{IsPassOf, record_of};
@@ -65,7 +65,7 @@ impl Bucket {
         }
     }
 
-    /// Puts a pair in the place of its key, or behind the others, and gives the key's old value.
+    /// Puts a pair in the place of its key, or after the others, and gives the key's old value.
     pub(crate) fn put<R: Wait>(
         &mut self,
         rt: &R,
@@ -128,7 +128,7 @@ impl Bucket {
         Ok(Some(old))
     }
 
-    /// Puts a pair with a new key behind the others.
+    /// Puts a pair with a new key after the others.
     fn put_new<R: Wait>(
         &mut self,
         rt: &R,
@@ -249,8 +249,7 @@ fn write_pair<R: Wait>(
     write_kept(rt, alloc, shared, pass, kept, o, at, &bytes)
 }
 
-/// Puts a pair behind so many: writes it into the next place, or makes an object where all are
-/// full.
+/// Puts a pair after so many: writes it into the next place, or makes an object where all are full.
 fn add_pair<R: Wait>(
     rt: &R,
     alloc: Global,

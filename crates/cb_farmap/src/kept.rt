@@ -1,3 +1,5 @@
+//! An object that an array or a map keeps, at the version that it wrote last.
+
 ghost use Rattle.std.specs.Prelude.{◌≡◌, ◌<◌, [], ◌∷◌, ◌++◌, ◌-◌, length, slice_set, take, OnErr, OnOk};
 ghost use Rattle.cb_farmap.specs.Objects.{blank, object_at};
 ghost use Rattle.cb_farmap.specs.Stops.{cannot_of, stop_of};
@@ -151,8 +153,8 @@ impl Objects {
         self.items[i] = object;
     }
 
-    /// Adds a blank at the end, for an object that is to be made. Want of memory leaves the list as
-    /// it was.
+    /// Adds a blank at the end, for an object that is to be made. Running out of memory leaves the
+    /// list as it was.
     pub(crate) fn push_blank(&mut self) -> Result<(), NoMemory>
         ensures ok { OnOk result (self.new ≡ self.old ++ blank ∷ []) }
         ensures err { OnErr result (self.new ≡ self.old) }

@@ -20,7 +20,7 @@ use std::alloc::Global;
 use std::sync::Wait;
 
 /// A map of numbers: each key belongs to one of a fixed number of buckets, the pairs of a bucket
-/// stand one behind the other in objects of 1,024 bytes, 64 pairs to an object, each the key and
+/// stand one after the other in objects of 1,024 bytes, 64 pairs to an object, each the key and
 /// then its value, 8 bytes each with the lowest first. The map keeps of each object its handle and
 /// the version at which it wrote it last. All calls of one map are made on the one pass that made
 /// its objects, which may be split and joined meanwhile. An object that gets empty is kept, and
@@ -90,12 +90,12 @@ impl FarMap {
     }
 
     /// Puts a value at a key and gives its old value, None where it had none: by the reads of
-    /// `look`, and then one write of the pair, in the place of the key or behind the bucket's last
+    /// `look`, and then one write of the pair, in the place of the key or after the bucket's last
     /// pair, or, where the key is new and all objects of the bucket are full, a make of one with
     /// the pair. Takes the memory for the object's place before the make. Refused by any other
     /// reply than the success of such a call, Foreign by a read of another version than the kept
     /// one, or by a write that is answered another one than the one above it; both leave the map as
-    /// it was, and so does want of memory.
+    /// it was, and so does running out of memory.
     pub fn put<R: Wait>(
         &mut self,
         rt: &R,
@@ -128,7 +128,7 @@ impl FarMap {
     /// Drops a key and gives its value, None where it had none: by the reads of `look`, and then,
     /// where its pair is not the last of the bucket, one write that puts the last pair into its
     /// place, behind a read of the last pair's object where that is another one. Refused and
-    /// Foreign as in `put`; both leave the map as it was, and so does want of memory.
+    /// Foreign as in `put`; both leave the map as it was, and so does running out of memory.
     pub fn drop_key<R: Wait>(
         &mut self,
         rt: &R,

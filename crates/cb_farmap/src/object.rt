@@ -63,7 +63,7 @@ fn bytes_read(kept: KeptObject, read: Result<Reply, NoMemory>) -> Result<Bytes, 
 
 /// Writes bytes into the object with this index at its kept version, and keeps its next one.
 /// Refused by any reply but a version; Foreign where that is another one; both keep nothing, and so
-/// does want of memory.
+/// does running out of memory.
 #[inline(always)]
 pub(crate) fn write_kept<R: Wait>(
     rt: &R,
@@ -153,7 +153,7 @@ fn unwritten(object: KeptObject, wrote: Result<Reply, NoMemory>) -> Cannot
     }
 }
 
-/// Makes an object of these bytes, and keeps it behind the others. Takes the memory for its place
+/// Makes an object of these bytes, and keeps it after the others. Takes the memory for its place
 /// before the make; without Made the objects are as they were.
 pub(crate) fn make_kept<R: Wait>(
     rt: &R,

@@ -1,3 +1,5 @@
+//! The words of a claimed object are copied to another place.
+
 ghost use Rattle.std.specs.Prelude.{◌≡◌, ℕ, ◌+◌, ◌*◌, ◌<◌, ◌≤◌, List, ◌∷◌, [], ◌++◌, length};
 ghost use Rattle.cb_ptr.specs.Word.{len_of, place_of};
 ghost use Rattle.cb_types.specs.Config.{IsAccepted};

@@ -1,3 +1,5 @@
+//! An object moves to a span of its temperature.
+
 ghost use Rattle.std.specs.Prelude.{◌≡◌, ℕ, ◌^◌, ◌<◌, ◌≤◌, List, [], ◌∷◌, length, IfOk, OnErr};
 ghost use Rattle.cb_ptr.specs.Word.{hot_of, place_of};
 ghost use Rattle.cb_types.specs.Config.{IsAccepted};

@@ -1,3 +1,5 @@
+//! Where a claimed object goes.
+
 ghost use Rattle.std.specs.Prelude.{◌≡◌, ◌≢◌, ◌^◌, ◌≤◌, true, false, length, Some, IfOk, OnErr};
 ghost use Rattle.cb_ptr.specs.Word.{hot_of, place_of};
 ghost use Rattle.cb_world.specs.LocalSound.{AreFrames};

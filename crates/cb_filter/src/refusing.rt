@@ -1,3 +1,5 @@
+//! Why an object is not filtered.
+
 ghost use Rattle.std.specs.Prelude.{◌≢◌, ◌<◌, List};
 ghost use Rattle.cb_ptr.specs.declared.word.State.TheVariants as state;
 ghost use Rattle.cb_ptr.specs.Word.{state_of};

@@ -1,3 +1,5 @@
+//! Bitmaps of 64-bit words, and their least set bit.
+
 ghost use Rattle.std.specs.Prelude.{◌≡◌, ℕ, ◌+◌, ◌*◌, ◌-◌, ◌/◌, ◌%◌, ◌^◌, ◌<◌, ◌≤◌, false, IfOk, length, MatchOption, min, nat_eq, replicate, slice_index, true};
 ghost use Rattle.std.specs.Prelude.{◌⊎◌};
 ghost use Rattle.std.specs.Int.{bit_at};
@@ -97,14 +99,14 @@ pub fn clear(words: &mut [u64], n: usize)
     words[n / WORD_BITS] &= !(1 << (n % WORD_BITS));
 }
 
-/// The word of a number, and 0 behind the last one.
+/// The word of a number, and 0 after the last one.
 fn word_or_zero(words: &[u64], i: usize) -> u64
     ensures { slice_index words.now i ≡ result }
 {
     if i < words.len() { words[i] } else { 0 }
 }
 
-/// A word and the next one, which stands above it; 0 behind the last word.
+/// A word and the next one, which stands above it; 0 after the last word.
 fn two_words(words: &[u64], i: usize) -> u128
     requires { i < length words.now }
     ensures { (j : ℕ) → j < 128 → nat_eq (bit_at result j) 1 ≡ bit_in words.now (64 * i + j) }

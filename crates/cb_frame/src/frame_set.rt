@@ -1,3 +1,5 @@
+//! A set of frames, one bit a frame.
+
 ghost use Rattle.std.specs.Prelude.{◌≡◌, ◌+◌, ◌^◌, ◌<◌, ◌≤◌, IfOk, IfSome, length};
 ghost use Rattle.cb_frame.specs.Runs.{IsRunLength, least_run};
 ghost use Rattle.cb_frame.specs.FrameSet.{all_frames, contains, least, least_from, no_frames, with_inserted, with_removed};

@@ -1,3 +1,5 @@
+//! Which frames are free.
+
 ghost use Rattle.std.specs.Prelude.{◌≡◌, ℕ, ◌+◌, ◌^◌, ◌<◌, ◌≤◌, IfNone, IfOk, IfSome, false, length, true};
 ghost use Rattle.cb_frame.specs.FrameSet.{contains};
 ghost use Rattle.cb_frame.specs.Runs.{IsRunLength, least_run, with_run};

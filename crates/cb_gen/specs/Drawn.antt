@@ -20,7 +20,7 @@ pub record Drawn : Type 0 where
   pub request : Request
   pub left : ℕ
 
--- the name of the object that a lane makes behind so many others, as in `l3n0`
+-- the name of the object that a lane makes after so many others, as in `l3n0`
 abbrev pub object_name : (lane before : ℕ) → List ℕ
 object_name lane before = codes "l" ++ decimal lane ++ codes "n" ++ decimal before
 

@@ -2,16 +2,16 @@
 use Rattle.std.specs.Prelude.{ℕ, zero, suc, ◌+◌, ◌*◌, ◌/◌, ◌%◌, ◌^◌, List, map}
 use Rattle.std.specs.List.{range_with_len}
 
--- the state behind this one: the linear congruential generator of Knuth's MMIX
+-- the state after this one: the linear congruential generator of Knuth's MMIX
 abbrev pub next_state : ℕ → ℕ
 next_state x = (x * 6364136223846793005 + 1442695040888963407) % 2 ^ 64
 
--- the state behind so many draws
+-- the state after so many draws
 abbrev pub state_after : ℕ → ℕ → ℕ
 state_after x zero = x
 state_after x (suc n) = next_state (state_after x n)
 
--- the number below m that is drawn behind n others: the upper 31 bits of its state, modulo m
+-- the number below m that is drawn after n others: the upper 31 bits of its state, modulo m
 abbrev pub drawn : (x n m : ℕ) → ℕ
 drawn x n m = next_state (state_after x n) / 2 ^ 33 % m
 

@@ -1,3 +1,5 @@
+//! The generator of numbers: a linear congruence of 64 bits.
+
 ghost use Rattle.std.specs.Prelude.{◌≡◌, ◌<◌, ◌≤◌, OnOk, IfOk};
 ghost use Rattle.cb_gen.specs.Draws.{state_after, next_state, drawn, drawn_bytes};
 

@@ -1,3 +1,5 @@
+//! The lengths of the objects that each lane made so far.
+
 ghost use Rattle.std.specs.Prelude.{◌≡◌, ◌<◌, ◌∷◌, ◌++◌, ◌==◌, ℕ, [], length, get_or, if◌then◌else◌, option_to_list, All, OnOk, IfOk};
 ghost use Rattle.cb_gen.specs.Drawn.{length_made};
 

@@ -1,3 +1,5 @@
+//! A script that is drawn from a seed.
+
 ghost use Rattle.std.specs.Prelude.{◌≡◌, ◌<◌, ◌≤◌, length, OnOk, IfOk};
 ghost use Rattle.cb_script.specs.Form.{IsScript};
 ghost use Rattle.cb_script.specs.Roomy.{IsAtEase};

@@ -1,3 +1,5 @@
+//! The request of a drawn line.
+
 ghost use Rattle.std.specs.Prelude.{◌≡◌, ◌<◌, ◌≤◌, ◌^◌, ◌==◌, ◌||◌, nat_lt, length, OnOk, IfOk};
 ghost use Rattle.cb_gen.specs.Drawn.{object_name, drawn_make, drawn_write, drawn_object, drawn_seldom, drawn_action};
 ghost use Rattle.cb_gen.specs.Draws.{drawn, next_state};
@@ -51,7 +53,7 @@ fn is_make(action: u32, lengths: &[u8]) -> bool
     action < 4 || lengths.is_empty()
 }
 
-/// A make of the lane's next object, behind so many.
+/// A make of the lane's next object, after so many.
 fn draw_make(alloc: Global, draws: &mut Draws, lane: u8, before: u32) -> Result<Request, NoMemory>
     ensures request { IfOk result (λ request. request
         ≡ (drawn_make draws.old.state lane before).request) }
@@ -142,7 +144,7 @@ fn draw_object(alloc: Global, draws: &mut Draws, lane: u8, count: u32) -> Result
     object_name(alloc, lane, object)
 }
 
-/// The name of the object that a lane makes behind so many others.
+/// The name of the object that a lane makes after so many others.
 fn object_name(alloc: Global, lane: u8, before: u32) -> Result<Name, NoMemory>
     ensures { IfOk result (λ name. name ≡ object_name lane before) }
 {

@@ -1,3 +1,5 @@
+//! The summary of the answers to a drawn script.
+
 ghost use Rattle.std.specs.Prelude.{◌≡◌, ◌++◌, decimal, length, count_by, IfOk, OnOk};
 ghost use Rattle.cb_text.specs.Line.{text_of};
 ghost use Rattle.cb_script.specs.Roomy.{is_make};
@@ -53,7 +55,7 @@ fn push_asked(told: &mut Vec<u8>, seed: u32, lines: u32, lanes: u32) -> Result<(
     push_count(told, b" lanes ", lanes as usize)
 }
 
-/// Adds the line that tells the requests by verb, behind a line feed.
+/// Adds the line that tells the requests by verb, after a line feed.
 fn push_requests(told: &mut Vec<u8>, answers: &[Answer]) -> Result<(), NoMemory>
     ensures { OnOk result (told.new.items ≡ told.old.items ++ requests_text answers.now) }
 {

@@ -3,7 +3,7 @@ use Rattle.cb_gf256.specs.Rows.{row_at, byte_at}
 use Rattle.cb_gf256.specs.Combination.{combination}
 
 -- w bytes from the place at on, v j, are put into each row at the first m targets; what stood
--- before that place and behind those bytes, and all other rows, stay
+-- before that place and after those bytes, and all other rows, stay
 pub record Placed (w at : ℕ) (targets : List ℕ) (v : ℕ → ℕ → ℕ) (before now : List (List ℕ))
     (m : ℕ) : Type 0 where
   pub count : length now ≡ length before

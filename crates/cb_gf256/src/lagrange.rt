@@ -1,3 +1,5 @@
+//! Lagrange's factors of a row in another one.
+
 ghost use Rattle.std.specs.Prelude.{◌<◌, length, All, slice_index};
 ghost use Rattle.std.specs.Prelude.{◌≡◌};
 ghost use Rattle.std.specs.List.Sorted.{IsStrictlyIncreasing};

@@ -1,3 +1,5 @@
+//! The one error of this crate: there was no memory.
+
 ghost use Rattle.std.specs.Prelude.{Some, codes};
 
 use std::alloc::AllocError;

@@ -1,3 +1,5 @@
+//! Rows of equal length, in a block of their own or of somebody else.
+
 ghost use Rattle.std.specs.Prelude.{◌≡◌, ◌*◌, ◌<◌, length, replicate, IfOk};
 ghost use Rattle.cb_gf256.specs.Block.{cut_rows};
 ghost use Rattle.std.specs.Borrow.{sem};
@@ -98,7 +100,7 @@ fn row_in(block: &[u8], count: u32, len: u32, i: u32) -> &[u8]
 }
 
 impl Rows {
-    /// `count` rows of `len` bytes, all zero. The only error is want of memory.
+    /// `count` rows of `len` bytes, all zero. The only error is out of memory.
     pub fn new(alloc: Global, count: u32, len: u32) -> Result<Rows, NoMemory>
         ensures { IfOk result (λ rows. rows ≡ replicate count (replicate len 0)) }
     {
@@ -106,7 +108,7 @@ impl Rows {
         Ok(Rows { block, count, len })
     }
 
-    /// A copy of these rows. The only error is want of memory.
+    /// A copy of these rows. The only error is out of memory.
     pub fn copy(&self, alloc: Global) -> Result<Rows, NoMemory>
         ensures value { IfOk result (λ rows. rows ≡ self.now) }
         ensures rows { IfOk result (λ _. AreRows self.now) }

@@ -1,3 +1,5 @@
+//! Rows of bytes added, plain or times a factor.
+
 ghost use Rattle.std.specs.Prelude.{◌≡◌, length};
 ghost use Rattle.cb_gf256.specs.Row.{row_sum, scaled_row};
 

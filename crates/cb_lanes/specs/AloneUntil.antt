@@ -24,7 +24,7 @@ abbrev pub lacks : List Line → ℕ → Answer → Bool
 lacks lines lane a = is_own lines lane a && is_lack a.reply
 
 -- Of these answers, those to the lane's own lines are what the lane is answered by itself, up to
--- the first one that tells of a lack. Of that one and of those behind it nothing is said.
+-- the first one that tells of a lack. Of that one and of those after it nothing is said.
 abbrev pub KeepAloneUntil : List Line → ℕ → LaneState → List Answer → Type 0
 KeepAloneUntil lines lane state [] = Unit {0}
 KeepAloneUntil lines lane state (a ∷ after) = lacks lines lane a ≡ false

@@ -8,7 +8,7 @@ use Rattle.cb_lanes.specs.LineGoes.{Goes, LineGoes}
 use Rattle.cb_lanes.specs.Names.{KeptNames, AreKept, request_handle}
 
 -- A line was answered in a state with these names and answers: it leads to another state, with the
--- reply of its answer; the handle of a make is kept, and the answer stands behind those before.
+-- reply of its answer; the handle of a make is kept, and the answer stands after those before.
 pub record AnsweredBy {A : Type 0} (goes : Goes A) (line : Line) (a : A) (names : KeptNames)
     (answers : List Answer) (b : A) (kept : KeptNames) (all : List Answer) : Type 0 where
   pub reply : Reply

@@ -66,13 +66,13 @@ pub record AddsBacked (names : List Named) (answers : List Answer) (v w : View) 
   pub grows : w ≡ record (grown part v) { own = own }
   pub backs : (given : List Answer) → AreNamesOf names given → Backs part (tolds given answers)
 
--- the handle of a name behind these answers of a lane, which had these names given
+-- the handle of a name after these answers of a lane, which had these names given
 abbrev pub handle_behind : List Named → List Answer → Option (List ℕ) → Option ℕ
 handle_behind names before None = None
 handle_behind names before (Some name) =
     first_of (handle_of before name) (handle_among names name)
 
--- The answers behind those before them lead from one state of whatever answers to another, line by
+-- The answers after those before them lead from one state of whatever answers to another, line by
 -- line, each with the handle that its name had then.
 abbrev pub LinesGo : {A : Type 0} → Goes A → List Named → List Answer → A → List Answer → A
     → Type 0
@@ -94,12 +94,12 @@ KnowsKept kept v = (name : List ℕ) (h : ℕ) → kept_number kept name ≡ Som
 abbrev pub IsFront : {A : Type 0} → List A → List A → Type 0
 IsFront {A = A} xs ys = (rest : List A) × (ys ≡ xs ++ rest)
 
--- the lines of a lane, and the end of its pins behind them
+-- the lines of a lane, and the end of its pins after them
 abbrev pub LaneGoes : Config → List Named → View → List Answer → View → Type 0
 LaneGoes c names v answers w = (between : View)
     × LinesGo (goes_in c) names [] v answers between × (w ≡ unpinned_all between)
 
--- one line with these handles kept, and the handles and the answers behind it
+-- one line with these handles kept, and the handles and the answers after it
 pub record AnswersOne (c : Config) (line : Line) (kept later : KeptNames)
     (answers all : List Answer) (v w : View) : Type 0 where
   pub reply : Reply

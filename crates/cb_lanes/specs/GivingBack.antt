@@ -23,7 +23,7 @@ GivesAll seat w new = Leads w (map (unpin_event seat) (reverse (pins_of_seat w.s
 abbrev pub lines_by : ℕ → List ℕ → ℕ
 lines_by lane lanes = count_by (nat_eq lane) lanes
 
--- Behind a line whose lane has so many lines yet to come: where there is none, the lane's pins are
+-- After a line whose lane has so many lines yet to come: where there is none, the lane's pins are
 -- given back; else all stays.
 abbrev pub Rests : ℕ → ℕ → WorldState → WorldState → Type 0
 Rests zero seat between rested = GivesAll seat between rested

@@ -20,8 +20,8 @@ abbrev pub last_in : List Entry → ℕ → Option Entry
 last_in [] h = None
 last_in (e ∷ es) h = cond (eqb e.handle h) (Some e) (last_in es h)
 
--- the entry comes next behind one of its object: it has the next version, goes on from its words,
--- and keeps its length until it is the freed one, behind which there is none
+-- the entry comes next after one of its object: it has the next version, goes on from its words,
+-- and keeps its length until it is the freed one, after which there is none
 pub record EntryComesNext (x e : Entry) : Type 0 where
   pub there : x.freed ≡ false
   pub next : e.version ≡ x.version + 1
@@ -33,7 +33,7 @@ abbrev pub ComesBehind : Option Entry → Entry → Type 0
 ComesBehind None e = e.version ≡ 1
 ComesBehind (Some x) e = EntryComesNext x e
 
--- each entry of these objects comes behind the one before it
+-- each entry of these objects comes after the one before it
 abbrev pub AreEntriesInOrder : (ℕ → Type 0) → List Entry → Type 0
 AreEntriesInOrder mine [] = Unit {0}
 AreEntriesInOrder mine (e ∷ es) =

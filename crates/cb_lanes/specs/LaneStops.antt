@@ -22,7 +22,7 @@ use Rattle.cb_lanes.specs.Rising.{LaneRises}
 use Rattle.cb_lanes.specs.Scoped.{LaneScoped}
 use Rattle.cb_lanes.specs.Stopping.{LineStops, stops_in}
 
--- nothing more was asked, or by the line behind the answered ones, which found no memory
+-- nothing more was asked, or by the line after the answered ones, which found no memory
 abbrev pub NextStops : Config → List Named → List Line → List Answer → View → View → Type 0
 NextStops c names lines answers v w = (w ≡ v)
     ⊎ ((next : Line) × (later : List Line) × (lines ≡ map asked answers ++ next ∷ later)

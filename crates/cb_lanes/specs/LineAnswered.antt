@@ -11,8 +11,8 @@ use Rattle.cb_lanes.specs.LineStep.{LineStep}
 use Rattle.cb_lanes.specs.Names.{KeptNames, AreKept, request_handle}
 
 -- A line was answered in a world with these names and answers, where these lanes have the lines
--- behind it: the line leads to a sound world, with the reply of its answer; its lane rests from
--- there; the handle of a make is kept, and the answer stands behind those before.
+-- after it: the line leads to a sound world, with the reply of its answer; its lane rests from
+-- there; the handle of a make is kept, and the answer stands after those before.
 pub record LineAnswered (side : Side) (line : Line) (later : List ℕ) (w : WorldState)
     (names : KeptNames) (answers : List Answer) (rested : WorldState) (kept : KeptNames)
     (all : List Answer) : Type 0 where

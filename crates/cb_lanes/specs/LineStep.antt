@@ -100,8 +100,8 @@ OtherStep side seat handle request own w r new =
 abbrev pub LineStep : Side → ℕ → Option ℕ → Request → WorldState → Reply → WorldState → Type 0
 LineStep side seat handle request w r new = LineGoes (goes_at side seat) handle request w r new
 
--- The answers behind those before them lead from one world to another, line by line. Behind its
--- last line a lane's pins are given back, before the next line.
+-- The answers after those before them lead from one world to another, line by line. After its last
+-- line a lane's pins are given back, before the next line.
 abbrev pub LinesLead : Side → List Answer → WorldState → List Answer → WorldState → Type 0
 LinesLead side before w [] new = new ≡ w
 LinesLead side before w (a ∷ after) new = (between : WorldState) × (rested : WorldState)

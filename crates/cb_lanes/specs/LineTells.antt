@@ -30,8 +30,8 @@ pub record LineTells (seat : ℕ) (handle : Option ℕ) (request : Request) (w :
       → BringsObject w seat request → w.far.counts.turns < 2 ^ 40 → IsLost w h id losses
       → r ≡ answer.Unavailable id losses
 
--- What a line leaves, by the world behind it and that in which its lane rests then: the world is
--- sound; each object that has a pin before and behind stays at its place, with its length, its
+-- What a line leaves, by the world after it and that in which its lane rests then: the world is
+-- sound; each object that has a pin before and after stays at its place, with its length, its
 -- version and its bytes; and it is answered Unavailable exactly where it is to be.
 pub record LineLeaves (seat : ℕ) (handle : Option ℕ) (request : Request) (w : WorldState)
     (r : Reply) (between rested : WorldState) : Type 0 where

@@ -10,7 +10,7 @@ use Rattle.cb_lanes.specs.GivingBack.{Rests, lines_by}
 use Rattle.cb_lanes.specs.LineStep.{LineStep, LinesLead}
 use Rattle.cb_lanes.specs.LineTells.{LineLeaves}
 
--- as LinesLead; and the world behind each line is sound, what is pinned stays, and a line is
+-- as LinesLead; and the world after each line is sound, what is pinned stays, and a line is
 -- answered Unavailable exactly where it is to be
 abbrev pub LinesLeadSoundly : Side → List Answer → WorldState → List Answer → WorldState → Type 0
 LinesLeadSoundly side before w [] new = new ≡ w

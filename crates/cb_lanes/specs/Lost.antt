@@ -17,7 +17,7 @@ told_loss request reply = None
 abbrev pub losses_of : List Answer → List Loss
 losses_of answers = filter_map (λ a. told_loss a.request a.reply) answers
 
--- each loss has an earlier epoch than all behind it
+-- each loss has an earlier epoch than all after it
 abbrev pub AreInOrder : List Loss → Type 0
 AreInOrder [] = Unit {0}
 AreInOrder (loss ∷ later) =

@@ -17,7 +17,7 @@ abbrev pub AreOneToOne : List Answer → Type 0
 AreOneToOne answers = (a b : List ℕ) (g h : ℕ) → IsMadeAs answers a g → IsMadeAs answers b h
     → (a ≡ b) ↔ (g ≡ h)
 
--- The answers behind those given are as the scopes of their lanes say, once no name has two handles
+-- The answers after those given are as the scopes of their lanes say, once no name has two handles
 -- and no handle two names.
 abbrev pub AreScoped : List Answer → List Answer → Type 0
 AreScoped given answers = AreOneToOne (given ++ answers) → KeepScopes given answers

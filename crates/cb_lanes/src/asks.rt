@@ -153,7 +153,7 @@ fn try_pin<R: Wait>(
 }
 
 /// The bytes of an object on which the lane has a pin, word by word; NotPinned where it has none.
-/// Want of memory leaves all as it was.
+/// Running out of memory leaves all as it was.
 pub(crate) fn peek(
     alloc: Global,
     shared: &Shared,

@@ -83,7 +83,7 @@ impl Names {
         self.items.as_slice()
     }
 
-    /// Adds a name at the end. Want of memory leaves the list as it was.
+    /// Adds a name at the end. Running out of memory leaves the list as it was.
     pub fn push(&mut self, item: Named) -> Result<(), NoMemory>
         ensures ok { OnOk result (self.new ≡ self.old ++ item ∷ []) }
         ensures err { OnErr result (self.new ≡ self.old) }
@@ -94,10 +94,10 @@ impl Names {
 }
 
 /// Answers the lines of one lane in order, in whatever thread it is called. The names are those
-/// that were made before, with their handles. Behind each line the gate is told of it, and behind
-/// the last one all pins are given back. Where there is no memory for a line, the answers before it
-/// and the pass come back, without a pin. They are answers as of a lane that ends with these lines,
-/// and the line that found none added no more than looks and turns to the record. Waits.
+/// that were made before, with their handles. After each line the gate is told of it, and after the
+/// last one all pins are given back. Where there is no memory for a line, the answers before it and
+/// the pass come back, without a pin. They are answers as of a lane that ends with these lines, and
+/// the line that found none added no more than looks and turns to the record. Waits.
 pub fn lane_body<R: Wait, G: Gate>(
     rt: &R,
     alloc: Global,
@@ -156,7 +156,7 @@ pub fn lane_body<R: Wait, G: Gate>(
     }
 }
 
-/// Behind the last line: gives all pins back, and tells what the pass has of its own objects.
+/// After the last line: gives all pins back, and tells what the pass has of its own objects.
 fn leave_at_end(shared: &Shared, pass: &mut Pass, pins: &mut KeptPins)
     requires of { IsPassOf shared.now pass.old }
     requires held { AreHeld pins.old.items (record_of pass.old) }

@@ -1,3 +1,5 @@
+//! What answers the lines of a lane: a seat of a world or a pass of a runtime.
+
 ghost use Rattle.std.specs.Prelude.{ℕ, IfOk, OnErr};
 ghost use Rattle.cb_lanes.specs.LineGoes.{Goes, Calls, Pins, Peeks, Unpins, Leaves};
 ghost use Rattle.cb_lanes.specs.MayAsk.{IsNamedIfMade, MayCall, StayNamed};

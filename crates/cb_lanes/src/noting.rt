@@ -1,3 +1,5 @@
+//! A line's answer is noted, with its loss.
+
 ghost use Rattle.std.specs.Prelude.{◌≡◌, [], ◌∷◌, ◌++◌, IfOk, OnErr};
 ghost use Rattle.std.specs.List.{cons_option};
 ghost use Rattle.cb_script.specs.Form.{IsRequest};
@@ -63,7 +65,7 @@ fn note_answer(
     })
 }
 
-/// Adds the loss of an answered line behind those before it, where it has one: the node of a crash
+/// Adds the loss of an answered line after those before it, where it has one: the node of a crash
 /// that took place, with its epoch. Where there was no memory, the losses are as they were.
 pub fn note_loss(losses: &mut Vec<Loss>, request: &Request, reply: &Reply) -> Result<(), NoMemory>
     ensures noted { IfOk result (λ done.

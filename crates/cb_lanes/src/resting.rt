@@ -1,3 +1,5 @@
+//! A lane's pins are given back after its last line.
+
 ghost use Rattle.std.specs.Prelude.{◌≡◌, ◌+◌, ◌<◌, ◌≤◌, ℕ, List, ◌∷◌, length, slice_index, IfOk};
 ghost use Rattle.cb_world.specs.Seats.{pins_of_seat};
 ghost use Rattle.cb_world.specs.World.{WorldState, IsSoundWorld};
@@ -48,7 +50,7 @@ fn give_newest(alloc: Global, world: &mut World, seat: u32) -> Result<(), NoMemo
     Ok(())
 }
 
-/// Behind a line of the seat's lane that has so many lines yet to come: where there is none, its
+/// After a line of the seat's lane that has so many lines yet to come: where there is none, its
 /// pins are given back.
 pub(crate) fn rest(alloc: Global, world: &mut World, seat: u32, left: u32) -> Result<(), NoMemory>
     requires seat { seat < 64 }

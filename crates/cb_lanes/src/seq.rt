@@ -1,3 +1,5 @@
+//! The lines of a script on one thread.
+
 ghost use Rattle.std.specs.Prelude.{◌≡◌, ◌<◌, ◌≤◌, ℕ, List, [], ◌∷◌, map, slice_index, IfOk};
 ghost use Rattle.std.specs.List.{AllByRecursion};
 ghost use Rattle.cb_model.specs.Legal.{IsLegalInOrder};
@@ -29,7 +31,7 @@ use std::collections::HashMap;
 /// What a script leaves that was run on one thread.
 #[derive(Drop)]
 pub struct SeqEnd {
-    /// The answers, one for each line behind the header, in order.
+    /// The answers, one for each line after the header, in order.
     pub answers: Answers,
     /// The crashes that took place, in the order of their epochs.
     pub losses: Losses,
@@ -38,7 +40,7 @@ pub struct SeqEnd {
 }
 
 /// Answers the lines of a script in order, in one world, where this side makes the parities of each
-/// compaction. Behind the last line of a lane its pins are given back. A line costs a look at its
+/// compaction. After the last line of a lane its pins are given back. A line costs a look at its
 /// name by its hash, and what its event costs. On a script at ease no line is told of a want of
 /// room or of a loss, and the own lines of each lane are answered as if it were alone. The lines
 /// have no other answers, and lead to no other world.

@@ -1,3 +1,5 @@
+//! Who makes the parities of a join in one turn.
+
 /// Who makes the parities where a line joins two span-sets in one turn.
 #[derive(Clone, Copy)]
 pub enum Side {

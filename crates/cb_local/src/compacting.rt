@@ -1,3 +1,5 @@
+//! Two sets joined in one turn, by rows that are fetched.
+
 ghost use Rattle.std.specs.Prelude.{◌≡◌, ℕ, ◌+◌, ◌^◌, ◌<◌, ◌≤◌, IfOk, OnErr, OnOk, Some, length};
 ghost use Rattle.cb_set.specs.SetState.{SetState};
 ghost use Rattle.cb_types.specs.declared.reply.Reply.{Reply};

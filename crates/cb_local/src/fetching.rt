@@ -1,3 +1,5 @@
+//! The rows of a joining pair are fetched into an order.
+
 ghost use Rattle.std.specs.Prelude.{◌≡◌, ℕ, ◌+◌, ◌*◌, ◌^◌, ◌<◌, ◌≤◌, List, All, IfOk, OnErr, OnOk, length, slice_index};
 ghost use Rattle.cb_gf256.specs.InRange.{IsInRange};
 ghost use Rattle.cb_gf256.specs.Rows.{row_at, HaveLength};

@@ -1,3 +1,5 @@
+//! The order to patch parities, and the same when it was run.
+
 ghost use Rattle.std.specs.Prelude.{◌≡◌};
 ghost use Rattle.cb_local.specs.Delta.{HasItsParities};
 

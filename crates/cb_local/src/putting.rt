@@ -1,3 +1,5 @@
+//! The rows of the merged set are put beside the old ones.
+
 ghost use Rattle.std.specs.Prelude.{◌≡◌, ℕ, ◌+◌, ◌^◌, ◌<◌, ◌≤◌, List, true, false, IfNone, IfSome, OnErr, OnOk, Some, length, slice_get, slice_index};
 ghost use Rattle.cb_gf256.specs.Rows.{row_at};
 ghost use Rattle.cb_member.specs.declared.names.Shard.{Shard};

@@ -1,3 +1,5 @@
+//! Which node of a pair has no room.
+
 ghost use Rattle.std.specs.Prelude.{◌≡◌, ◌<◌, true, IfNone, IfSome, None, Some, length, slice_get};
 ghost use Rattle.cb_member.specs.declared.names.NodeId.{NodeId};
 ghost use Rattle.cb_member.specs.declared.names.Shard.{Shard};

@@ -1,3 +1,5 @@
+//! An order is run: its parities are patched by the deltas of its rows.
+
 ghost use Rattle.std.specs.Prelude.{◌≡◌, ◌<◌, All, IfErr, IfOk, length};
 ghost use Rattle.cb_gf256.specs.Rows.{HaveLength};
 ghost use Rattle.cb_code.specs.Coefficients.{AreCoefficients};
@@ -39,7 +41,7 @@ fn add_deltas(parities: &mut Rows, table: &Coeffs, order: &DeltaOrder, change: &
     }
 }
 
-/// The order's parities with all deltas added. The only error is want of memory.
+/// The order's parities with all deltas added. The only error is out of memory.
 fn patched(alloc: Global, order: &DeltaOrder) -> Result<Rows, NoMemory>
     requires { IsOrder order.now }
     ensures done { IfOk result (HasItsParities order.now) }

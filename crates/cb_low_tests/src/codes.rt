@@ -1,3 +1,5 @@
+//! The code against worked words.
+
 ghost use Rattle.std.specs.Prelude.{◌≡◌, ◌+◌, ◌^◌, ◌<◌, ◌≤◌, length, IfOk};
 ghost use Rattle.cb_gf256.specs.Rows.{HaveLength};
 ghost use Rattle.cb_gf256.specs.InRange.{IsInRange};

@@ -1,3 +1,5 @@
+//! The field against the long product, and rows and nodes.
+
 ghost use Rattle.std.specs.Prelude.{◌≤◌};
 
 use cb_delta::{delta, patch};

@@ -1,3 +1,5 @@
+//! A read of the plain map.
+
 ghost use Rattle.std.specs.Prelude.{◌<◌};
 
 use cb_model::{Call, MapReply, MapState};

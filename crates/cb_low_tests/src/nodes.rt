@@ -1,3 +1,5 @@
+//! Rows at nodes, and the shards of a set.
+
 ghost use Rattle.std.specs.Prelude.{◌≡◌, length};
 
 use cb_member::{Epoch, Loss, Losses, Members, NoMemory, NodeId, Shard};

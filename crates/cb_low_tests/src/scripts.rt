@@ -1,8 +1,10 @@
+//! The faults of scripts.
+
 use cb_script::{Mode, Script, ScriptFault, print_script, read_script};
 use cb_types::NoMemory;
 use std::alloc::Global;
 
-/// Behind the header a line, and the lane of another one.
+/// After the header a line, and the lane of another one.
 const FRONT: &[u8] = b"carbink 1 k=2 r=2 nodes=6 frames=8 room=64 handles=16 turns=0\n1 evict\n1 ";
 
 /// The number of the first fault of a script whose lines are read for threads, and 0 where there is

@@ -1,3 +1,5 @@
+//! Readers and writers that halt.
+
 use cb_types::{
     MemSink, MemSource, NoMemory, PlainSink, PlainSource, Sent, Sink, Source, StdSink, StdSource,
     Took,

@@ -1,5 +1,5 @@
-//! Words of the code that an independent implementation made. A word is its data bytes and, behind
-//! them, its parities. A table of words is bytes, one record behind the other: k and r of the code
+//! Words of the code that an independent implementation made. A word is its data bytes and, after
+//! them, its parities. A table of words is bytes, one record after the other: k and r of the code
 //! that the word belongs to, and then what is told of it.
 
 // The vectors were made by an independent implementation. The first word for k = 2 and r = 2 can
@@ -69,8 +69,8 @@ pub(crate) static COEFFICIENTS: [(u32, u32, u32, u32, u8); 8] = [
 ];
 
 // The vectors were made by an independent implementation: erasures of its words, and random rows.
-// The present positions come first, and behind them the word.
-// In the last three each pair of positions is left out of the word 01, 00, C8, C9.
+// The present positions come first, and after them the word. In the last three each pair of
+// positions is left out of the word 01, 00, C8, C9.
 pub(crate) static SOLUTIONS: &[u8] = b"\
     \x01\x01\x00\xFF\xFF\
     \x01\x01\x00\xEF\xEF\
@@ -124,7 +124,7 @@ pub(crate) static SOLUTIONS: &[u8] = b"\
     \x02\x02\x00\x01\x01\x00\xC8\xC9";
 
 // A code word for four data rows and two parities, of two blocks and a rest: the nine words of an
-// independent implementation, one behind the other.
+// independent implementation, one after the other.
 pub(crate) static BLOCKS: [&[u8]; 6] = [
     &[
         0x01, 0xFF, 0xF6, 0x16, 0x37, 0x80, 0x0A, 0x2C, 0xE2, 0x7F, 0xF2, 0xBA, 0x65, 0x9C, 0x5D,

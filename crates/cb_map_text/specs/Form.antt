@@ -22,7 +22,7 @@ IsInForm (Put key x) = IsOfNineDigits key × IsOfNineDigits x
 IsInForm (Look key) = IsOfNineDigits key
 IsInForm (Drop key) = IsOfNineDigits key
 
--- The bytes spell the commands behind an accepted header, and are no longer than they may be.
+-- The bytes spell the commands after an accepted header, and are no longer than they may be.
 pub record Spells (bytes : List ℕ) (c : Config) (commands : List FarCommand) : Type 0 where
   pub short : length bytes ≤ 1048576
   pub accepted : IsAccepted c

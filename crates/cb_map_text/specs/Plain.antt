@@ -77,7 +77,7 @@ with_pairs s key pairs count = record s {
   fullest = slice_set s.fullest (bucket_of key) (max (most_at s key) count);
 }
 
--- the list and the map behind a command
+-- the list and the map after a command
 abbrev pub plain_after : Plain → FarCommand → Plain
 plain_after s (Push x) = with_list s (s.list ++ x ∷ [])
 plain_after s (Set i x) = with_list s (slice_set s.list i x)
@@ -91,12 +91,12 @@ plain_after s (Drop key) =
     with_pairs s key (map.remove s.pairs key)
     (if has_key s key then count_at s key - 1 else count_at s key)
 
--- the list and the map behind a command that was told so: as they were where it was refused
+-- the list and the map after a command that was told so: as they were where it was refused
 abbrev pub after_said : Plain → FarCommand → FarAnswer → Plain
 after_said s command (Refused reply) = s
 after_said s command said = plain_after s command
 
--- the list and the map behind commands that were told so, one after another
+-- the list and the map after commands that were told so, one after another
 abbrev pub after_all : Plain → List FarCommand → List FarAnswer → Plain
 after_all s (command ∷ commands) (said ∷ saids) =
     after_all (after_said s command said) commands saids

@@ -25,7 +25,7 @@ pub record AreTheCommands (texts : List (List ℕ)) (commands : List FarCommand)
   pub form : AllByRecursion IsInForm commands
   pub read : map command_line commands ≡ texts
 
--- a text among these that is one too many, or no command's, behind those before it
+-- a text among these that is one too many, or no command's, after those before it
 pub record HasBadLine (texts : List (List ℕ)) (line : ℕ) : Type 0 where
   pub before : List FarCommand
   pub few : length before ≤ 20000

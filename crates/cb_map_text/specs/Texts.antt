@@ -18,7 +18,7 @@ said_line Nothing = codes "none"
 said_line (Outside len) = codes "outside" ++ spaced (decimal len)
 said_line (Refused reply) = reply_words reply
 
--- all that is said, a line feed behind each
+-- all that is said, a line feed after each
 abbrev pub said_text : List FarAnswer → List ℕ
 said_text saids = flat_map (λ one. said_line one ++ 10 ∷ []) saids
 

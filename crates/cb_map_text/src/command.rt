@@ -1,3 +1,5 @@
+//! Commands on an array and a map, and what is said to them.
+
 ghost use Rattle.std.specs.Prelude.{◌≡◌, [], ◌∷◌, ◌++◌, OnOk, OnErr};
 
 use cb_types::{NoMemory, Reply};
@@ -70,7 +72,7 @@ impl FarCommands {
         self.items.as_slice()
     }
 
-    /// Adds a command at the end. Want of memory leaves the list as it was.
+    /// Adds a command at the end. Running out of memory leaves the list as it was.
     pub fn push(&mut self, item: FarCommand) -> Result<(), NoMemory>
         ensures ok { OnOk result (self.new ≡ self.old ++ item ∷ []) }
         ensures err { OnErr result (self.new ≡ self.old) }

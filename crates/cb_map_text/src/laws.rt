@@ -1,3 +1,5 @@
+//! The laws of these texts, as clauses of functions that do nothing.
+
 ghost use Rattle.std.specs.Prelude.{◌≡◌, ◌+◌, ℕ, List, if◌then◌else◌};
 ghost use Rattle.cb_types.specs.declared.config.Config.{Config};
 ghost use Rattle.cb_map_text.specs.First.{First};

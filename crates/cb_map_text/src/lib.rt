@@ -1,4 +1,4 @@
-//! Commands on an array and a map as text: what a user writes, a command a line behind a script's
+//! Commands on an array and a map as text: what a user writes, a command a line after a script's
 //! header, and what is printed of each. The reader takes exactly the texts in the form, and tells
 //! the first line that is not. A plain list and a plain map say what each command owes.
 #![tactic(auto)]

@@ -1,3 +1,5 @@
+//! A command from the words of its line.
+
 ghost use Rattle.std.specs.Prelude.{◌≡◌, ◌∷◌, []};
 ghost use Rattle.cb_script.specs.Cut.{texts};
 ghost use Rattle.cb_script.specs.Found.{Finds};

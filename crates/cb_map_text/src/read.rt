@@ -1,3 +1,5 @@
+//! A text of commands is read.
+
 ghost use Rattle.std.specs.Prelude.{◌≡◌, ◌+◌, ◌≤◌, ◌⊎◌, ℕ, List, MatchResult, IfOk, IfErr, Ok, Err};
 ghost use Rattle.cb_types.specs.declared.config.Config.{Config};
 ghost use Rattle.cb_script.specs.Spelling.{lines_of};
@@ -17,7 +19,7 @@ use std::alloc::Global;
 /// The longest text has so many bytes.
 const LONGEST_TEXT: usize = 1_048_576;
 
-/// The longest text has so many commands behind its header.
+/// The longest text has so many commands after its header.
 const MOST_COMMANDS: usize = 20_000;
 
 /// A text of commands that was read.
@@ -47,7 +49,7 @@ impl From<NoMemory> for TextFault {
     }
 }
 
-/// Reads the commands that the bytes spell behind a header, or tells the first line that is outside
+/// Reads the commands that the bytes spell after a header, or tells the first line that is outside
 /// the form. It takes memory for the commands alone, and stops at the first such line.
 pub fn read_commands(alloc: Global, bytes: &[u8]) -> Result<FarText, TextFault>
     ensures found { IfOk result (λ text. Spells bytes.now text.config text.commands) }
@@ -82,7 +84,7 @@ fn text_of(alloc: Global, bytes: &[u8]) -> Result<FarText, TextFault>
     }
 }
 
-/// The commands of a text behind a header, or the first line that is none, or is one too many.
+/// The commands of a text after a header, or the first line that is none, or is one too many.
 fn commands_of(alloc: Global, text: &[u8]) -> Result<FarCommands, TextFault>
     ensures { MatchResult result
         (AreTheCommands (lines_of text.now))
@@ -104,7 +106,7 @@ fn commands_of(alloc: Global, text: &[u8]) -> Result<FarCommands, TextFault>
     Ok(commands)
 }
 
-/// That the line behind the header and so many commands is outside the form.
+/// That the line after the header and so many commands is outside the form.
 fn fault_behind(commands: usize) -> TextFault
     requires { commands ≤ 20000 }
     ensures { result ≡ Line (commands + 2) }

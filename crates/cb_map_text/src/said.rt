@@ -1,3 +1,5 @@
+//! What is said to commands, as text.
+
 ghost use Rattle.std.specs.Prelude.{◌≡◌, ◌∷◌, ◌++◌, [], decimal, IfOk, OnOk};
 ghost use Rattle.cb_map_text.specs.Texts.{refusal_text, reply_words, said_line, said_text};
 

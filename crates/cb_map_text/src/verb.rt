@@ -1,3 +1,5 @@
+//! The verbs of commands.
+
 ghost use Rattle.std.specs.Prelude.{◌≡◌};
 ghost use Rattle.cb_script.specs.Found.{Finds};
 ghost use Rattle.cb_map_text.specs.Verbs.{verb_word, pair_verb_word, numbered, paired};

@@ -1,3 +1,5 @@
+//! Crashed nodes, each with the epoch of its crash.
+
 ghost use Rattle.std.specs.Prelude.{◌≡◌, IfOk};
 ghost use lib.Pointwise.{pointwise};
 ghost use Rattle.std.specs.Cmp.Lexicographic.{lists_per, lists_equiv};

@@ -1,3 +1,5 @@
+//! Which nodes are up, and since when.
+
 ghost use Rattle.std.specs.Prelude.{◌≡◌, ◌+◌, ◌-◌, ◌^◌, ◌<◌, ◌≤◌, length, true, IfOk, OnErr};
 ghost use Rattle.cb_member.specs.Membership.{fresh_members, alive, incarnation, crashed_at, IsMembership};
 ghost use Rattle.cb_member.specs.Answer.{CrashGives, JoinGives};
@@ -58,7 +60,7 @@ impl Members {
     }
 
     /// Answers Down exactly where the node is down, and otherwise Changed, unless there is no
-    /// memory to keep the epoch. Want of memory changes nothing.
+    /// memory to keep the epoch. Running out of memory changes nothing.
     pub fn crash(&mut self, node: NodeId) -> Result<MemberAnswer, NoMemory>
         requires node { node.n < length self.old.nodes }
         requires epoch { self.old.epoch < 2 ^ 64 - 1 }

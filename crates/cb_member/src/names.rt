@@ -1,3 +1,5 @@
+//! The names of nodes, epochs, losses and shards.
+
 /// A memory node, by its number. Nodes are numbered from 0.
 #[derive(Clone, Copy, Debug, PartialEq, Eq, PartialOrd, Ord)]
 pub struct NodeId {

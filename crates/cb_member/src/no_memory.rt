@@ -1,3 +1,5 @@
+//! The one error of this crate: there was no memory.
+
 use std::alloc::{AllocError, AllocFailed};
 use std::error::Error;
 use std::fmt;

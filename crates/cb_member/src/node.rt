@@ -1,3 +1,5 @@
+//! One node as the membership knows it.
+
 use crate::names::Epoch;
 use std::marker::Model;
 

@@ -1,3 +1,5 @@
+//! Takes and puts that fail.
+
 use cb_cli::{TakeError, put_all, take_all};
 use cb_types::{MemSink, MemSource, NoMemory};
 use std::alloc::Global;

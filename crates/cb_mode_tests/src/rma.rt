@@ -1,3 +1,5 @@
+//! Orders that come twice.
+
 ghost use Rattle.std.specs.Prelude.{◌<◌, ◌^◌};
 ghost use Rattle.cb_rma.specs.Sending.{submitted};
 

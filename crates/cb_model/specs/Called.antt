@@ -46,7 +46,7 @@ handle_for before (Make name bytes) (Made handle version) = Some handle.n
 handle_for before (Make name bytes) reply = None
 handle_for before request reply = handle_named before (name_of request)
 
--- an answer as a call, behind the answers before it
+-- an answer as a call, after the answers before it
 abbrev pub called : List Answer → Answer → Called
 called before a = record {
   lane = a.lane.n;
@@ -54,7 +54,7 @@ called before a = record {
   event = event_of a.request a.reply;
 }
 
--- answers as calls, behind those before them
+-- answers as calls, after those before them
 abbrev pub calls_behind : List Answer → List Answer → List Called
 calls_behind before [] = []
 calls_behind before (a ∷ after) = called before a ∷ calls_behind (before ++ a ∷ []) after

@@ -26,8 +26,8 @@ abbrev pub IsMadeWith : List (ℕ × Change) → ℕ → Type 0
 IsMadeWith ((version, Create bytes) ∷ later) len = len ≡ length bytes
 IsMadeWith changes len = ⊥
 
--- changes behind a make of so many bytes, from this version on: writes within the bytes, and a free at
--- the end, where there is one
+-- changes after a make of so many bytes, from this version on: writes within the bytes, and a free
+-- at the end, where there is one
 abbrev pub GoesOn : ℕ → ℕ → List (ℕ × Change) → Type 0
 GoesOn next len [] = Unit {0}
 GoesOn next len ((version, Create bytes) ∷ later) = ⊥

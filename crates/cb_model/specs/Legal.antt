@@ -44,7 +44,7 @@ IsNotBelow version (Writes at bytes later) = version < later
 IsNotBelow version (Frees later) = version < later
 IsNotBelow version event = Unit {0}
 
--- what may be answered later: behind a version none below it, and behind freed no version at all
+-- what may be answered later: after a version none below it, and after freed no version at all
 abbrev pub MayComeLater : Event → Event → Type 0
 MayComeLater FindsFreed later = version_of later ≡ None
 MayComeLater earlier later =

@@ -1,3 +1,5 @@
+//! Calls on the plain map, and its replies.
+
 use cb_types::{Bytes, Handle, Reply};
 
 /// A call on the map.

@@ -1,3 +1,5 @@
+//! The plain map.
+
 ghost use Rattle.std.specs.Prelude.{◌≡◌, ◌<◌, [], IsOkAnd, IfOk, OnErr};
 ghost use Rattle.cb_model.specs.Map.{IsPossible, Replies};
 
@@ -40,7 +42,7 @@ impl MapState {
     /// Answers a call. A handle is below the number of handles, and what is written or freed has a
     /// version above its own. A make is answered Full where as many objects were made. A call on a
     /// handle is answered Unmade where it was never made, Freed where the object was freed, and a
-    /// write past the object's end Range. Want of memory leaves the map as it was.
+    /// write past the object's end Range. Running out of memory leaves the map as it was.
     pub fn apply(&mut self, alloc: Global, call: &Call) -> Result<MapReply, NoMemory>
         requires possible { IsPossible self.old call.now }
         ensures reply { IfOk result (λ reply. Replies self.old call.now reply self.new) }

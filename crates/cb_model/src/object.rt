@@ -1,3 +1,5 @@
+//! An object of the plain map: its versions, or freed.
+
 ghost use Rattle.std.specs.Prelude.{◌≡◌, Some, IfOk};
 ghost use Rattle.cb_model.specs.Map.{IsSmall, HasNext, read_event, write_event, free_event, object_after};
 ghost use Rattle.cb_model.specs.Replies.{ObjectReplies};

@@ -16,7 +16,7 @@ AreLoads [] = Unit {0}
 AreLoads (Loaded p x ∷ es) = AreLoads es
 AreLoads (e ∷ es) = ⊥
 
--- each word is stored once, the first one at this place, the others behind it
+-- each word is stored once, the first one at this place, the others after it
 abbrev pub stores_from : ℕ → List ℕ → List Access
 stores_from place [] = []
 stores_from place (x ∷ xs) = Stored place x ∷ stores_from (place + 1) xs

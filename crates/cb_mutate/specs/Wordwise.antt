@@ -2,7 +2,7 @@
 use Rattle.std.specs.Prelude.{◌≡◌, ℕ, ◌+◌, ◌*◌, ◌^◌, ◌<◌, List, slice_index}
 
 -- the word of this number begins before the end of so many bytes from the byte number `at` on, and
--- ends behind their beginning
+-- ends after their beginning
 abbrev pub IsReached : ℕ → ℕ → ℕ → Type 0
 IsReached i at count = (8 * i < at + count) × (at < 8 * i + 8)
 

@@ -1,3 +1,5 @@
+//! The words of a claimed object are written over.
+
 ghost use Rattle.std.specs.Prelude.{◌≡◌, ℕ, ◌+◌, ◌*◌, ◌<◌, ◌≤◌, List, length};
 ghost use Rattle.cb_types.specs.Config.{IsAccepted, most_bytes};
 ghost use Rattle.cb_world.specs.declared.shown.Shown.{Shown};

@@ -1,3 +1,5 @@
+//! A read of an object in local memory.
+
 ghost use Rattle.std.specs.Prelude.{◌≡◌, ℕ, ◌*◌, ◌<◌, List, length, IfOk, OnErr};
 ghost use Rattle.cb_types.specs.Config.{IsAccepted};
 ghost use Rattle.cb_ptr.specs.declared.word.State.TheVariants as state;

@@ -1,3 +1,5 @@
+//! Why a line on an object that is not here is refused.
+
 ghost use Rattle.std.specs.Prelude.{◌≢◌, ◌<◌, List};
 ghost use Rattle.cb_ptr.specs.declared.word.State.TheVariants as state;
 ghost use Rattle.cb_ptr.specs.Word.{state_of, len_of, place_of};

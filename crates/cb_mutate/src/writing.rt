@@ -1,3 +1,5 @@
+//! A write of an object in local memory.
+
 ghost use Rattle.std.specs.Prelude.{◌≡◌, ℕ, ◌+◌, ◌<◌, List, IsOk, IfOk};
 ghost use Rattle.cb_types.specs.Config.{IsAccepted};
 ghost use Rattle.cb_ptr.specs.Word.{state_of, len_of, place_of};

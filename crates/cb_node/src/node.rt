@@ -1,3 +1,5 @@
+//! The rows of one node, by their keys.
+
 ghost use Rattle.std.specs.Prelude.{◌≡◌, IsSome, OnOk, OnErr, Some};
 ghost use Rattle.std.specs.Option.{option_map};
 ghost use Rattle.std.specs.FinMap as map;
@@ -57,7 +59,7 @@ impl Node {
         self.rows.get(&key)
     }
 
-    /// Puts the row under the key. Want of memory changes nothing.
+    /// Puts the row under the key. Running out of memory changes nothing.
     pub fn insert(&mut self, key: u64, row: Row) -> Result<(), NoMemory>
         ensures ok { OnOk result (self.new ≡ map.insert self.old key row) }
         ensures err { OnErr result (self.new ≡ self.old) }

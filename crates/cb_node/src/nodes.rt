@@ -1,3 +1,5 @@
+//! All nodes, with one capacity.
+
 ghost use Rattle.std.specs.Prelude.{◌≡◌, ◌-◌, ◌+◌, ◌^◌, ◌<◌, ◌↔◌, IsTrue, length, true, false, if◌then◌else◌, IfOk, IfSome, IfNone, OnOk, OnErr};
 ghost use Rattle.std.specs.Borrow.{sem};
 ghost use Rattle.cb_gf256.specs.Row.{row_sum, scaled_row};
@@ -105,8 +107,8 @@ impl Nodes {
         self.nodes[usize::from(node.n)].has(key)
     }
 
-    /// Puts a copy of the row at the node, or answers Full where the node holds as many rows as
-    /// it has room for. Want of memory changes nothing and does not come from a full node.
+    /// Puts a copy of the row at the node, or answers Full where the node holds as many rows as it
+    /// has room for. Running out of memory changes nothing and does not come from a full node.
     pub fn put(&mut self, node: NodeId, key: u64, row: &[u8]) -> Result<PutAnswer, NoMemory>
         requires node { node.n < length self.old.nodes }
         requires fresh { has self.old node key ≡ false }
@@ -130,8 +132,8 @@ impl Nodes {
     }
 
     /// Copies the row under `key` at the node `from` to the node `to`, under the key `fresh`, or
-    /// answers Full where `to` holds as many rows as it has room for. No row is given.
-    /// Want of memory changes nothing and does not come from a full node.
+    /// answers Full where `to` holds as many rows as it has room for. No row is given. Running out
+    /// of memory changes nothing and does not come from a full node.
     pub fn copy(
         &mut self,
         from: NodeId,
@@ -266,8 +268,8 @@ impl Nodes {
         self.spare.keep(row);
     }
 
-    /// A table of so many rows of so many bytes, which may be any: the one that was kept last, where it
-    /// has this shape. The only error is want of memory; the nodes stay as they are.
+    /// A table of so many rows of so many bytes, which may be any: the one that was kept last,
+    /// where it has this shape. The only error is out of memory; the nodes stay as they are.
     pub fn spare_table(&mut self, count: u32, len: u32) -> Result<Rows, NoMemory>
         requires some { 0 < count }
         ensures count { IfOk result (λ rows. length rows ≡ count) }
@@ -358,7 +360,8 @@ impl Nodes {
         self.nodes[usize::from(node.n)].row(key).unwrap().bytes()
     }
 
-    /// Puts the row under a fresh key at a node that has room. Want of memory changes nothing.
+    /// Puts the row under a fresh key at a node that has room. Running out of memory changes
+    /// nothing.
     fn store(&mut self, node: NodeId, key: u64, row: Row) -> Result<(), NoMemory>
         requires node { node.n < length self.old.nodes }
         requires fresh { has self.old node key ≡ false }

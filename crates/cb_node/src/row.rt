@@ -1,3 +1,5 @@
+//! A row in a block of its own.
+
 ghost use Rattle.std.specs.Prelude.{◌≡◌, ◌<◌, [], length, slice_index, slice_set, IfOk};
 ghost use Rattle.cb_gf256.specs.Sum.{◌⊕◌};
 ghost use Rattle.cb_gf256.specs.Row.{row_sum, scaled_row};

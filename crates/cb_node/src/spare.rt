@@ -1,3 +1,5 @@
+//! Blocks of dropped rows, to be used again.
+
 ghost use Rattle.std.specs.Prelude.{◌≡◌, ◌<◌, length, IfOk};
 ghost use Rattle.cb_gf256.specs.Rows.{HaveLength};
 

@@ -6,7 +6,7 @@ use Rattle.cb_erase.specs.Weights.{IsSolution}
 use Rattle.cb_types.specs.declared.order.DecodeOrder.{DecodeOrder}
 use Rattle.cb_types.specs.declared.order.EncodeOrder.{EncodeOrder}
 
--- the order's rows and these parities behind them are a code word
+-- the order's rows and these parities after them are a code word
 abbrev pub IsEncoded : EncodeOrder → List (List ℕ) → Type 0
 IsEncoded o parities = IsCodeWord o.k o.r (o.rows ++ parities)
 

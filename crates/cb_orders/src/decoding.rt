@@ -1,3 +1,5 @@
+//! An order to make one row is run.
+
 ghost use Rattle.std.specs.Prelude.{◌≡◌, ℕ, ◌<◌, ◌≤◌, List, [], ◌∷◌, length, slice_index};
 ghost use Rattle.std.specs.Prelude.{IfErr, IfOk};
 ghost use Rattle.cb_gf256.specs.Rows.{row_at, HaveLength};
@@ -37,7 +39,7 @@ fn first_positions(n: usize) -> &'static [u8]
 }
 
 /// A table of one row, the one at the order's position. Each of the order's rows is read once. The
-/// only error is want of memory.
+/// only error is out of memory.
 fn decoded(alloc: Global, order: &DecodeOrder) -> Result<Rows, NoMemory>
     requires { IsDecodable order.now }
     ensures count { IfOk result (λ made. length made ≡ 1) }

@@ -1,3 +1,5 @@
+//! Orders that were run, with the rows that they made.
+
 ghost use Rattle.std.specs.Prelude.{◌≡◌, length};
 ghost use Rattle.cb_gf256.specs.Rows.{row_at};
 ghost use Rattle.cb_orders.specs.Done.{IsDecoded, IsEncoded, IsOfWord};

@@ -1,3 +1,5 @@
+//! An order to make parities is run.
+
 ghost use Rattle.std.specs.Prelude.{◌≡◌, ℕ, List, IfErr, IfOk};
 ghost use Rattle.cb_gf256.specs.Rows.{HoldBytes};
 ghost use Rattle.cb_orders.specs.Done.{IsEncoded};
@@ -9,7 +11,7 @@ use cb_gf256::{NoMemory, Rows};
 use cb_types::EncodeOrder;
 use std::alloc::Global;
 
-/// The parities of an order's rows. The only error is want of memory.
+/// The parities of an order's rows. The only error is out of memory.
 fn encoded(alloc: Global, order: &EncodeOrder) -> Result<Rows, NoMemory>
     requires { IsEncodable order.now }
     ensures done { IfOk result (IsEncoded order.now) }
@@ -19,7 +21,7 @@ fn encoded(alloc: Global, order: &EncodeOrder) -> Result<Rows, NoMemory>
     encode(alloc, &coefficients(order.k, order.r), &order.rows)
 }
 
-/// Runs an order: makes the parities that are a code word behind its rows, the only ones that are.
+/// Runs an order: makes the parities that are a code word after its rows, the only ones that are.
 /// It takes memory for these, r rows; where there is none, the order is handed back as it was.
 pub fn run_encode(alloc: Global, order: EncodeOrder) -> Result<EncodeDone, EncodeOrder>
     requires { IsEncodable order }

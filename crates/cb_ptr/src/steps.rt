@@ -1,3 +1,5 @@
+//! What the atomic steps add to a pointer word.
+
 ghost use Rattle.std.specs.Prelude.{◌≡◌, ◌^◌, ◌<◌, ◌≤◌};
 ghost use Rattle.cb_ptr.specs.declared.word.State.TheVariants.{Here, Moving};
 ghost use Rattle.cb_ptr.specs.Word.{pins_of, state_of};

@@ -1,3 +1,5 @@
+//! The fields of a pointer word, packed into 64 bits.
+
 ghost use Rattle.std.specs.Prelude.{◌≡◌, ◌^◌, ◌<◌};
 ghost use Rattle.cb_ptr.specs.Word.{IsInWidths, fields_of, numbered_state, state_number, word_of};
 

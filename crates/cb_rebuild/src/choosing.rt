@@ -1,3 +1,5 @@
+//! Which row is made again, and where it goes.
+
 ghost use Rattle.std.specs.Prelude.{◌≡◌, ◌<◌, ◌≤◌, IfNone, IfOk, IfSome, Some, length};
 ghost use Rattle.cb_member.specs.declared.names.NodeId.{NodeId};
 ghost use Rattle.cb_set.specs.SetState.{SetState};

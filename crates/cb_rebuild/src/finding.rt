@@ -1,3 +1,5 @@
+//! The first set that lost a row and can be mended.
+
 ghost use Rattle.std.specs.Prelude.{◌≡◌, ◌≢◌, ◌+◌, ◌^◌, ◌<◌, ◌≤◌, true, false, Some, length};
 ghost use Rattle.cb_set.specs.SetState.{SetState};
 ghost use Rattle.cb_set.specs.Lost.{NodesAreMembers};

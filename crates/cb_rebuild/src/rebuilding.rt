@@ -1,3 +1,5 @@
+//! One lost row is put on a spare node.
+
 ghost use Rattle.std.specs.Prelude.{◌≡◌, ℕ, ◌+◌, ◌^◌, ◌<◌, ◌≤◌, IfOk, OnErr, Some, length};
 ghost use Rattle.cb_types.specs.Config.{IsAccepted};
 ghost use Rattle.cb_set.specs.SetState.{SetState};

@@ -1,3 +1,5 @@
+//! A lost row is made again from k others.
+
 ghost use Rattle.std.specs.Prelude.{◌≡◌, ℕ, ◌+◌, ◌^◌, ◌<◌, ◌≤◌, false, List, OnErr, OnOk, Some, length};
 ghost use Rattle.cb_node.specs.NodesState.{has, held};
 ghost use Rattle.cb_set.specs.SetState.{SetState};

@@ -1,4 +1,4 @@
--- What calls leave in the world of a runtime that was closed behind them.
+-- What calls leave in the world of a runtime that was closed after them.
 use Rattle.std.specs.Prelude.{◌≡◌, ℕ, ◌<◌, Bool, cond, List, length, Some, None}
 use Rattle.cb_ptr.specs.declared.word.State.TheVariants as state
 use Rattle.cb_ptr.specs.Word.{state_of}

@@ -38,7 +38,7 @@ sum d e = record {
   turns = e.turns ++ d.turns;
 }
 
--- the order that is kept behind some turns, the newest first, where this one was kept before
+-- the order that is kept after some turns, the newest first, where this one was kept before
 abbrev pub keeps_after : List Turn → Option Kept → Option Kept
 keeps_after [] o = o
 keeps_after (t ∷ earlier) o = t.keeps

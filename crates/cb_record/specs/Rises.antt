@@ -8,23 +8,23 @@ use Rattle.cb_model.specs.Event.{Event, version_of}
 use Rattle.cb_model.specs.Event.Event.{FindsFreed}
 use Rattle.cb_model.specs.Legal.{IsNotBelow, Rising}
 
--- what may be answered behind a version: none below it, and behind the freed one no version at all
+-- what may be answered after a version: none below it, and after the freed one no version at all
 abbrev pub MayFollowVersion : ℕ → Bool → Event → Type 0
 MayFollowVersion version true event = version_of event ≡ None
 MayFollowVersion version false event = IsNotBelow version event
 
--- a call is answered as behind all that the record has
+-- a call is answered as after all that the record has
 abbrev pub IsBehind : View → Called → Type 0
 IsBehind v call = (h version : ℕ) (freed : Bool) → call.handle ≡ Some h
     → HasVersion v h version freed → MayFollowVersion version freed call.event
 
--- The calls of one caller, whose record was this before them: each is answered as behind all that
--- the record has, and as behind those before it.
+-- The calls of one caller, whose record was this before them: each is answered as after all that
+-- the record has, and as after those before it.
 pub record RisesFrom (v : View) (calls : List Called) : Type 0 where
   pub behind : AllByRecursion (IsBehind v) calls
   pub rising : Rising calls
 
--- what an event told of an object stands in the record: its version, and behind freed a freed one
+-- what an event told of an object stands in the record: its version, and after freed a freed one
 abbrev pub IsKnownTo : View → ℕ → Event → Type 0
 IsKnownTo v h FindsFreed = (version : ℕ) × HasVersion v h version true
 IsKnownTo v h event = (version : ℕ) → version_of event ≡ Some version

@@ -11,7 +11,7 @@ pub record Told : Type 0 where
   pub request : Request
   pub reply : Reply
 
--- an answer behind those before it
+-- an answer after those before it
 abbrev pub told : List Answer → Answer → Told
 told before a = record {
   handle = handle_for before a.request a.reply;
@@ -19,7 +19,7 @@ told before a = record {
   reply = a.reply;
 }
 
--- answers behind those before them
+-- answers after those before them
 abbrev pub tolds : List Answer → List Answer → List Told
 tolds before [] = []
 tolds before (a ∷ after) = told before a ∷ tolds (before ++ a ∷ []) after

@@ -17,7 +17,7 @@ standing_of course orders = record {
   acks = course.acks.items;
 }
 
--- this is said to the event, and the course goes on behind it, whatever orders were taken
+-- this is said to the event, and the course goes on after it, whatever orders were taken
 pub record CourseMoves (course : Course) (event : Step) (said : Said) (behind : Course) : Type
     0 where
   pub said_is : (orders : List Order) → said ≡ reply (standing_of course orders) event

@@ -72,7 +72,7 @@ reply s (step.Ack packet) = reply_to_ack s.sender (slice_get s.acks packet)
 reply s step.Restart = said.Incarnation (s.keeper.incarnation + 1)
 reply s (step.Show key) = reply_to_show (map.get s.keeper.rows key)
 
--- how things stand behind an ask that comes
+-- how things stand after an ask that comes
 abbrev pub behind_ask : Standing → Option Ask → Standing
 behind_ask s None = s
 behind_ask s (Some ask) = record s {
@@ -80,12 +80,12 @@ behind_ask s (Some ask) = record s {
   acks = s.acks ++ acks_of (handles s.keeper ask);
 }
 
--- and behind an acknowledgement
+-- and after an acknowledgement
 abbrev pub behind_ack : Standing → Option Ack → Standing
 behind_ack s None = s
 behind_ack s (Some ack) = record s { sender = after_heard s.sender (hears s.sender ack) }
 
--- how things stand behind an event
+-- how things stand after an event
 abbrev pub next : Standing → Step → Standing
 next s (step.Submit order) = record s {
   sender = after_order s.sender order (answer_to_order s.sender);
@@ -106,7 +106,7 @@ abbrev pub replies : Standing → List Step → List Said
 replies s [] = []
 replies s (event ∷ events) = reply s event ∷ replies (next s event) events
 
--- how things stand behind them
+-- how things stand after them
 abbrev pub behind : Standing → List Step → Standing
 behind s [] = s
 behind s (event ∷ events) = behind (next s event) events

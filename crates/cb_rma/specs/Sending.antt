@@ -10,7 +10,7 @@ use Rattle.cb_rma.specs.declared.sender.Heard.{Heard}
 use Rattle.cb_rma.specs.declared.sender.Heard.TheVariants.{Fresh, Old, Beyond, Other}
 
 -- its incarnation, how many orders may wait for an acknowledgement, how many are acknowledged, and
--- the orders behind these, which wait
+-- the orders after these, which wait
 pub record SenderState : Type 0 where
   pub incarnation : ℕ
   pub window : ℕ

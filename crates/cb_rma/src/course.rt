@@ -1,3 +1,5 @@
+//! A schedule on its way: both sides and all messages that were sent.
+
 ghost use Rattle.std.specs.Prelude.{◌≡◌, ◌∷◌, [], ◌++◌, ◌<◌, ◌^◌, ◌-◌, length, IfOk, OnOk};
 ghost use Rattle.cb_rma.specs.Sending.{submitted};
 ghost use Rattle.cb_rma.specs.Keeping.{acks_of};
@@ -23,7 +25,7 @@ pub(crate) struct Course {
 }
 
 impl Course {
-    /// Does what the event says. After want of memory the course is not gone on with.
+    /// Does what the event says. After running out of memory the course is not gone on with.
     pub(crate) fn step(&mut self, event: &Step) -> Result<Said, NoMemory>
         requires { HasRoomForEvent self.old }
         ensures { IfOk result (λ said. CourseMoves self.old event.now said self.new) }

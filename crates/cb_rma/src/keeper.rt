@@ -1,3 +1,5 @@
+//! The keeper of rows, which applies each order once.
+
 ghost use Rattle.std.specs.Prelude.{◌≡◌, ◌<◌, ◌^◌, IfOk, OnErr};
 ghost use Rattle.std.specs.Option.{option_map};
 ghost use Rattle.std.specs.FinMap as map;
@@ -52,7 +54,7 @@ impl Keeper {
         }
     }
 
-    /// Applies the order where it is the next one. Want of memory changes nothing.
+    /// Applies the order where it is the next one. Running out of memory changes nothing.
     pub fn on_ask(&mut self, ask: &Ask) -> Result<Handled, NoMemory>
         requires { self.old.count < 2 ^ 40 }
         ensures answer { IfOk result (λ answer. answer ≡ handles self.old ask.now) }

@@ -1,3 +1,5 @@
+//! Orders, asks and acknowledgements.
+
 ghost use Rattle.std.specs.Prelude.{◌≡◌, IfOk};
 
 use cb_member::NoMemory;

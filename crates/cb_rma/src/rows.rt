@@ -1,3 +1,5 @@
+//! Rows by their keys.
+
 ghost use Rattle.std.specs.Prelude.{◌≡◌, length, OnOk, OnErr};
 ghost use Rattle.std.specs.Option.{option_map};
 ghost use Rattle.std.specs.FinMap as map;
@@ -49,7 +51,7 @@ impl Rows {
         self.by_key.get(&key)
     }
 
-    /// Does what the order says. Want of memory changes nothing.
+    /// Does what the order says. Running out of memory changes nothing.
     pub(crate) fn apply(&mut self, order: &Order) -> Result<(), NoMemory>
         ensures ok { OnOk result (self.new ≡ with_order self.old order.now) }
         ensures err { OnErr result (self.new ≡ self.old) }
@@ -67,7 +69,7 @@ impl Rows {
         }
     }
 
-    /// Puts a copy of the row at the key. Want of memory changes nothing.
+    /// Puts a copy of the row at the key. Running out of memory changes nothing.
     fn put(&mut self, key: u64, row: &Bytes) -> Result<(), NoMemory>
         ensures ok { OnOk result (self.new ≡ map.insert self.old key row.now) }
         ensures err { OnErr result (self.new ≡ self.old) }

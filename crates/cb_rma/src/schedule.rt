@@ -1,3 +1,5 @@
+//! A schedule from its begin to its end.
+
 ghost use Rattle.std.specs.Prelude.{◌<◌, ◌≤◌, ◌^◌, count_by, IfOk};
 ghost use Rattle.cb_rma.specs.Schedule.{is_submit};
 ghost use Rattle.cb_rma.specs.Ends.{Ends};

@@ -1,3 +1,5 @@
+//! The sender of orders, with its window.
+
 ghost use Rattle.std.specs.Prelude.{◌≡◌, ◌+◌, ◌-◌, ◌<◌, ◌≤◌, ◌^◌, drop, length, Some, IfOk, OnErr};
 ghost use Rattle.cb_rma.specs.Sending.{IsSender, new_sender, submitted, answer_to_order, after_order, ask_of, hears, after_heard, message};
 
@@ -76,7 +78,7 @@ impl Sender {
     }
 
     /// Takes the order, under the next number, where fewer orders than the window wait for an
-    /// acknowledgement. Want of memory changes nothing and does not come from a full window.
+    /// acknowledgement. Running out of memory changes nothing and does not come from a full window.
     pub fn submit(&mut self, order: &Order) -> Result<Submitted, NoMemory>
         requires { submitted self.old < 2 ^ 40 }
         ensures answer { IfOk result (λ answer. answer ≡ answer_to_order self.old) }

@@ -1,3 +1,5 @@
+//! The events of a schedule, and what is said to them.
+
 ghost use Rattle.std.specs.Prelude.{◌≡◌, [], ◌∷◌, ◌++◌, OnOk, OnErr};
 
 use crate::keeper::Handled;
@@ -81,7 +83,7 @@ impl Saids {
         self.items.as_slice()
     }
 
-    /// Adds what is said to the next event. Want of memory leaves the list as it was.
+    /// Adds what is said to the next event. Running out of memory leaves the list as it was.
     pub fn push(&mut self, item: Said) -> Result<(), NoMemory>
         ensures ok { OnOk result (self.new ≡ self.old ++ item ∷ []) }
         ensures err { OnErr result (self.new ≡ self.old) }

@@ -30,7 +30,7 @@ pub record IsBadLine (bytes : List ℕ) (line : ℕ) : Type 0 where
   pub bad : (length before ≡ 20000) ⊎ IsNoEvent text
 
 -- The first line outside the form: 0 where there are too many bytes, then 1 where it is not the
--- header, and then the first line behind the header that is one too many or no event's.
+-- header, and then the first line after the header that is one too many or no event's.
 pub data First (bytes : List ℕ) (line : ℕ) : Type 0 where
   TooLong : line ≡ 0 → 1048576 < length bytes → First bytes line
   NoHeader : line ≡ 1 → length bytes ≤ 1048576 → ((window : ℕ) → HasWindow bytes window → ⊥)

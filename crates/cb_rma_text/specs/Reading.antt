@@ -31,7 +31,7 @@ pub record AreTheEvents (texts : List (List ℕ)) (events : List Step) : Type 0 
   pub form : AllByRecursion IsInForm events
   pub read : map step_line events ≡ texts
 
--- a text among these that is one too many, or no event's, behind those before it
+-- a text among these that is one too many, or no event's, after those before it
 pub record HasBadLine (texts : List (List ℕ)) (line : ℕ) : Type 0 where
   pub before : List Step
   pub few : length before ≤ 20000

@@ -51,7 +51,7 @@ said_line (said.Incarnation n) = word_then_number (codes "incarnation") n
 said_line (said.Row row) = row_line row
 said_line said.NoRow = codes "none"
 
--- all that is said, a line feed behind each
+-- all that is said, a line feed after each
 abbrev pub said_text : List Said → List ℕ
 said_text saids = flat_map (λ one. said_line one ++ 10 ∷ []) saids
 

@@ -1,3 +1,5 @@
+//! An event from the words of its line.
+
 ghost use Rattle.std.specs.Prelude.{◌≡◌, ◌↔◌, ◌<◌, ◌∷◌, [], IfOk, IsTrue};
 ghost use Rattle.hex.specs.Hex.{encode_lower};
 ghost use Rattle.cb_script.specs.Cut.{texts};

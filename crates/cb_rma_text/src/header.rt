@@ -1,3 +1,5 @@
+//! The header of a schedule.
+
 ghost use Rattle.std.specs.Prelude.{◌≡◌, ◌↔◌, codes, IsTrue};
 ghost use Rattle.cb_script.specs.Cut.{texts};
 ghost use Rattle.cb_script.specs.Found.{Finds};

@@ -1,3 +1,5 @@
+//! The law of these texts, as a clause of a function that does nothing.
+
 ghost use Rattle.std.specs.Prelude.{◌≡◌, ℕ, List};
 ghost use Rattle.cb_rma.specs.declared.step.Step.{Step};
 ghost use Rattle.cb_rma_text.specs.First.{First};

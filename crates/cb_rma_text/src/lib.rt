@@ -1,4 +1,4 @@
-//! Schedules of remote orders as text: what a user writes, an event a line behind a header, and what
+//! Schedules of remote orders as text: what a user writes, an event a line after a header, and what
 //! is printed of each event. The reader takes exactly the schedules that are in the form, and tells
 //! the first line that is not.
 #![tactic(auto)]

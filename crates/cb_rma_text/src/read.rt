@@ -1,3 +1,5 @@
+//! A text of a schedule is read.
+
 ghost use Rattle.std.specs.Prelude.{◌≡◌, ◌+◌, ◌≤◌, MatchResult, IfOk};
 ghost use Rattle.cb_script.specs.Spelling.{lines_of};
 ghost use Rattle.cb_rma_text.specs.First.{First};
@@ -65,7 +67,7 @@ pub(crate) fn schedule_of(alloc: Global, bytes: &[u8]) -> Result<Schedule, Fault
     Ok(Schedule { window, events })
 }
 
-/// The events of a text behind a header, or the first line that is none, or is one too many.
+/// The events of a text after a header, or the first line that is none, or is one too many.
 fn events_of(alloc: Global, text: &[u8]) -> Result<Vec<Step>, Fault>
     ensures { MatchResult result
         (λ events. AreTheEvents (lines_of text.now) events.items)
@@ -87,7 +89,7 @@ fn events_of(alloc: Global, text: &[u8]) -> Result<Vec<Step>, Fault>
     Ok(events)
 }
 
-/// That the line behind the header and so many events is outside the form.
+/// That the line after the header and so many events is outside the form.
 fn fault_behind(events: usize) -> Fault
     requires { events ≤ 20000 }
     ensures { result ≡ Line (events + 2) }

@@ -1,3 +1,5 @@
+//! A schedule from its bytes to the text of what is said.
+
 ghost use Rattle.std.specs.Prelude.{◌≡◌, ◌≤◌, ◌⊎◌, ℕ, List, length, Ok, IfOk, IsErr};
 ghost use Rattle.cb_rma.specs.Schedule.{start, replies};
 ghost use Rattle.cb_rma_text.specs.Form.{IsWindow};
@@ -13,7 +15,7 @@ use std::alloc::Global;
 
 /// What is made of bytes: the text of all that is said to the schedule that they spell, or the text
 /// that tells the first line outside the form. It takes memory for the schedule, for its messages
-/// and rows, and for the text. The only error is want of memory.
+/// and rows, and for the text. The only error is out of memory.
 pub fn rma_bytes(alloc: Global, bytes: &[u8]) -> Result<Verdict, NoMemory>
     ensures verdict { IfOk result (IsVerdict bytes.now) }
     ensures yields { (text : List ℕ) → Yields bytes.now text

@@ -1,3 +1,5 @@
+//! What is said to events, as text.
+
 ghost use Rattle.std.specs.Prelude.{◌≡◌, ◌∷◌, ◌++◌, [], IfOk, OnOk};
 ghost use Rattle.cb_rma_text.specs.Texts.{word_then_number, handled_line, heard_line, row_line, said_line, said_text, submitted_line, refusal_text};
 

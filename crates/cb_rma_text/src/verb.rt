@@ -1,3 +1,5 @@
+//! The verbs of events.
+
 ghost use Rattle.std.specs.Prelude.{◌≡◌};
 ghost use Rattle.cb_script.specs.Found.{Finds};
 ghost use Rattle.cb_rma_text.specs.Verbs.{verb_word, numbered};

@@ -65,7 +65,7 @@ pub record HasTaken (m : Sat) (n : ℕ) (m' : Sat) : Type 0 where
 abbrev pub took : Step LockSlot → Sat → ℕ → Sat → Type 0
 took st m n m' = (n ≡ st.first → HasTaken m n m') × (n ≢ st.first → m' ≡ m)
 
--- the turn that a seat made which gives this far state, and behind which it keeps this order
+-- the turn that a seat made which gives this far state, and after which it keeps this order
 abbrev pub turn_of : Job → Option Reply → Option Kept → FarState → ℕ → View → Turn
 turn_of job reply keeps far n v = record {
   job = job;

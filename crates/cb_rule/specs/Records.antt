@@ -147,7 +147,7 @@ pub record IsSettledFrom (es : List Entry) (since : ℕ) (e : Entry) : Type 0 wh
   pub parts : es ≡ newer ++ e ∷ older
   pub long : since ≤ length older
 
--- it is one of the old ones, or was settled behind them
+-- it is one of the old ones, or was settled after them
 abbrev pub IsOldOrLater : List Entry → List Entry → ℕ → Entry → Type 0
 IsOldOrLater es old ended e = Has e old ⊎ IsSettledFrom es ended e
 
@@ -162,8 +162,8 @@ old_by base [] = base
 old_by base (t ∷ ts) = t.left ++ base
 
 -- What a view wrote stands in order with its turns. When a turn began, each entry that the view had
--- was settled; and each that it had not yet when its turn before ended, or when it last took another
--- view in, was settled behind the end of that turn. So is what it wrote since its last turn.
+-- was settled; and each that it had not yet when its turn before ended, or when it last took
+-- another view in, was settled after the end of that turn. So is what it wrote since its last turn.
 pub record InOrder (es : List Entry) (since : ℕ) (had old : List Entry) (ended : ℕ)
     (base : List Entry) (turns : List Turn) (written : List Entry) : Type 0 where
   pub had_by : Each (IsSettledBy es since) had

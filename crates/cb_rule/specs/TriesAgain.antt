@@ -57,7 +57,7 @@ abbrev pub may_come_loose : FarState → ℕ → ℕ → ℕ → Bool
 may_come_loose far pages frames loose = ltb loose far.code.k && (leb (2 * far.code.k + 360) frames
     && (leb (28 * far.code.k + 2600) frames || not (is_wide far pages)))
 
--- a turn of this job, behind this order and so answered, that gave this far state is made again
+-- a turn of this job, after this order and so answered, that gave this far state is made again
 abbrev pub is_to_try_again : FarState → Option Kept → Job → Option Reply → Bool
 is_to_try_again gave order job (Some (NoRoom frames loose nodes)) =
     may_come_loose gave (job_pages gave order job) frames loose

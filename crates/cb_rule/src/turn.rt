@@ -1,3 +1,5 @@
+//! A turn as the record keeps it.
+
 use cb_types::{Job, Kept, Reply};
 use cb_world::{Access, Entry, Far, Shown};
 
@@ -21,7 +23,7 @@ pub struct Turn {
     pub ended: u64,
     /// The first one first.
     pub acts: [Access; 0],
-    /// The orders that its seat kept before it and behind it.
+    /// The orders that its seat kept before it and after it.
     pub order: Option<Kept>,
     pub keeps: Option<Kept>,
     /// The far states that it took and gave.

@@ -1,3 +1,5 @@
+//! What a pass knows: its pins, claims, entries and turns.
+
 ghost use Rattle.std.specs.Prelude.{ℕ, Bool, List, Option};
 ghost use Rattle.std.specs.Borrow.{ftrue};
 ghost use Rattle.std.specs.Coded.{codes};

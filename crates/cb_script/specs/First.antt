@@ -17,7 +17,7 @@ pub record HasHeader (bytes : List ℕ) (c : Config) : Type 0 where
   pub others : List (List ℕ)
   pub text : lines_of bytes ≡ header_line c ∷ others
 
--- the place behind a script's lines
+-- the place after a script's lines
 abbrev pub place_behind : Mode → Script → LinePlace
 place_behind mode s = record { mode = mode; nodes = s.config.nodes; before = s.lines }
 

@@ -84,19 +84,19 @@ IsNameKnown before lane (Unpin name) = KnowsName before lane name
 IsNameKnown before lane (Filter name) = KnowsName before lane name
 IsNameKnown before lane _ = Unit {0}
 
--- The lane may stand behind these lines: there are lanes 0 to 15, and lane 0 stands first.
+-- The lane may stand after these lines: there are lanes 0 to 15, and lane 0 stands first.
 pub record IsLane (before : List Line) (lane : ℕ) : Type 0 where
   pub low : lane ≤ 15
   pub first : lane ≡ 0 → AllByRecursion (λ l. l.lane.n ≡ 0) before
 
--- The line may stand behind these lines. The header is line 1.
+-- The line may stand after these lines. The header is line 1.
 pub record MayFollow (nodes : ℕ) (before : List Line) (l : Line) : Type 0 where
   pub lane : IsLane before l.lane.n
   pub line : l.line ≡ length before + 2
   pub request : IsRequest nodes l.request
   pub known : IsNameKnown before l.lane.n l.request
 
--- each line may stand behind the lines before it
+-- each line may stand after the lines before it
 abbrev pub AreLines : ℕ → List Line → List Line → Type 0
 AreLines nodes before [] = Unit {0}
 AreLines nodes before (l ∷ after) =

@@ -1,4 +1,4 @@
--- The words behind LANE, by what they are for.
+-- The words after LANE, by what they are for.
 use Rattle.std.specs.Prelude.{ℕ, List, [], ◌∷◌, ◌++◌, Option, None, Some, codes}
 use Rattle.std.specs.Fmt.{decimal}
 use Rattle.hex.specs.Hex.{encode_lower}
@@ -96,7 +96,7 @@ first_word (word ∷ words) = word
 abbrev pub verb_of : Request → List ℕ
 verb_of r = first_word (phrase_words (phrase_of r))
 
--- a verb, and a space and a name behind it where there is one
+-- a verb, and a space and a name after it where there is one
 abbrev pub with_name : List ℕ → Option (List ℕ) → List ℕ
 with_name verb None = verb
 with_name verb (Some name) = verb ++ 32 ∷ name

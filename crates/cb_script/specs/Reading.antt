@@ -84,12 +84,12 @@ pub record ComesNext (place : LinePlace) (text : List ℕ) (l : Line) : Type 0 w
   pub allowed : FitsMode (phrase_of l.request) place.mode
   pub spelled : text ≡ script_line l
 
--- the names are still those made, with the request's line behind these lines, whatever its number
+-- the names are still those made, with the request's line after these lines, whatever its number
 abbrev pub StaysNamed : BTreeMap ℕ ℕ → List Line → Lane → Request → Type 0
 StaysNamed names before lane r =
     (line : ℕ) → HasNames names (before ++ record { lane = lane; line = line; request = r } ∷ [])
 
--- the place behind these lines
+-- the place after these lines
 abbrev pub line_place : Limits → List Line → LinePlace
 line_place limits before = record { mode = limits.mode; nodes = limits.nodes; before = before }
 
@@ -129,7 +129,7 @@ HeaderFault text reasons.Config =
     (c : Config) × AreNumbers c × (text ≡ header_line c) × (IsAccepted c → ⊥)
 HeaderFault text _ = ⊥
 
--- the least lane that may stand behind these lines: 1 where another lane than 0 is among them
+-- the least lane that may stand after these lines: 1 where another lane than 0 is among them
 abbrev pub IsLeastLane : List Line → ℕ → Type 0
 IsLeastLane before least =
     ((least ≡ 0) × AllByRecursion (λ l. l.lane.n ≡ 0) before)
@@ -143,7 +143,7 @@ pub record AreTheLines (mode : Mode) (nodes : ℕ) (texts : List (List ℕ)) (li
   pub few : length lines ≤ 20000
   pub read : map script_line lines ≡ texts
 
--- a text among these that is no line behind those before it
+-- a text among these that is no line after those before it
 pub record HasBadLine (mode : Mode) (nodes : ℕ) (texts : List (List ℕ)) (line : ℕ) (reason : Reason)
     : Type 0 where
   pub before : List Line

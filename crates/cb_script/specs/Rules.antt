@@ -19,7 +19,7 @@ pub record LinePlace : Type 0 where
   pub nodes : ℕ
   pub before : List Line
 
--- the word spells the number: `0`, or a digit 1 to 9 and at the most eight digits behind it
+-- the word spells the number: `0`, or a digit 1 to 9 and at the most eight digits after it
 abbrev pub IsNumber : List ℕ → ℕ → Type 0
 IsNumber word n = (n < 10 ^ 9) × (word ≡ decimal n)
 
@@ -59,7 +59,7 @@ HasLength (Phrase.Making name hex) = length hex ≤ 2 * most_bytes
 HasLength (Phrase.Writing name at hex) = length hex ≤ 2 * most_bytes
 HasLength _ = Unit {0}
 
--- what each reason asks of a phrase behind this lane; the others ask nothing of it
+-- what each reason asks of a phrase after this lane; the others ask nothing of it
 abbrev pub Rule : LinePlace → ℕ → Phrase → Reason → Type 0
 Rule place lane phrase reasons.Name = HasName phrase
 Rule place lane phrase reasons.Known = HasKnown place lane phrase

@@ -13,7 +13,7 @@ without_empty_end [] = []
 without_empty_end ([] ∷ []) = []
 without_empty_end (text ∷ texts) = text ∷ without_empty_end texts
 
--- The lines of an input stand between its line feeds. An empty text behind the last one is no line.
+-- The lines of an input stand between its line feeds. An empty text after the last one is no line.
 abbrev pub lines_of : List ℕ → List (List ℕ)
 lines_of bytes = without_empty_end (slice_split (λ b. b == 10) bytes)
 
@@ -49,7 +49,7 @@ script_line l = join_with_byte 32 (line_words l)
 abbrev pub script_lines : Script → List (List ℕ)
 script_lines s = header_line s.config ∷ map script_line s.lines
 
--- a script as it is printed: a line feed behind each line
+-- a script as it is printed: a line feed after each line
 abbrev pub script_text : Script → List ℕ
 script_text s = flat_map (λ line. line ++ 10 ∷ []) (script_lines s)
 

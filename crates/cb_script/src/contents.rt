@@ -1,3 +1,5 @@
+//! The bytes of a make and of a write, from their hexadecimal digits.
+
 ghost use Rattle.std.specs.Prelude.{◌≡◌, ◌↔◌, ◌*◌, ◌≤◌, ◌⊎◌, codes, length, IsTrue};
 ghost use Rattle.hex.specs.Hex.{encode_lower};
 ghost use Rattle.cb_types.specs.Config.{most_bytes};

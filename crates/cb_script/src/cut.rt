@@ -1,3 +1,5 @@
+//! A text is cut at a byte.
+
 ghost use Rattle.std.specs.Prelude.{◌≡◌, ◌==◌, ◌+◌, ◌<◌, ◌≤◌, ◌∷◌, [], drop, length, take, IfSome, MatchOption};
 ghost use Rattle.std.specs.List.{slice_split};
 ghost use Rattle.cb_script.specs.Cut.{texts};
@@ -16,7 +18,7 @@ fn place_in(bytes: &[u8], separator: u8) -> Option<usize>
     memchr(separator, bytes)
 }
 
-/// The bytes before the first of this value and those behind it, where there is one.
+/// The bytes before the first of this value and those after it, where there is one.
 pub(crate) fn cut_at(bytes: &[u8], separator: u8) -> Option<(&[u8], &[u8])>
     ensures cut { MatchOption result
         (slice_split (λ b. b == separator) bytes.now ≡ bytes.now ∷ [])
@@ -28,7 +30,7 @@ pub(crate) fn cut_at(bytes: &[u8], separator: u8) -> Option<(&[u8], &[u8])>
     Some((&bytes[..end], &bytes[end + 1..]))
 }
 
-/// The first line of a text that is not empty, and the text behind its line feed.
+/// The first line of a text that is not empty, and the text after its line feed.
 pub fn first_line(text: &[u8]) -> (&[u8], &[u8])
     requires { 0 < length text.now }
     ensures lines { lines_of text.now ≡ result.0.now ∷ lines_of result.1.now }

@@ -1,3 +1,5 @@
+//! Hexadecimal digits.
+
 ghost use Rattle.std.specs.Prelude.{◌≡◌, ◌<◌, ◌%◌, length, slice_index, All, IfOk, MatchOption};
 ghost use Rattle.hex.specs.Hex.{encode_lower, lower_digits};
 ghost use Rattle.cb_script.specs.Hexadecimal.{IsLowerDigit};

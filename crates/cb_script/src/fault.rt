@@ -1,3 +1,5 @@
+//! What is wrong with a script: its reasons, in their order.
+
 ghost use Rattle.std.specs.Prelude.{◌≡◌};
 ghost use Rattle.cb_script.specs.declared.fault.ScriptFault.TheVariants.{NoMemory as OutOfMemory};
 ghost use Rattle.cb_script.specs.declared.fault.Refusal.TheVariants.{NoMemory as RefusedMemory, Broken};
@@ -13,11 +15,11 @@ pub enum Reason {
     Header,
     /// A field of the header is out of its range.
     Config,
-    /// There are more than 20,000 lines behind the header.
+    /// There are more than 20,000 lines after the header.
     Lines,
     /// The spaces, the verb or the count of words.
     Shape,
-    /// The lane is no number up to 15, or it is lane 0 behind a line of another lane.
+    /// The lane is no number up to 15, or it is lane 0 after a line of another lane.
     Lane,
     /// The name has not 1 to 16 lower-case letters and digits.
     Name,
@@ -98,7 +100,7 @@ impl From<NoMemory> for ScriptFault {
 /// Why a line was not read.
 #[derive(Clone, Copy)]
 pub(crate) enum Refusal {
-    /// The line breaks the rule behind this reason.
+    /// The line breaks the rule after this reason.
     Broken(Reason),
     /// There was no memory for what was read.
     NoMemory,

@@ -1,3 +1,5 @@
+//! The header of a script.
+
 ghost use Rattle.std.specs.Prelude.{◌≡◌, ◌<◌, ◌^◌, MatchResult, codes};
 ghost use Rattle.cb_types.specs.Config.{IsAccepted};
 ghost use Rattle.cb_script.specs.Spelling.{header_words, header_line, setting};

@@ -1,3 +1,5 @@
+//! The names that were made so far.
+
 ghost use Rattle.std.specs.Prelude.{◌≡◌, ◌∷◌, [], ◌++◌, List, MatchResult, IfOk};
 ghost use Rattle.cb_script.specs.declared.script.Line.{Line};
 ghost use Rattle.cb_script.specs.Form.{IsName, IsNameNew, KnowsName, MakesName};

@@ -1,3 +1,5 @@
+//! The laws of scripts as text, as clauses of a function that does nothing.
+
 ghost use Rattle.std.specs.Prelude.{◌≡◌, ◌≤◌, ◌↔◌, ℕ, List, length};
 ghost use Rattle.cb_script.specs.declared.fault.Reason.{Reason};
 ghost use Rattle.cb_script.specs.declared.script.Mode.{Mode};

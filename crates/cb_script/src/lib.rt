@@ -1,4 +1,4 @@
-//! The script: what a user writes, one request a line behind a header. The reader accepts exactly
+//! The script: what a user writes, one request a line after a header. The reader accepts exactly
 //! the scripts that are in the form, and tells the first fault of every other input; the printer
 //! gives a script's text back.
 #![tactic(auto)]

@@ -1,3 +1,5 @@
+//! A line of a script, cut into words.
+
 ghost use Rattle.std.specs.Prelude.{◌≡◌, ◌+◌, ◌<◌, ◌∷◌, ◌++◌, [], List, length, IfOk, MatchBool};
 ghost use Rattle.std.specs.List.{AllByRecursion};
 ghost use Rattle.cb_script.specs.declared.script.Line.{Line};
@@ -17,9 +19,9 @@ use std::alloc::Global;
 /// A line has at the most so many words.
 const MOST_WORDS: usize = 5;
 
-/// The line of this text and number, where it may stand behind the lines before it: its lane is
-/// not below the least. The names are those that were made on the lines before, and then on this
-/// line too.
+/// The line of this text and number, where it may stand after the lines before it: its lane is not
+/// below the least. The names are those that were made on the lines before, and then on this line
+/// too.
 pub(crate) fn line_of<'a>(
     alloc: Global,
     names: &mut Names,

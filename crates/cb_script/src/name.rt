@@ -1,3 +1,5 @@
+//! Names of objects.
+
 ghost use Rattle.std.specs.Prelude.{◌≡◌, ◌↔◌, IsTrue};
 ghost use Rattle.cb_script.specs.Form.{IsName, IsNameByte};
 ghost use Rattle.cb_script.specs.Reading.{number_of_name};

@@ -1,3 +1,5 @@
+//! Numbers, and those of lanes, nodes and settings.
+
 ghost use Rattle.std.specs.Prelude.{◌≡◌, ◌<◌, ◌≤◌, ◌^◌};
 ghost use Rattle.std.specs.Str.Parse.{AllDigits, digits_value};
 ghost use Rattle.cb_types.specs.Config.{most_bytes};
@@ -13,7 +15,7 @@ const LAST_LANE: u32 = 15;
 /// The greatest place at which a write begins.
 const LAST_START: u32 = MOST_BYTES;
 
-/// The number that the word spells: 0, or a digit 1 to 9 and at the most eight digits behind it.
+/// The number that the word spells: 0, or a digit 1 to 9 and at the most eight digits after it.
 pub fn number_of(word: &[u8]) -> Option<u32>
     ensures { Finds result (λ n. IsNumber word.now n) }
 {

@@ -1,3 +1,5 @@
+//! The words of a line, by what they are for.
+
 ghost use Rattle.std.specs.Prelude.{◌≡◌, ◌∷◌, [], MatchOption};
 ghost use Rattle.cb_script.specs.Cut.{texts, phrase};
 ghost use Rattle.cb_script.specs.Phrase.{Phrase, phrase_words};
@@ -6,7 +8,7 @@ use crate::verb::{
     BareVerb, NameVerb, NodeVerb, bare_verb_of, is_word, name_verb_of, node_verb_of,
 };
 
-/// The words behind the lane of a line, by what they are for, each as it stands in the input.
+/// The words after the lane of a line, by what they are for, each as it stands in the input.
 #[derive(Clone, Copy)]
 pub(crate) enum Words<'a> {
     /// `make NAME HEX`
@@ -36,7 +38,7 @@ pub(crate) enum Words<'a> {
     },
 }
 
-/// What the words behind a lane are for, by their verb and their count.
+/// What the words after a lane are for, by their verb and their count.
 pub(crate) fn phrase_of<'a>(words: &[&'a [u8]]) -> Option<Words<'a>>
     ensures { MatchOption result ((p : Phrase) → texts words.now ≡ phrase_words p → ⊥)
         (λ found. texts words.now ≡ phrase_words (phrase found)) }

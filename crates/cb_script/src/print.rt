@@ -1,3 +1,5 @@
+//! A script as text.
+
 ghost use Rattle.std.specs.Prelude.{◌≡◌, ◌<◌, ◌≤◌, ◌∷◌, ◌++◌, [], ℕ, List, length, IfOk, OnOk};
 ghost use Rattle.std.specs.Fmt.{decimal};
 ghost use Rattle.std.specs.List.{join_with_byte};
@@ -15,9 +17,9 @@ use cb_types::{Bytes, Config, NoMemory, Request};
 use itoa::Buffer;
 use std::alloc::Global;
 
-/// The text of a script: the header and each line, with a line feed behind each. A text of more
-/// than 1,048,576 bytes is too long to be read again: an input of just that length with no line
-/// feed at its end is printed one byte longer.
+/// The text of a script: the header and each line, with a line feed after each. A text of more than
+/// 1,048,576 bytes is too long to be read again: an input of just that length with no line feed at
+/// its end is printed one byte longer.
 pub fn print_script(alloc: Global, script: &Script) -> Result<Bytes, NoMemory>
     ensures text { IfOk result (λ text. text ≡ script_text script.now) }
     ensures spells { (mode : Mode) → IsScript script.now → AreInMode mode script.now.lines
@@ -87,7 +89,7 @@ fn push_request(alloc: Global, text: &mut Vec<u8>, request: &Request) -> Result<
     }
 }
 
-/// Adds the verb of a request at the end, and the name behind it, with a space before each.
+/// Adds the verb of a request at the end, and the name after it, with a space before each.
 fn push_verb(text: &mut Vec<u8>, request: &Request) -> Result<(), NoMemory>
     ensures { OnOk result (text.new.items
         ≡ text.old.items ++ 32 ∷ with_name (verb_of request.now) (name_of request.now)) }

@@ -1,3 +1,5 @@
+//! A script is read from bytes.
+
 ghost use Rattle.std.specs.Prelude.{◌≡◌, ◌≤◌, ◌⊎◌, ◌∷◌, ◌++◌, [], ℕ, List, length, IfOk, IfErr, MatchResult, Ok, Err};
 ghost use Rattle.cb_script.specs.declared.fault.Reason.{Reason};
 ghost use Rattle.cb_script.specs.declared.script.Line.{Line};
@@ -21,7 +23,7 @@ use std::collections::BTreeMap;
 /// The longest script has so many bytes.
 const LONGEST_SCRIPT: usize = 1_048_576;
 
-/// The longest script has so many lines behind its header.
+/// The longest script has so many lines after its header.
 const MOST_LINES: usize = 20_000;
 
 /// Reads the script that the bytes spell in this mode, or tells the first bad line with the least
@@ -67,7 +69,7 @@ fn script_of(alloc: Global, bytes: &[u8], mode: Mode) -> Result<Script, ScriptFa
     }
 }
 
-/// The lines of a text behind a header, or the first of them that is bad.
+/// The lines of a text after a header, or the first of them that is bad.
 fn read_lines(alloc: Global, limits: Limits, text: &[u8]) -> Result<Lines, ScriptFault>
     requires { length text.now ≤ 1048576 }
     ensures { MatchResult result
@@ -100,7 +102,7 @@ fn read_lines(alloc: Global, limits: Limits, text: &[u8]) -> Result<Lines, Scrip
     Ok(lines)
 }
 
-/// The least lane that may stand behind a line of this lane, where this one was the least.
+/// The least lane that may stand after a line of this lane, where this one was the least.
 fn least_behind(least: u8, lane: Lane) -> u8
     ensures { (before : List Line) (l : Line) → IsLeastLane before least → l.lane ≡ lane
         → IsLeastLane (before ++ l ∷ []) result }

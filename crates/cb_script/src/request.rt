@@ -1,3 +1,5 @@
+//! The request that a line's words spell.
+
 ghost use Rattle.std.specs.Prelude.{◌≡◌, ◌↔◌, [], ℕ, List, IfOk, IsTrue, MatchResult};
 ghost use Rattle.cb_script.specs.declared.script.Line.{Line};
 ghost use Rattle.cb_script.specs.Cut.{phrase};
@@ -23,8 +25,8 @@ pub(crate) struct Limits {
     pub(crate) nodes: u8,
 }
 
-/// The request of these words in this lane, where it may stand behind the lines that made the
-/// names. A make's name is then among them.
+/// The request of these words in this lane, where it may stand after the lines that made the names.
+/// A make's name is then among them.
 pub(crate) fn request_of<'a>(
     alloc: Global,
     names: &mut Names,

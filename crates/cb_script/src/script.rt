@@ -1,3 +1,5 @@
+//! A script that was read.
+
 ghost use Rattle.std.specs.Prelude.{◌≡◌, [], ◌∷◌, ◌++◌, OnOk, OnErr};
 
 use cb_types::{Config, Lane, NoMemory, Request};
@@ -14,7 +16,7 @@ pub enum Mode {
     Threads,
 }
 
-/// A line of a script behind its header, which is line 1.
+/// A line of a script after its header, which is line 1.
 #[derive(Drop)]
 pub struct Line {
     pub lane: Lane,
@@ -22,7 +24,7 @@ pub struct Line {
     pub request: Request,
 }
 
-/// A script that was read: the header's configuration, and the lines behind the header.
+/// A script that was read: the header's configuration, and the lines after the header.
 #[derive(Drop)]
 pub struct Script {
     pub config: Config,
@@ -61,7 +63,7 @@ impl Lines {
         self.items.as_slice()
     }
 
-    /// Adds a line at the end. Want of memory leaves the list as it was.
+    /// Adds a line at the end. Running out of memory leaves the list as it was.
     pub fn push(&mut self, item: Line) -> Result<(), NoMemory>
         ensures ok { OnOk result (self.new ≡ self.old ++ item ∷ []) }
         ensures err { OnErr result (self.new ≡ self.old) }

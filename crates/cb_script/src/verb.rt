@@ -1,3 +1,5 @@
+//! The verbs of lines.
+
 ghost use Rattle.std.specs.Prelude.{◌≡◌, ◌↔◌, IsTrue};
 ghost use Rattle.cb_script.specs.Found.{Finds};
 ghost use Rattle.cb_script.specs.Phrase.{name_verb, node_verb, bare_verb};

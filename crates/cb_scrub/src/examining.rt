@@ -1,3 +1,5 @@
+//! Rows are examined: a code word, one wrong row, or more.
+
 ghost use Rattle.std.specs.Prelude.{◌≡◌, ℕ, ◌^◌, ◌<◌, ◌≤◌, IfNone, IfSome, List, length};
 ghost use Rattle.cb_gf256.specs.Product.{◌⊗◌};
 ghost use Rattle.cb_gf256.specs.Power.{power};

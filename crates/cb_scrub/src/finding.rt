@@ -20,8 +20,8 @@ pub(crate) fn first_wrong_column(r: u32, rows: &Rows, len: usize) -> Option<usiz
     first_wrong_from(r, rows, from, len)
 }
 
-/// Where the first whole block with a syndrome that is not 0 begins, or the columns behind the
-/// whole blocks.
+/// Where the first whole block with a syndrome that is not 0 begins, or the columns after the whole
+/// blocks.
 fn zero_front(r: u32, rows: &Rows, len: usize) -> usize
     requires few { r ≤ 4 }
     requires positions { length rows.now ≤ 20 }

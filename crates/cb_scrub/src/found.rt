@@ -1,3 +1,5 @@
+//! What syndromes tell.
+
 /// What the syndromes of rows tell.
 #[derive(Clone, Copy, Debug, PartialEq, Eq)]
 pub enum Found {

@@ -1,3 +1,5 @@
+//! One wrong row is made again.
+
 ghost use Rattle.std.specs.Prelude.{◌≡◌, ℕ, ◌<◌, ◌==◌, if◌then◌else◌, List, length};
 ghost use Rattle.cb_gf256.specs.Rows.{byte_at, HaveLength};
 ghost use Rattle.cb_scrub.specs.Wrong.{HaveParities, IsOneWrong, IsWordBut};

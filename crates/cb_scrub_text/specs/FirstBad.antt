@@ -17,13 +17,13 @@ pub record AreAsked (lines : List (List ℕ)) : Type 0 where
   pub form : IsAsked asked
   pub are : asked_lines asked ≡ lines
 
--- Behind these lines one is missing, or nothing that may be asked goes on with the next.
+-- After these lines one is missing, or nothing that may be asked goes on with the next.
 abbrev pub StopBefore : List (List ℕ) → List (List ℕ) → Type 0
 StopBefore before [] = AreAsked before → ⊥
 StopBefore before (line ∷ after) = Begin (before ++ line ∷ []) → ⊥
 
 -- The lines before this one are the first ones of something that may be asked, and with it they are
--- not. Where a line is missing, it is the one behind the last.
+-- not. Where a line is missing, it is the one after the last.
 pub record IsBadLine (bytes : List ℕ) (line : ℕ) : Type 0 where
   pub before : List (List ℕ)
   pub after : List (List ℕ)

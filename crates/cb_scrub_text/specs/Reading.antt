@@ -19,7 +19,7 @@ IsReadInto len before i text now true =
     (row : List ℕ) × SpellsRow len text row × (now ≡ slice_set before i row)
 IsReadInto len before i text now false = (row : List ℕ) → SpellsRow len text row → ⊥
 
--- behind so many rows a line is missing, or the next line spells no row of so many bytes or is one
+-- after so many rows a line is missing, or the next line spells no row of so many bytes or is one
 -- too many
 abbrev pub StopsBehind : ℕ → ℕ → List (List ℕ) → List (List ℕ) → Type 0
 StopsBehind len count rows [] = length rows < count
@@ -53,7 +53,7 @@ AreRowsFilled len count texts rows (Some i) = StopsAt len count texts i
 abbrev pub IsNoRow : List ℕ → Type 0
 IsNoRow text = (len : ℕ) → 1 ≤ len → len ≤ 4096 → (row : List ℕ) → SpellsRow len text row → ⊥
 
--- why the lines behind a header are none that may be asked, and the number of the bad line: the
+-- why the lines after a header are none that may be asked, and the number of the bad line: the
 -- first row is missing or none, or the rows have the length of the first and stop
 pub data BadRows (count : ℕ) (texts : List (List ℕ)) (line : ℕ) : Type 0 where
   NoLine : texts ≡ [] → line ≡ 2 → BadRows count texts line
@@ -64,7 +64,7 @@ pub data BadRows (count : ℕ) (texts : List (List ℕ)) (line : ℕ) : Type 0 w
       → ((n : ℕ) (row : List ℕ) → SpellsRow n text row → n ≡ len) → (i : ℕ)
       → StopsAt len count texts i → line ≡ i + 2 → BadRows count texts line
 
--- what was read behind a header of these sizes
+-- what was read after a header of these sizes
 abbrev pub AreRowsRead : ℕ → ℕ → List (List ℕ) → Reading → Type 0
 AreRowsRead k r texts (Read a) =
     (a.k ≡ k) × (a.r ≡ r) × IsAsked a × (texts ≡ map encode_lower a.rows)

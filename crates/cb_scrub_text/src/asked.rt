@@ -1,3 +1,5 @@
+//! The rows that are to be examined.
+
 use cb_gf256::Rows;
 
 /// The rows that are to be examined.
@@ -7,6 +9,6 @@ pub struct Asked {
     pub k: u32,
     /// How many parities there are.
     pub r: u32,
-    /// The data rows, and the parities behind them.
+    /// The data rows, and the parities after them.
     pub rows: Rows,
 }

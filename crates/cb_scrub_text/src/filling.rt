@@ -10,7 +10,7 @@ use cb_types::NoMemory;
 use std::alloc::Global;
 
 /// Reads all rows from the lines of a text, which has no other lines. Else it answers at which row
-/// it stopped: its line is missing or spells no row of as many bytes, or there is a line behind the
+/// it stopped: its line is missing or spells no row of as many bytes, or there is a line after the
 /// last row.
 pub(crate) fn fill_rows(
     alloc: Global,

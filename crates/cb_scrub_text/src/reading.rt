@@ -1,3 +1,5 @@
+//! An input to scrub is read.
+
 ghost use Rattle.std.specs.Prelude.{IfOk};
 ghost use Rattle.cb_script.specs.Spelling.{lines_of};
 ghost use Rattle.cb_scrub_text.specs.Form.{AreSizes};
@@ -44,7 +46,7 @@ pub(crate) fn reading_of(alloc: Global, bytes: &[u8]) -> Result<Reading, NoMemor
     }
 }
 
-/// Reads the rows of a text behind a header of these sizes.
+/// Reads the rows of a text after a header of these sizes.
 fn rows_behind(alloc: Global, sizes: Sizes, text: &[u8]) -> Result<Reading, NoMemory>
     requires { AreSizes sizes.k sizes.r }
     ensures { IfOk result (AreRowsRead sizes.k sizes.r (lines_of text.now)) }

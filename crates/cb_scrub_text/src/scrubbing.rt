@@ -1,3 +1,5 @@
+//! Rows from their bytes to the text of what was found.
+
 ghost use Rattle.std.specs.Prelude.{◌≡◌, ◌⊎◌, ℕ, List, Ok, IsErr, IfOk};
 ghost use Rattle.cb_scrub_text.specs.Verdicts.{IsVerdict, Yields, Refuses};
 
@@ -9,7 +11,7 @@ use std::alloc::Global;
 
 /// Examines the rows that the bytes spell, and tells what was found: that they are a code word, the
 /// one row that was wrong and all rows with that one made right, or the first syndrome that is not
-/// 0. Other bytes are refused, with the first line that is outside the form. The only error is want
+/// 0. Other bytes are refused, with the first line that is outside the form. The only error is out
 /// of memory.
 pub fn scrub_bytes(alloc: Global, bytes: &[u8]) -> Result<Verdict, NoMemory>
     ensures verdict { IfOk result (IsVerdict bytes.now) }

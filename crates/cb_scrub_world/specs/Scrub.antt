@@ -41,7 +41,7 @@ Replaces old set rows position new =
     (shard : Shard) × (slice_get set.shards position ≡ Some shard)
     × (new ≡ with_row old shard.node shard.key (row_of_others rows position))
 
--- The nodes behind an examination: all rows were given out, and where one row alone was wrong, the
+-- The nodes after an examination: all rows were given out, and where one row alone was wrong, the
 -- sum of all others stands in its place.
 abbrev pub LeavesNodes : NodesState → SetState → Found → NodesState → Type 0
 LeavesNodes old set Clean new = new ≡ with_rows_given old (length set.shards)

@@ -1,3 +1,5 @@
+//! Which set is scrubbed next.
+
 ghost use Rattle.std.specs.Prelude.{ℕ, ◌+◌, ◌^◌, ◌<◌, ◌≤◌, IfNone, IfSome, None};
 ghost use Rattle.cb_scrub_world.specs.Next.{Above, IsNextSet, AreNone};
 

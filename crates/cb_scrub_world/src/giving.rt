@@ -1,3 +1,5 @@
+//! All rows of a set are given out.
+
 ghost use Rattle.std.specs.Prelude.{◌≡◌, ◌+◌, ◌*◌, ◌^◌, ◌<◌, All, length};
 ghost use Rattle.cb_gf256.specs.Rows.{AreRows, HaveLength};
 ghost use Rattle.cb_world.specs.Fetched.{with_rows_given};

@@ -1,3 +1,5 @@
+//! A wrong row is made right at its node.
+
 ghost use Rattle.std.specs.Prelude.{◌≡◌, ◌+◌, ◌*◌, ◌^◌, ◌<◌, All, length, IfOk, IfSome, OnErr, OnOk};
 ghost use Rattle.cb_set.specs.Nodes.{OnDistinctNodes};
 ghost use Rattle.cb_set.specs.SetState.{parities};

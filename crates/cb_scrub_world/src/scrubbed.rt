@@ -1,3 +1,5 @@
+//! What the scrub of a set answers.
+
 use cb_scrub::Found;
 use cb_types::SetId;
 

@@ -1,3 +1,5 @@
+//! The scrub of the next set.
+
 ghost use Rattle.std.specs.Prelude.{◌≡◌, ◌+◌, ◌^◌, ◌<◌, ◌≤◌, All, IfOk, IsSome, OnErr, Some, length};
 ghost use Rattle.cb_gf256.specs.InRange.{IsInRange};
 ghost use Rattle.cb_set.specs.Lost.{NodesAreMembers, lost};
@@ -21,8 +23,8 @@ use std::alloc::Global;
 
 /// Scrubs the least committed set above this one, or the least of all. Where shards of it are lost
 /// it is skipped; else all its rows are given out and examined, and where one row alone is wrong,
-/// that row is made right at its node. The world need not be sound: rows may be wrong. Want of
-/// memory changes nothing.
+/// that row is made right at its node. The world need not be sound: rows may be wrong. Running out
+/// of memory changes nothing.
 pub fn scrub_next(alloc: Global, far: &mut Far, after: Option<SetId>) -> Result<Scrubbed, NoMemory>
     requires { MayScrub far.old }
     ensures scrubs { IfOk result (λ scrubbed. Scrubs after far.old scrubbed far.new) }

@@ -1,3 +1,5 @@
+//! Which positions of a set are lost, and by which crash.
+
 ghost use Rattle.std.specs.Prelude.{◌≡◌, ◌<◌, ◌≤◌, ◌↔◌, length, take, IfOk, IfSome, IsTrue};
 ghost use Rattle.cb_set.specs.Lost.{IsWhole, NodesAreMembers, is_lost, least_lost, loss_of, lost, lost_at};
 ghost use Rattle.cb_set.specs.Surviving.{surviving};

@@ -1,3 +1,5 @@
+//! Whether two sets may join.
+
 ghost use Rattle.std.specs.Prelude.{◌↔◌, IsTrue};
 ghost use Rattle.cb_set.specs.Lost.{NodesAreMembers};
 ghost use Rattle.cb_set.specs.Matched.{IsMatched, PositionsApart};

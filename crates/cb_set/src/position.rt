@@ -1,3 +1,5 @@
+//! A data position of a set.
+
 use std::marker::Model;
 
 /// A data position: whether it is live, and the slot table of its span.

@@ -1,3 +1,5 @@
+//! A span-set: its code, shards and slot tables.
+
 ghost use Rattle.std.specs.Prelude.{◌≡◌, ◌+◌, ◌-◌, ◌^◌, ◌<◌, ◌≤◌, length, Some, slice_get, is_some, nat_eq, IfOk, OnOk, OnErr};
 ghost use Rattle.std.specs.List.{list_any};
 ghost use Rattle.cb_set.specs.SetState.{IsSet, code_of, dead_position, filled_position, fresh_set, is_live, live_at, parities, position_of, slot_at, with_cleared, without_object, with_position, with_shard};
@@ -33,8 +35,8 @@ impl Model for SpanSet {
 }
 
 impl SpanSet {
-    /// A set of spans of so many pages each, whose data positions are all dead. Positions are numbers
-    /// of 32 bits: more shards than they number are answered as want of memory.
+    /// A set of spans of so many pages each, whose data positions are all dead. Positions are
+    /// numbers of 32 bits: more shards than they number are answered as out of memory.
     pub fn new(
         alloc: Global,
         id: u64,
@@ -106,8 +108,8 @@ impl SpanSet {
         }
     }
 
-    /// Gives the data position that slot table; it is live where the table names a handle.
-    /// Want of memory changes nothing.
+    /// Gives the data position that slot table; it is live where the table names a handle. Running
+    /// out of memory changes nothing.
     pub fn fill(&mut self, position: u32, handles: &[Option<u32>]) -> Result<(), NoMemory>
         requires { position < length self.old.positions }
         ensures ok { OnOk result

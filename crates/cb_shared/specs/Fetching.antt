@@ -32,8 +32,8 @@ abbrev pub found_here_by : List Turn → Bool
 found_here_by [] = false
 found_here_by (t ∷ ts) = finds_here t.reply || found_here_by ts
 
--- The job behind a fetch that was told so: rows that it handed out are landed; where its own
--- row is not lost the object is swapped in; and else it is fetched again.
+-- The job after a fetch that was told so: rows that it handed out are landed; where its own row is
+-- not lost the object is swapped in; and else it is fetched again.
 abbrev pub job_behind_fetch : ℕ → Option Reply → Job
 job_behind_fetch h (Some (answer.Fetched set position)) = jobs.Land
 job_behind_fetch h (Some answer.Direct) = jobs.Swap (record { n = h })
@@ -47,13 +47,13 @@ job_after_land h (Some (answer.Unavailable set lost)) = jobs.Swap (record { n = 
 job_after_land h (Some (answer.NoRoom frames loose nodes)) = jobs.Swap (record { n = h })
 job_after_land h told = jobs.Fetch (record { n = h })
 
--- and behind any turn of a call that brings its object in
+-- and after any turn of a call that brings its object in
 abbrev pub job_behind_turn : ℕ → Job → Option Reply → Job
 job_behind_turn h (jobs.Fetch handle) told = job_behind_fetch h told
 job_behind_turn h jobs.Land told = job_after_land h told
 job_behind_turn h job told = jobs.Fetch (record { n = h })
 
--- so behind these turns, the newest first, of which this job comes first
+-- so after these turns, the newest first, of which this job comes first
 abbrev pub job_onward : ℕ → Job → List Turn → Job
 job_onward h first [] = first
 job_onward h first (t ∷ ts) = job_behind_turn h t.job t.reply
@@ -68,7 +68,7 @@ abbrev pub job_to_fetch : ℕ → Bool → List Turn → Job
 job_to_fetch h false ts = job_behind h ts
 job_to_fetch h true ts = jobs.Read (record { n = h })
 
--- each of these turns, the newest first, has a job that may come behind those before it
+-- each of these turns, the newest first, has a job that may come after those before it
 abbrev pub ComeInOrder : (List Turn → Job → Type 0) → List Turn → Type 0
 ComeInOrder may [] = Unit {0}
 ComeInOrder may (t ∷ ts) = may ts t.job × ComeInOrder may ts
@@ -94,11 +94,11 @@ TriesOnward h first = ComeInOrder (IsOfTry h first)
 abbrev pub AreOneTry : ℕ → List Turn → Type 0
 AreOneTry h = TriesOnward h (jobs.Fetch (record { n = h }))
 
--- behind the newest one no row is still to be landed, nor the object to be swapped in
+-- after the newest one no row is still to be landed, nor the object to be swapped in
 abbrev pub AreDone : ℕ → List Turn → Type 0
 AreDone h ts = job_behind h ts ≡ jobs.Fetch (record { n = h })
 
--- tries that came to nothing: behind them the object is fetched again
+-- tries that came to nothing: after them the object is fetched again
 abbrev pub AreTried : ℕ → List Turn → Type 0
 AreTried h ts = AreBringing h ts × AreDone h ts
 
@@ -147,7 +147,7 @@ WritesOnward h own inside past first =
 abbrev pub GoAsWrite : ℕ → Job → Type 0 → Type 0 → List Turn → Type 0
 GoAsWrite h own inside past = WritesOnward h own inside past (jobs.Fetch (record { n = h }))
 
--- so where the call goes on behind them
+-- so where the call goes on after them
 abbrev pub GoesOnAsWrite : ℕ → Job → Type 0 → Type 0 → List Turn → Type 0
 GoesOnAsWrite h own inside past ts = GoAsWrite h own inside past ts × AreDone h ts
 
@@ -169,7 +169,7 @@ abbrev pub FoundPast : ℕ → ℕ → ℕ → Look → Type 0
 FoundPast h at count l =
     (l.handle ≡ h) × (state_of l.word ≡ state.Far) × (len_of l.word < at + count)
 
--- the turns of a write of these bytes, by its looks; and where it goes on behind them
+-- the turns of a write of these bytes, by its looks; and where it goes on after them
 abbrev pub AreWrites : ℕ → ℕ → List ℕ → List Look → List Turn → Type 0
 AreWrites h at bytes ls ts = GoAsWrite h (jobs.Write (record { n = h }) at bytes)
     (HasOne (FoundInside h at (length bytes)) ls) (HasOne (FoundPast h at (length bytes)) ls) ts

@@ -65,8 +65,8 @@ told (ends.Install r) = Ok r
 told (ends.Fetch r) = fetch_answer r
 told (ends.Land r) = r
 
--- What the pass keeps behind such a turn: a new order replaces the one before, an install and a
--- landing that are done take it, and want of memory leaves it.
+-- What the pass keeps after such a turn: a new order replaces the one before, an install and a
+-- landing that are done take it, and running out of memory leaves it.
 abbrev pub keeps_of : Outcome → Option Kept → Option Kept
 keeps_of (ends.Gather r) order = gather_keeps order r
 keeps_of (ends.Install r) order = kept_behind r order
@@ -125,7 +125,7 @@ IsAnswered (asks.Fetch handle) o = IsFetched o
 IsAnswered (asks.Land done) o = IsLanded o
 
 -- What such a turn does over any desk, by each order that it may be asked with: its reply and what
--- is kept behind it are those of the job, an order that is handed out is kept then, and it is
+-- is kept after it are those of the job, an order that is handed out is kept then, and it is
 -- answered Unavailable exactly where it is to be.
 pub record AsksDesk {D : Type 0} (run : D → List Access → D → Type 0) (shows : D → Shown → Type 0)
     (c : Config) (asked : Asked) (o : Outcome) (a b : Holding D) : Type 0 where
@@ -143,7 +143,7 @@ abbrev pub fetched_of : ℕ → Result Reply NoMemory → Option ℕ
 fetched_of h (Ok answer.Freed) = Some h
 fetched_of h r = None
 
--- a turn of a fetch, and behind one that was answered Freed looks at its object: its freed entry is
+-- a turn of a fetch, and after one that was answered Freed looks at its object: its freed entry is
 -- read where the record knows it
 abbrev pub FetchFinds : Config → Handle → Result Reply NoMemory → View → View → Type 0
 FetchFinds c h r v w = (m : View) × TurnBy c (jobs.Fetch h) r v m

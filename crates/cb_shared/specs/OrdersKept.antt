@@ -25,9 +25,9 @@ FetchKeeps (answer.Fetched id position) order keeps =
     (o : DecodeOrder) × (keeps ≡ Some (Decode o)) × (o.set ≡ id.n) × (o.position ≡ position)
 FetchKeeps r order keeps = keeps ≡ order
 
--- What is kept behind a turn of this job with this reply: an order that is handed out; none behind
--- an install or a landing that is done; and else, and behind every other job, the order that was
--- kept before.
+-- What is kept after a turn of this job with this reply: an order that is handed out; none after an
+-- install or a landing that is done; and else, and after every other job, the order that was kept
+-- before.
 abbrev pub LeavesOrder : Job → Reply → Option Kept → Option Kept → Type 0
 LeavesOrder jobs.Gather r order keeps = GatherKeeps r order keeps
 LeavesOrder jobs.Install r order keeps = keeps ≡ kept_behind r order

@@ -41,7 +41,7 @@ abbrev pub KnownMoves : Config → Option ℕ → SeatAt → SeatAt → Type 0
 KnownMoves c freed p q = (d : Part) × Moves p q (grown d (record_at p)) × IsQuiet d × ReadsBelow c d
     × FindsKnown freed (record_at p) d
 
--- a turn, and behind a swap-in that was answered Freed such looks
+-- a turn, and after a swap-in that was answered Freed such looks
 abbrev pub TurnFinds : Config → Job → Result Reply NoMemory → View → View → Type 0
 TurnFinds c job r v w = (m : View) × TurnBy c job r v m
     × ((d : Part) × Grows m d w × FindsKnown (swapped_of job r) m d)

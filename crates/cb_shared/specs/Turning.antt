@@ -79,7 +79,7 @@ abbrev pub PinLacks : ℕ → Holding Slate → Holding Slate → Type 0
 PinLacks h a b = b ≡ a
 
 -- A turn of this job, from what was known and the far state that was taken, by these events to the
--- far state that was given: so answered, or stopped for want of memory.
+-- far state that was given: so answered, or stopped, being out of memory.
 abbrev pub DidAs : Config → Job → Option Reply → Shown → List Access → FarState → FarState → Type 0
 DidAs c job (Some reply) start es took gave = Turned slate_run slate_shows ReadsByPin c job
     (held_by start [] took) reply (held_by (played es start) es gave)
@@ -87,7 +87,7 @@ DidAs c job None start es took gave = Stopped slate_run slate_shows PinLacks c j
     (held_by start [] took) (held_by (played es start) es gave)
 
 -- So a turn of a job that hands an order out or takes one, by the order that its seat kept before
--- it and the one that it keeps behind it. Where there was no memory it keeps what it kept.
+-- it and the one that it keeps after it. Where there was no memory it keeps what it kept.
 abbrev pub DidWith : Config → Job → Option Kept → Option Reply → Option Kept → Shown → List Access
     → FarState → FarState → Type 0
 DidWith c job order (Some reply) keeps start es took gave = TurnedWith slate_run slate_shows c job
@@ -219,7 +219,7 @@ turn_part t more within later =
 abbrev pub with_own : List ℕ → View → View
 with_own made v = record v { own = made ++ v.own }
 
--- The turn notes which entries its record had as written when it began and, behind what it wrote
+-- The turn notes which entries its record had as written when it began and, after what it wrote
 -- itself, when it ended; and of those at its begin which ones the record had when its turn before
 -- ended or when it last took another in, with how many entries the history had when that turn
 -- ended.

@@ -71,7 +71,7 @@ pub record IsBeginning (c : Config) (far : FarState) (v : View) : Type 0 where
   pub stood : Stood c v.known far
   pub kept : KeepsOrder v.known far v.order
 
--- The work of a turn at the desk over the seat, which keeps such an order behind it: its events, by
+-- The work of a turn at the desk over the seat, which keeps such an order after it: its events, by
 -- which the turn did its job, and what they wrote. Every order that was kept stays so.
 pub record TurnAtSeat (c : Config) (job : Job) (r : Result Reply NoMemory) (keeps : Option Kept)
     (took gave : FarState) (p q : SeatAt) : Type 0 where
@@ -232,7 +232,7 @@ pub record TurnWith (c : Config) (job : Job) (r : Result Reply NoMemory) (keeps 
   pub new : AreNew more (record_at p)
   pub pins : CountsPins job r (record_at p)
 
--- A turn as it stands in the record of its pass, which keeps this order behind it, before a freed
+-- A turn as it stands in the record of its pass, which keeps this order after it, before a freed
 -- entry is looked for.
 pub record TurnedBy (c : Config) (job : Job) (r : Result Reply NoMemory) (keeps : Option Kept)
     (v w : View) : Type 0 where

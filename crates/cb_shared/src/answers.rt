@@ -1,3 +1,5 @@
+//! What pins and writes in place answer.
+
 use crate::pass::Pin;
 
 /// What a pin is answered. The refusals are tested in this order.

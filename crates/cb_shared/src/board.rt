@@ -1,3 +1,5 @@
+//! The table of atomic words, with its rule.
+
 use crate::boxed_far::BoxedFar;
 use crate::setup::Setup;
 use atomic_table::{Seat, Table, TableRule};

@@ -1,3 +1,5 @@
+//! The far state in a block of its own.
+
 ghost use Rattle.std.specs.Prelude.{◌≡◌, IfOk};
 
 use cb_member::NoMemory;

@@ -64,7 +64,7 @@ impl Shared {
     }
 
     /// A turn of the job Install, as `turn` makes one: the batch that is leaving gets the parities
-    /// of the order that the pass keeps. Takes no memory. Behind Done the pass keeps no order; else
+    /// of the order that the pass keeps. Takes no memory. After Done the pass keeps no order; else
     /// it keeps this one. Waits for the lock.
     pub fn install<R: Wait>(&self, rt: &R, pass: &mut Pass, done: EncodeDone) -> Reply
         requires of { IsPassOf self.now pass.old }
@@ -82,7 +82,7 @@ impl Shared {
     /// handed out, which the pass keeps from here in place of the one that it had. It can be run,
     /// and is handed out exactly where the job answers Fetched. Else the answer tells where the
     /// object is or why there is no order, and the pass keeps what it kept; so it does where there
-    /// is no memory. Behind Freed it looks at the object, whose freed entry is read where the pass
+    /// is no memory. After Freed it looks at the object, whose freed entry is read where the pass
     /// knows it. Waits for the lock.
     pub fn fetch<R: Wait>(
         &self,
@@ -110,7 +110,7 @@ impl Shared {
     }
 
     /// A turn of the job Fetch as a part of a call that goes on: as `fetch`, but that nothing is
-    /// looked for behind it.
+    /// looked for after it.
     pub(crate) fn fetch_within<R: Wait>(
         &self,
         rt: &R,
@@ -132,7 +132,7 @@ impl Shared {
     }
 
     /// A turn of the job Land, as `turn` makes one: the position of the order that the pass keeps
-    /// is brought in with the order's row. Behind Swapped the pass keeps no order; else, and where
+    /// is brought in with the order's row. After Swapped the pass keeps no order; else, and where
     /// there is no memory, it keeps this one. Waits for the lock.
     pub fn land<R: Wait>(
         &self,

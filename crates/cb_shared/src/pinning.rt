@@ -1,3 +1,5 @@
+//! Pins, peeks and their ends, each by single steps.
+
 ghost use Rattle.std.specs.Prelude.{◌≡◌, ℕ, ◌<◌, List, length, slice_index, Option, None, Some};
 ghost use Rattle.crossbeam_utils.specs.Padded.{padded_value};
 ghost use Rattle.cb_ptr.specs.declared.word.State.TheVariants as state;

@@ -93,7 +93,7 @@ impl<W: Opening> Play<Option<BoxedFar>, View> for TakeLock<W> {
 }
 
 /// What a turn was asked for, and answered: None where there was no memory; and the order that its
-/// seat keeps behind it. Each call picks it.
+/// seat keeps after it. Each call picks it.
 pub trait Deed {
     ghost job: { Job };
 

@@ -117,7 +117,7 @@ fn read_at(
 }
 
 /// Loads the words of a pinned object, which lies at this place, into the room for its bytes: each
-/// whole word by one load and one store, and the last bytes behind them.
+/// whole word by one load and one store, and the last bytes after them.
 fn load_into(top: &Top, seat: &mut SeatAt, config: &Config, place: u32, room: &mut [u8])
     requires of { IsOf top.now.table_id top.now.key config.now seat.old }
     requires inside { (j : ℕ) → j < words_for (length room.old)

@@ -1,3 +1,5 @@
+//! Why a runtime was not closed.
+
 use crate::pass::Pass;
 use crate::runtime::Shared;
 

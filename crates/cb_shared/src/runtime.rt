@@ -1,3 +1,5 @@
+//! The shared runtime.
+
 ghost use Rattle.std.specs.Prelude.{◌≡◌, ◌+◌, ◌*◌, ◌≤◌};
 
 use crate::board::Board;

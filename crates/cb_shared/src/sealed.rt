@@ -1,3 +1,5 @@
+//! What stands under a seal.
+
 ghost use Rattle.std.specs.Borrow.{ftrue};
 ghost use Rattle.std.specs.Coded.{codes};
 ghost use Rattle.cb_world.specs.World.{WorldState};

@@ -1,3 +1,5 @@
+//! The desk of the holder of the far lock, beside whom others step.
+
 ghost use Rattle.std.specs.Prelude.{◌≡◌, true, false, ◌+◌, ◌*◌, ◌≤◌, length, Some};
 ghost use Rattle.cb_shared.specs.Rights.{rights};
 ghost use Rattle.cb_shared.specs.Seats.{record_at};

@@ -1,3 +1,5 @@
+//! What a runtime is set up with.
+
 use cb_types::Config;
 
 /// What the rule of a table is about: the configuration, and the version that a make gives, which

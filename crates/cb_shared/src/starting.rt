@@ -1,3 +1,5 @@
+//! A runtime is opened.
+
 ghost use Rattle.std.specs.Prelude.{◌≡◌, ℕ, ◌+◌, ◌*◌, ◌≤◌, [], ◌∷◌, length, slice_index, Some};
 ghost use Rattle.std.specs.Prelude.{IfOk};
 ghost use Rattle.cb_types.specs.Config.{IsAccepted};

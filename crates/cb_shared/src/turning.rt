@@ -30,10 +30,10 @@ impl Shared {
     /// back, while others pin, unpin, read and write. It is answered as a turn over any desk, but
     /// that a read is made under a pin beside those of the scope: it tries again where its exchange
     /// found another word, and is answered Moving or Crowded where the pin's look found a word that
-    /// is Moving or has 1,023 pins. Behind a swap-in that was answered Freed it looks at the
-    /// object, whose freed entry is read where the pass knows it. Where there is no memory, the
-    /// turn is counted and what its parts did before stays. Of a job that hands no order out and
-    /// takes none; the pass keeps the order that it has. Waits for the lock.
+    /// is Moving or has 1,023 pins. After a swap-in that was answered Freed it looks at the object,
+    /// whose freed entry is read where the pass knows it. Where there is no memory, the turn is
+    /// counted and what its parts did before stays. Of a job that hands no order out and takes
+    /// none; the pass keeps the order that it has. Waits for the lock.
     pub fn turn<R: Wait>(
         &self,
         rt: &R,
@@ -70,7 +70,7 @@ impl Shared {
         find_known(rt, &self.board.shared, &mut pass.seat, &config, freed);
     }
 
-    /// A turn as a part of a call that goes on: as `turn`, but that nothing is looked for behind a
+    /// A turn as a part of a call that goes on: as `turn`, but that nothing is looked for after a
     /// swap-in.
     pub fn turn_within<R: Wait>(
         &self,

@@ -8,7 +8,7 @@ use std::sync::Wait;
 use std::time::Duration;
 use std::{hint, thread};
 
-/// So many waits spin, and so many more yield the processor; those behind them sleep.
+/// So many waits spin, and so many more yield the processor; those after them sleep.
 const SPINS: u32 = 32;
 
 const YIELDS: u32 = 8;

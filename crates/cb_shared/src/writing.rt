@@ -1,3 +1,5 @@
+//! A write in place: claim, store, settle.
+
 ghost use Rattle.std.specs.Prelude.{◌≡◌, ℕ, ◌+◌, ◌*◌, ◌^◌, ◌<◌, ◌≤◌, true, false, List, length};
 ghost use Rattle.std.specs.Prelude.{slice_index, Option, None, Some};
 ghost use Rattle.cb_ptr.specs.Word.{len_of, pins_of};

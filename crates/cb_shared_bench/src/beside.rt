@@ -1,5 +1,5 @@
 //! Turns that find nothing to do, beside a thread that makes a fixed number of rounds. That thread
-//! lets a node crash behind its last round; the other one asks again and again that this node joins,
+//! lets a node crash after its last round; the other one asks again and again that this node joins,
 //! which finds it up until then.
 ghost use Rattle.cb_shared_bench.specs.Callers.{IsCaller, IsPlain};
 

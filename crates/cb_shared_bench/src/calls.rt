@@ -36,7 +36,7 @@ fn give(shared: &Shared, pass: &mut Pass, h: Handle, pin: Pin)
     shared.unpin(pass, pin);
 }
 
-/// Loads a word of a pinned object; 0 behind its last one.
+/// Loads a word of a pinned object; 0 after its last one.
 fn peek(shared: &Shared, pass: &mut Pass, h: Handle, pin: &Pin, index: u32) -> u64
     requires caller { IsCaller shared.now h pass.old }
     requires pin { IsPinOf pin.now pass.old.seat.me.0 }

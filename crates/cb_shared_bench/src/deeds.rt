@@ -43,7 +43,7 @@ pub(crate) enum Deed {
     Get,
     /// A number in the place of the one at an index.
     Set,
-    /// A number behind the last one of an array, into an object that it has.
+    /// A number after the last one of an array, into an object that it has.
     Push,
     /// The last number of an array.
     Pop,

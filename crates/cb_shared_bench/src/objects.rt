@@ -96,7 +96,7 @@ fn apart_of(deed: Deed, k: u32) -> u32 {
     }
 }
 
-/// Makes an object for a thread, behind others.
+/// Makes an object for a thread, after others.
 pub(crate) fn object<R: Wait>(
     rt: &R,
     alloc: Global,

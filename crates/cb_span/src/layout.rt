@@ -1,3 +1,5 @@
+//! Where the slots of a span lie.
+
 ghost use Rattle.std.specs.Prelude.{◌≡◌, ◌+◌, ◌*◌, ◌^◌, ◌<◌, ◌≤◌};
 ghost use Rattle.cb_class.specs.Class.{IsClass, pages_of, slots_of, words_of};
 ghost use Rattle.cb_span.specs.Places.{frame_of, slot_in, slot_place};

@@ -1,3 +1,5 @@
+//! A span: a run of slots of one class.
+
 ghost use Rattle.std.specs.Prelude.{◌≡◌, ℕ, ◌^◌, ◌<◌, ◌↔◌, IfNone, IfOk, IfSome, IsTrue, None, count_by, false, is_none, is_some, length, position, slice_index_or};
 ghost use Rattle.cb_class.specs.Class.{IsClass, slots_of};
 ghost use Rattle.cb_span.specs.Contents.{IsSpan, handle_at, least_empty, live_count, new_span, span_of, with_cleared, with_placed};

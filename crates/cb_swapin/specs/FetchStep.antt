@@ -21,7 +21,7 @@ abbrev pub fetching_reply : Fetching → Reply
 fetching_reply (Order o) = answer.Fetched (record { n = o.set }) o.position
 fetching_reply (Answer r) = r
 
--- what a seat keeps behind it: a new order, or what it kept before
+-- what a seat keeps after it: a new order, or what it kept before
 abbrev pub fetching_order : Option Kept → Fetching → Option Kept
 fetching_order before (Order o) = Some (Decode o)
 fetching_order before (Answer r) = before
@@ -56,7 +56,7 @@ pub record IsOrderFetched (far new : FarState) (id p : ℕ) (set : SetState) (o 
     pub given : AreGiven far.nodes set.shards o.present o.rows
     pub state : new ≡ far_given far (length set.positions)
 
--- the far state behind a fetch; an answer without an order changes nothing
+-- the far state after a fetch; an answer without an order changes nothing
 abbrev pub FetchFar : FarState → FarState → ℕ → ℕ → SetState → Fetching → Type 0
 FetchFar far new id p set (Order o) = IsOrderFetched far new id p set o
 FetchFar far new id p set (Answer r) = (r ≡ unfetched_answer far id set) × (new ≡ far)

@@ -1,3 +1,5 @@
+//! A far object is brought in.
+
 ghost use Rattle.std.specs.Prelude.{◌≡◌, ℕ, ◌+◌, ◌*◌, ◌^◌, ◌<◌, ◌≤◌, [], ◌∷◌, IfSome, length};
 ghost use Rattle.cb_class.specs.Class.{IsClass, pages_of, slots_of};
 ghost use Rattle.cb_types.specs.Config.{IsAccepted};

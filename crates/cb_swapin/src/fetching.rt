@@ -1,3 +1,5 @@
+//! The rows of a far object's set are handed out.
+
 ghost use Rattle.std.specs.Prelude.{◌≡◌, true, false, ◌+◌, ◌^◌, ◌<◌, None, Some, IfOk, OnErr};
 ghost use Rattle.cb_set.specs.SetState.{SetState, live_at};
 ghost use Rattle.cb_set.specs.Lost.{lost_at};
@@ -22,8 +24,8 @@ pub enum Fetching {
 
 /// Gives the rows out of which the row of a live position of a committed set can be made: an order,
 /// with the rows at the set's k least positions whose shards are not lost. Each of these k rows was
-/// given out, and nothing else has changed. Takes all memory before a row is given out, so that want
-/// of memory changes nothing.
+/// given out, and nothing else has changed. Takes all memory before a row is given out, so that
+/// running out of memory changes nothing.
 ///
 /// Answers Unavailable where the set has lost more shards than it has parities, and then Direct where
 /// the position's own shard is not lost. These change nothing.
@@ -61,8 +63,8 @@ fn is_lost_in(far: &Far, id: SetId, position: u32) -> bool
         .lost_at(position, &far.members)
 }
 
-/// Gives rows of a set out that is not broken, for the row of one of its positions. Want of memory
-/// changes nothing.
+/// Gives rows of a set out that is not broken, for the row of one of its positions. Running out of
+/// memory changes nothing.
 fn order_of(far: &mut Far, id: SetId, position: u32) -> Result<DecodeOrder, NoMemory>
     requires sound { (s : Shown) × AwaySound s far.old }
     requires whole { (set : SetState) × (set_in far.old.sets id.n ≡ Some set)

@@ -1,3 +1,5 @@
+//! A position comes back by a row that was made outside the lock.
+
 ghost use Rattle.std.specs.Prelude.{◌≡◌, IfOk, OnErr};
 ghost use Rattle.cb_types.specs.Config.{IsAccepted};
 ghost use Rattle.cb_world.specs.declared.shown.Shown.{Shown};
@@ -18,7 +20,7 @@ use cb_world::{Desk, Far};
 ///
 /// Refuses with NoOrder where there is none, and then with Changed where the order's set is gone or
 /// its position is not live. Else the answers are those of `swap_in`, and the span is brought in as
-/// there, but with the order's row. What is refused, and want of memory, changes nothing.
+/// there, but with the order's row. What is refused, and running out of memory, changes nothing.
 pub fn land<D: Desk>(
     desk: &mut D,
     far: &mut Far,

@@ -1,3 +1,5 @@
+//! A position of a set comes back into local memory.
+
 ghost use Rattle.std.specs.Prelude.{◌≡◌, ℕ, true, false, ◌+◌, ◌^◌, ◌<◌, ◌≤◌, None, Some, IfNone, IfOk, OnOk, OnErr, length, slice_set};
 ghost use Rattle.cb_types.specs.Config.{IsAccepted};
 ghost use Rattle.cb_class.specs.Class.{pages_of};

@@ -20,7 +20,7 @@ spaced word = 32 ∷ word
 abbrev pub version_text : ℕ → List ℕ
 version_text version = 118 ∷ decimal version
 
--- a word and a number, each behind a space
+-- a word and a number, each after a space
 abbrev pub word_and_number : List ℕ → ℕ → List ℕ
 word_and_number word number = spaced word ++ spaced (decimal number)
 
@@ -49,12 +49,12 @@ verb_of Rebuild = codes "rebuild"
 verb_of (Crash node) = codes "crash"
 verb_of (Join node) = codes "join"
 
--- a name behind a space, where there is one
+-- a name after a space, where there is one
 abbrev pub name_text : Option (List ℕ) → List ℕ
 name_text None = []
 name_text (Some name) = spaced name
 
--- the node or the name of a request behind a space, where it has one
+-- the node or the name of a request after a space, where it has one
 abbrev pub subject_text : Request → List ℕ
 subject_text (Crash node) = spaced (decimal node.n)
 subject_text (Join node) = spaced (decimal node.n)
@@ -98,7 +98,7 @@ reply_word (Changed set) = codes "changed"
 reply_word NoJoin = codes "nojoin"
 reply_word reply = []
 
--- the number that is told behind the word, where there is one
+-- the number that is told after the word, where there is one
 abbrev pub reply_number : Reply → Option ℕ
 reply_number (Full handles) = Some handles
 reply_number (Range len) = Some len
@@ -124,24 +124,24 @@ abbrev pub number_text : Option ℕ → List ℕ
 number_text None = []
 number_text (Some number) = spaced (decimal number)
 
--- a lost shard behind a space: its node, `@` and the epoch of its crash
+-- a lost shard after a space: its node, `@` and the epoch of its crash
 abbrev pub loss_text : Loss → List ℕ
 loss_text loss = spaced (decimal loss.node.n) ++ 64 ∷ decimal loss.epoch.n
 
--- a position behind a space
+-- a position after a space
 abbrev pub position_text : ℕ → List ℕ
 position_text position = spaced (decimal position)
 
--- a word and the numbers of two sets, each behind a space
+-- a word and the numbers of two sets, each after a space
 abbrev pub pair_text : List ℕ → SetId → SetId → List ℕ
 pair_text word a b = word_and_number word a.n ++ spaced (decimal b.n)
 
--- a word and positions, each behind a space
+-- a word and positions, each after a space
 abbrev pub listed : List ℕ → List ℕ → List ℕ
 listed word positions = spaced word ++ flat_map position_text positions
 
--- The words of a reply, each behind a space: a version with its `v`, and bytes in lower-case
--- hexadecimal; numbers by their names; two sets or all positions behind their word; else one word,
+-- The words of a reply, each after a space: a version with its `v`, and bytes in lower-case
+-- hexadecimal; numbers by their names; two sets or all positions after their word; else one word,
 -- and a number where it has one.
 abbrev pub reply_text : Reply → List ℕ
 reply_text (Made handle version) = spaced (version_text version)

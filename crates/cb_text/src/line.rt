@@ -1,3 +1,5 @@
+//! The line of output of a request and its reply.
+
 ghost use Rattle.std.specs.Prelude.{◌≡◌, ◌++◌, OnOk, OnErr, IfOk};
 ghost use Rattle.std.specs.Io.{StartsWith};
 ghost use Rattle.cb_types.specs.Table.{IsReplyOf};

@@ -1,3 +1,5 @@
+//! The words of a reply.
+
 ghost use Rattle.std.specs.Prelude.{◌≡◌, ◌++◌, OnOk, codes};
 ghost use Rattle.std.specs.Io.{StartsWith};
 ghost use Rattle.std.specs.List.{flat_map};
@@ -7,7 +9,7 @@ use crate::word::{push_counted, push_hexadecimal, push_number, push_version, pus
 use cb_types::{Loss, NoMemory, NodeId, Reply, SetId};
 use itoa::Buffer;
 
-/// Adds the words of a reply at the end, each behind a space.
+/// Adds the words of a reply at the end, each after a space.
 pub fn push_reply(text: &mut Vec<u8>, reply: &Reply) -> Result<(), NoMemory>
     ensures text { OnOk result (text.new.items ≡ text.old.items ++ reply_text reply.now) }
     ensures kept { StartsWith text.new.items text.old.items }
@@ -98,7 +100,7 @@ fn word(reply: &Reply) -> &'static str
     }
 }
 
-/// The number that is told behind the word of a reply, where there is one.
+/// The number that is told after the word of a reply, where there is one.
 fn number(reply: &Reply) -> Option<u64>
     ensures { result ≡ reply_number reply.now }
 {
@@ -171,7 +173,7 @@ fn push_unavailable(text: &mut Vec<u8>, set: SetId, lost: &[Loss]) -> Result<(),
     push_losses(text, lost)
 }
 
-/// Adds each lost shard behind a space: its node, `@` and the epoch of its crash.
+/// Adds each lost shard after a space: its node, `@` and the epoch of its crash.
 fn push_losses(text: &mut Vec<u8>, lost: &[Loss]) -> Result<(), NoMemory>
     ensures text { OnOk result (text.new.items ≡ text.old.items ++ flat_map loss_text lost.now) }
     ensures kept { StartsWith text.new.items text.old.items }
@@ -212,7 +214,7 @@ fn push_merged(text: &mut Vec<u8>, set: SetId, moved: u32) -> Result<(), NoMemor
     push_counted(text, b"moved", u64::from(moved))
 }
 
-/// Adds a word, and each position behind a space.
+/// Adds a word, and each position after a space.
 fn push_listed(text: &mut Vec<u8>, word: &[u8], positions: &[u8]) -> Result<(), NoMemory>
     ensures text { OnOk result (text.new.items
         ≡ text.old.items ++ listed word.now positions.now) }
@@ -222,7 +224,7 @@ fn push_listed(text: &mut Vec<u8>, word: &[u8], positions: &[u8]) -> Result<(), 
     push_positions(text, positions)
 }
 
-/// Adds each position behind a space.
+/// Adds each position after a space.
 fn push_positions(text: &mut Vec<u8>, positions: &[u8]) -> Result<(), NoMemory>
     ensures text { OnOk result (text.new.items
         ≡ text.old.items ++ flat_map position_text positions.now) }

@@ -1,3 +1,5 @@
+//! The verb of a request.
+
 ghost use Rattle.std.specs.Prelude.{◌≡◌};
 ghost use Rattle.cb_text.specs.Line.{verb_of};
 

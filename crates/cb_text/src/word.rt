@@ -1,3 +1,5 @@
+//! Words and numbers, each after a space.
+
 ghost use Rattle.std.specs.Prelude.{◌≡◌, ◌≤◌, ◌++◌, OnOk, decimal, length};
 ghost use Rattle.std.specs.Io.{StartsWith};
 ghost use Rattle.hex.specs.Hex.{encode_lower};
@@ -24,7 +26,7 @@ pub fn push_number(text: &mut Vec<u8>, number: u64) -> Result<(), NoMemory>
     push_word(text, Buffer::new().format(number).as_bytes())
 }
 
-/// Adds a word and a number at the end, each behind a space.
+/// Adds a word and a number at the end, each after a space.
 pub fn push_counted(text: &mut Vec<u8>, word: &[u8], number: u64) -> Result<(), NoMemory>
     ensures text { OnOk result
         (text.new.items ≡ text.old.items ++ word_and_number word.now number) }

@@ -1,3 +1,5 @@
+//! A line of a script with its reply.
+
 use crate::handle::Lane;
 use crate::reply::Reply;
 use crate::request::Request;

@@ -1,3 +1,5 @@
+//! The answers of a run.
+
 ghost use Rattle.std.specs.Prelude.{◌≡◌, [], ◌∷◌, ◌++◌, OnOk, OnErr};
 
 use crate::answer::Answer;
@@ -37,7 +39,7 @@ impl Answers {
         self.items.as_slice()
     }
 
-    /// Adds an answer at the end. Want of memory leaves the list as it was.
+    /// Adds an answer at the end. Running out of memory leaves the list as it was.
     pub fn push(&mut self, item: Answer) -> Result<(), NoMemory>
         ensures ok { OnOk result (self.new ≡ self.old ++ item ∷ []) }
         ensures err { OnErr result (self.new ≡ self.old) }

@@ -1,3 +1,5 @@
+//! The bytes of an object or a text.
+
 ghost use Rattle.std.specs.Prelude.{◌≡◌, ◌≤◌, ◌+◌, ◌++◌, length, take, drop, IfOk};
 
 use cb_member::NoMemory;

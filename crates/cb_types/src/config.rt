@@ -1,3 +1,5 @@
+//! The sizes with which a runtime is set up.
+
 ghost use Rattle.std.specs.Prelude.{◌≡◌, MatchResult};
 ghost use Rattle.cb_types.specs.Config.{IsAccepted, IsFirstOutOfRange};
 

@@ -1,3 +1,5 @@
+//! What is notified of each answered line and turn.
+
 use crate::handle::Lane;
 
 /// Is told of each answered line of a lane, and of each turn of a worker, outside of every lock. A

@@ -1,3 +1,5 @@
+//! The names of objects, lanes, sets and batches.
+
 /// An object, by the number that its make gave it. Numbers count up from 0 and none is used again.
 #[derive(Clone, Copy, Debug, PartialEq, Eq, PartialOrd, Ord)]
 pub struct Handle {

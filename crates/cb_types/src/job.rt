@@ -1,3 +1,5 @@
+//! The jobs of turns.
+
 ghost use Rattle.std.specs.Prelude.{◌≡◌, ◌<◌};
 ghost use Rattle.cb_types.specs.Jobs.{job_index};
 

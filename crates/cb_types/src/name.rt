@@ -1,3 +1,5 @@
+//! The name that a script gives an object.
+
 ghost use Rattle.std.specs.Prelude.{◌≡◌, IfOk};
 
 use cb_member::NoMemory;

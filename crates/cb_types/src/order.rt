@@ -1,3 +1,5 @@
+//! Coding work to be done while no lock is held.
+
 use crate::positions::Positions;
 use cb_gf256::Rows;
 

@@ -1,3 +1,5 @@
+//! What a request is answered.
+
 use crate::bytes::Bytes;
 use crate::handle::{Handle, SetId};
 use crate::positions::Positions;

@@ -1,3 +1,5 @@
+//! What a line asks for.
+
 ghost use Rattle.std.specs.Prelude.{◌≡◌, IfOk};
 ghost use Rattle.std.specs.Option.{option_map};
 ghost use Rattle.cb_types.specs.Requests.{HasNoName, name_of};

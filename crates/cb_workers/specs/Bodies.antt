@@ -29,7 +29,7 @@ use Rattle.cb_workers.specs.declared.worker.Worker.TheVariants as worker
 abbrev pub turns_alone : List Turn → Part
 turns_alone turns = record nothing_more { turns = turns }
 
--- a call of `turn` with this job, so answered: all that it says of the record before it and behind
+-- a call of `turn` with this job, so answered: all that it says of the record before it and after
 -- it
 abbrev pub IsCall : Config → Deed → View → View → Type 0
 IsCall c d v w = (r : Result Reply NoMemory) × (d.reply ≡ answer_of r) × TurnBy c d.job r v w
@@ -96,7 +96,7 @@ pub record AddsTurns (c : Config) (deeds : List Deed) (v w : View) : Type 0 wher
 abbrev pub one_deed : Job → Option Reply → List Deed
 one_deed job reply = record { job = job; reply = reply } ∷ []
 
--- a turn with the job that was due, behind which another one is due
+-- a turn with the job that was due, after which another one is due
 abbrev pub Steps : Config → Worker → Job → Job → View → View → Type 0
 Steps c w old new v u = (reply : Reply) × (new ≡ next_job c.handles w old reply)
     × AddsTurns c (one_deed old (Some reply)) v u

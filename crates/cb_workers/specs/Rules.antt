@@ -24,8 +24,8 @@ abbrev pub visited : Job → ℕ
 visited (job.Filter handle) = handle.n
 visited other = 0
 
--- Handles are visited in order, and from 0 again: behind one that was never made, and behind the
--- last one that is configured.
+-- Handles are visited in order, and from 0 again: after one that was never made, and after the last
+-- one that is configured.
 abbrev pub next_visit : ℕ → ℕ → Reply → ℕ
 next_visit handles h answer.Unmade = 0
 next_visit handles h reply = if ltb (suc h) handles then suc h else 0
@@ -33,7 +33,7 @@ next_visit handles h reply = if ltb (suc h) handles then suc h else 0
 abbrev pub after_visit : ℕ → Job → Reply → Job
 after_visit handles done reply = visit (next_visit handles (visited done) reply)
 
--- a batch that has its parities is shipped; behind one that was given up the next is gathered
+-- a batch that has its parities is shipped; after one that was given up the next is gathered
 abbrev pub after_done : Job → Job
 after_done job.Install = job.Ship
 after_done done = job.Gather
@@ -67,7 +67,7 @@ first_job worker.Evict = job.Gather
 first_job worker.Compact = job.Pair
 first_job worker.Rebuild = job.Rebuild
 
--- the job of the turn behind one with this job and reply
+-- the job of the turn after one with this job and reply
 abbrev pub next_job : ℕ → Worker → Job → Reply → Job
 next_job handles worker.Filter done reply = after_visit handles done reply
 next_job handles worker.Evict done reply = after_batch done reply

@@ -1,4 +1,4 @@
--- What a worker does in all: turns, of which each has the job that the rules name behind those
+-- What a worker does in all: turns, of which each has the job that the rules name after those
 -- before it.
 use Rattle.std.specs.Prelude.{◌≡◌, ℕ, ◌<◌, List, [], ◌∷◌, ◌++◌, length, map, Option, Some, None}
 use Rattle.cb_types.specs.declared.job.Job.{Job}
@@ -30,12 +30,12 @@ lacked job = record {
   reply = None;
 }
 
--- the job that is due behind these turns, the newest first
+-- the job that is due after these turns, the newest first
 abbrev pub job_behind : ℕ → Worker → List AnsweredTurn → Job
 job_behind handles w [] = first_job w
 job_behind handles w (a ∷ earlier) = next_job handles w a.job a.reply
 
--- each turn had the job that was due behind those before it
+-- each turn had the job that was due after those before it
 abbrev pub AreDue : ℕ → Worker → List AnsweredTurn → Type 0
 AreDue handles w [] = Unit {0}
 AreDue handles w (a ∷ earlier) = (a.job ≡ job_behind handles w earlier) × AreDue handles w earlier

@@ -34,7 +34,7 @@ pub fn filter_body<R: Wait, G: Gate>(
 }
 
 /// Lets batches of spans leave local memory, a step a turn. The parities of a batch are made
-/// between two turns, outside of the far lock. A batch that is leaving behind the last turn is
+/// between two turns, outside of the far lock. A batch that is leaving after the last turn is
 /// aborted.
 pub fn evict_body<R: Wait, G: Gate>(
     rt: &R,
@@ -51,8 +51,8 @@ pub fn evict_body<R: Wait, G: Gate>(
     worker_body(rt, alloc, shared, pass, Worker::Evict, turns, gate)
 }
 
-/// Lets pairs of span-sets become one, a step a turn. A pair that is joining behind the last turn
-/// is parted.
+/// Lets pairs of span-sets become one, a step a turn. A pair that is joining after the last turn is
+/// parted.
 pub fn compact_body<R: Wait, G: Gate>(
     rt: &R,
     alloc: Global,

@@ -1,3 +1,5 @@
+//! The jobs of a worker's turns, one after another.
+
 ghost use Rattle.std.specs.Prelude.{◌≡◌, ◌<◌, Option};
 ghost use Rattle.cb_workers.specs.Rules.{
   after_batch,
@@ -21,7 +23,7 @@ fn visited(job: &Job) -> u32
     }
 }
 
-/// The filter goes from handle to handle, and begins anew behind the last one that was made.
+/// The filter goes from handle to handle, and begins anew after the last one that was made.
 pub(crate) fn after_visit(handles: u32, job: &Job, reply: &Reply) -> Job
     ensures { result ≡ after_visit handles job.now reply.now }
 {
@@ -32,7 +34,7 @@ pub(crate) fn after_visit(handles: u32, job: &Job, reply: &Reply) -> Job
     }
 }
 
-/// The handle behind this one; 0 behind one that was never made, and behind the last one.
+/// The handle after this one; 0 after one that was never made, and after the last one.
 fn next_visit(handles: u32, h: u32, reply: &Reply) -> u32
     ensures { result ≡ next_visit handles h reply.now }
 {
@@ -58,7 +60,7 @@ pub(crate) fn after_batch(job: &Job, reply: &Reply) -> Job
     }
 }
 
-/// A batch that has its parities is shipped; behind one that was given up the next is gathered.
+/// A batch that has its parities is shipped; after one that was given up the next is gathered.
 fn after_done(job: &Job) -> Job
     ensures { result ≡ after_done job.now }
 {

@@ -1,3 +1,5 @@
+//! The four workers.
+
 ghost use Rattle.std.specs.Prelude.{◌≡◌};
 ghost use Rattle.cb_workers.specs.Rules.{first_job, lane_of, next_job};
 
@@ -44,7 +46,7 @@ impl Worker {
         }
     }
 
-    /// The job of the turn behind one with this job and reply, of so many configured handles.
+    /// The job of the turn after one with this job and reply, of so many configured handles.
     pub fn next(self, handles: u32, job: &Job, reply: &Reply) -> Job
         ensures job { result ≡ next_job handles self job.now reply.now }
     {

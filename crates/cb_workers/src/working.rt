@@ -37,7 +37,7 @@ use cb_types::{EncodeOrder, Gate, Job, NoMemory, Reply, SetId};
 use std::alloc::Global;
 use std::sync::Wait;
 
-/// A worker's turns, and the end of what it had begun behind the last one, or behind the one for
+/// A worker's turns, and the end of what it had begun after the last one, or after the one for
 /// which there was no memory.
 pub(crate) fn work<R: Wait, G: Gate>(
     rt: &R,
@@ -88,8 +88,8 @@ fn make_turns<R: Wait, G: Gate>(
     Ok(())
 }
 
-/// A turn with the job that is due, behind which another one is due. The order of a batch is kept
-/// at hand until its install.
+/// A turn with the job that is due, after which another one is due. The order of a batch is kept at
+/// hand until its install.
 fn step<R: Wait>(
     rt: &R,
     alloc: Global,

@@ -6,12 +6,12 @@ use Rattle.cb_world.specs.declared.shown.Shown.{Shown}
 use Rattle.cb_world.specs.Shown.{Owns}
 use Rattle.cb_world.specs.RowWords.{row_of}
 
--- these words were read, at the place p and those behind it
+-- these words were read, at the place p and those after it
 abbrev pub loads_from : ℕ → List ℕ → List Access
 loads_from p [] = []
 loads_from p (w ∷ ws) = Loaded p w ∷ loads_from (p + 1) ws
 
--- these words were stored, at the place p and those behind it
+-- these words were stored, at the place p and those after it
 abbrev pub stores_from : ℕ → List ℕ → List Access
 stores_from p [] = []
 stores_from p (w ∷ ws) = Stored p w ∷ stores_from (p + 1) ws

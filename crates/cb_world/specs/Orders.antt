@@ -59,7 +59,7 @@ abbrev pub LeavesOrders : Shown → FarState → Shown → FarState → Type 0
 LeavesOrders s far t new = (o : Kept) → IsOrderKept s far o → IsOrderKept t new o
 
 -- One committed set before a change and after it: it is of the same code, it was not broken before
--- unless it is so behind, and each of its words before is one behind.
+-- unless it is so after, and each of its words before is one after.
 pub record WasSet (far new : FarState) (id : ℕ) (set : SetState) : Type 0 where
   pub was : SetState
   pub there : set_in far.sets id ≡ Some was

@@ -1,3 +1,5 @@
+//! What is done at a desk, or found there.
+
 /// What is done at a desk, or found there. No value of it is made: contracts tell a call by the
 /// list of its events, the first one first, and read a field that is an array as a list of any
 /// length. Objects are named by handle, places and words are those of local memory, of eight bytes

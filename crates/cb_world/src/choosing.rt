@@ -1,3 +1,5 @@
+//! Which node gets a row.
+
 ghost use Rattle.std.specs.Prelude.{◌≡◌, ◌<◌, ◌≤◌, ◌↔◌, IfNone, IfSome, IsTrue, length};
 ghost use Rattle.cb_member.specs.declared.names.NodeId.{NodeId};
 ghost use Rattle.cb_world.specs.Choices.{has_room, stands_on, room_count, HoldsFewer, MayPut, IsLeastNode};

@@ -1,3 +1,5 @@
+//! The counts of turns by job, and of numbers drawn.
+
 ghost use Rattle.std.specs.Prelude.{◌≡◌, ◌<◌, ◌^◌, replicate};
 ghost use Rattle.std.specs.List.{sum_by};
 ghost use Rattle.cb_world.specs.Counts.{with_turn};

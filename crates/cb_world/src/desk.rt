@@ -1,3 +1,5 @@
+//! The desk: the words at which the holder of the far lock works.
+
 ghost use Rattle.std.specs.Prelude.{◌≡◌, ◌≢◌, ℕ, ◌+◌, ◌*◌, ◌<◌, List, [], ◌∷◌, ◌++◌, length};
 ghost use Rattle.cb_types.specs.declared.config.Config.{Config};
 ghost use Rattle.cb_ptr.specs.declared.word.State.TheVariants as word;

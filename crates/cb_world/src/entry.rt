@@ -1,3 +1,5 @@
+//! A version of an object that was written.
+
 /// A version of an object that was written: its length in bytes, and its words before and after. A
 /// free writes a version with no words. No value of it is made; contracts read its arrays as lists
 /// of any length.

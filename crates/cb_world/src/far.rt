@@ -1,3 +1,5 @@
+//! The far state: all that stands beside the words of local memory.
+
 ghost use Rattle.std.specs.Prelude.{◌≡◌, ◌≤◌, IfOk};
 ghost use Rattle.cb_types.specs.Config.{IsAccepted};
 ghost use Rattle.cb_world.specs.Empty.{empty_far};

@@ -1,3 +1,5 @@
+//! Rows of a set are given out, and a lost one solved from them.
+
 ghost use Rattle.std.specs.Prelude.{◌≡◌, ℕ, ◌+◌, ◌-◌, ◌*◌, ◌^◌, ◌<◌, ◌≤◌, List, All, IfOk, OnOk, OnErr, length, slice_index, take};
 ghost use Rattle.cb_gf256.specs.Rows.{row_at, HaveLength};
 ghost use Rattle.cb_set.specs.Lost.{lost};

@@ -1,3 +1,5 @@
+//! Sets that match the same others.
+
 ghost use Rattle.std.specs.Prelude.{◌≡◌, ℕ, ◌≤◌, true, false, [], length};
 ghost use Rattle.cb_world.specs.Groups.{DoMatch, IsAmong, NoGroupsMatch, group_of};
 

@@ -1,3 +1,5 @@
+//! Where each far object lies.
+
 ghost use Rattle.std.specs.Prelude.{◌≡◌, ◌<◌, length, Some, None, replicate, slice_set, IfOk};
 ghost use Rattle.cb_world.specs.Homes.{home_at};
 

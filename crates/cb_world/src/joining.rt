@@ -1,3 +1,5 @@
+//! The pair of sets that is joining.
+
 use cb_member::Shard;
 use std::marker::Model;
 

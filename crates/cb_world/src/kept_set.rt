@@ -1,3 +1,5 @@
+//! A set as it is kept, committed or leaving.
+
 ghost use Rattle.std.specs.Prelude.{◌≡◌, ◌<◌, true, length};
 ghost use Rattle.cb_set.specs.SetState.{dead_position, position_of, with_position, with_shard, without_object};
 

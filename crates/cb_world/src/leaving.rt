@@ -1,3 +1,5 @@
+//! The batch that is leaving.
+
 ghost use Rattle.std.specs.Prelude.{◌≡◌, ℕ, ◌<◌, true, false, List, None, Some, ◌++◌, length};
 ghost use Rattle.cb_gf256.specs.CodeWord.{IsCodeWord};
 ghost use Rattle.cb_gf256.specs.Combination.{AreCombinations};

@@ -1,3 +1,5 @@
+//! Positions that die, and objects that leave their set.
+
 ghost use Rattle.std.specs.Prelude.{◌≡◌, ◌<◌, Some, length, if◌then◌else◌};
 ghost use Rattle.cb_set.specs.SetState.{SetState, dead_position, is_live, with_position};
 ghost use Rattle.cb_set.specs.Lost.{NodesAreMembers};

@@ -1,3 +1,5 @@
+//! The words of local memory, touched frame by frame.
+
 ghost use Rattle.std.specs.Prelude.{◌≡◌, ◌<◌, ◌≤◌, ◌+◌, ◌*◌, ◌^◌, All, length, slice_index, slice_set, replicate, vec_len, vec_capacity, IfOk};
 ghost use Rattle.cb_world.specs.LocalMemory.{padded};
 ghost use Rattle.cb_world.specs.Memory.{put, window};
@@ -15,7 +17,7 @@ pub const FRAME_WORDS: usize = 512;
 /// large memory of which little is used costs its addresses alone.
 #[derive(Drop)]
 pub(crate) struct LocalMemory {
-    // The words up to the last frame that was stored to; all behind them are 0.
+    // The words up to the last frame that was stored to; all after them are 0.
     front: Vec<u64>,
     count: usize,
 }
@@ -48,7 +50,7 @@ fn lengthen(front: &mut Vec<u64>, count: usize, place: usize)
     front.resize(end, 0).unwrap();
 }
 
-/// Has the words reach a place, by zeros behind them. Takes no memory.
+/// Has the words reach a place, by zeros after them. Takes no memory.
 #[inline(always)]
 fn reach(front: &mut Vec<u64>, count: usize, place: usize)
     requires room { count ≤ vec_capacity front.old }

@@ -1,3 +1,5 @@
+//! What the holder of the far lock knows of an object.
+
 /// What the holder of the far lock knows of an object. No value of it is made; contracts read its
 /// arrays as lists of any length. Lengths are in bytes, places are indices of memory words.
 pub enum Object {

@@ -1,3 +1,5 @@
+//! Which frames have an empty slot, by class and temperature.
+
 ghost use Rattle.std.specs.Prelude.{◌≡◌, ℕ, ◌<◌, List, length, replicate, IfOk, IfSome, Some};
 ghost use Rattle.cb_frame.specs.FrameSet.{least_from, no_frames};
 ghost use Rattle.cb_world.specs.OpenSpans.{frames_of, kinds, retold};

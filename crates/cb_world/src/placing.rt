@@ -1,3 +1,5 @@
+//! A place for an object.
+
 ghost use Rattle.std.specs.Prelude.{◌≡◌, ℕ, ◌^◌, ◌≤◌, ◌<◌, length, None, Some, true, false, IfSome, IfNone, IfOk, OnErr};
 ghost use Rattle.cb_class.specs.Class.{IsClass, pages_of};
 ghost use Rattle.cb_frame.specs.Runs.{least_run};

@@ -1,3 +1,5 @@
+//! The still desk, whose words no one else changes.
+
 ghost use Rattle.std.specs.Prelude.{◌≡◌, ◌+◌, ◌*◌, ◌^◌, ◌<◌, ◌≤◌, length, slice_index, slice_set, replicate, IfOk};
 ghost use Rattle.cb_types.specs.Config.{IsAccepted};
 ghost use Rattle.cb_ptr.specs.declared.word.State.TheVariants as state;

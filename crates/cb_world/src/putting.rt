@@ -1,3 +1,5 @@
+//! A row is put at a node under the next key.
+
 ghost use Rattle.std.specs.Prelude.{◌≡◌, ◌<◌, false, length, OnErr, OnOk};
 ghost use Rattle.cb_member.specs.Membership.{incarnation};
 ghost use Rattle.cb_node.specs.NodesState.{has, held, with_row};
@@ -27,7 +29,7 @@ pub fn next_shard(far: &Far, node: NodeId) -> Shard
     }
 }
 
-/// Puts a row at its shard's node, which has room: so want of memory is the only error.
+/// Puts a row at its shard's node, which has room: so running out of memory is the only error.
 pub fn put_row(nodes: &mut Nodes, shard: Shard, row: &[u8]) -> Result<(), NoMemory>
     requires within { shard.node.n < length nodes.old.nodes }
     requires fresh { has nodes.old shard.node shard.key ≡ false }

@@ -1,3 +1,5 @@
+//! Objects of a slot table get their homes.
+
 ghost use Rattle.std.specs.Prelude.{◌≡◌, ℕ, ◌^◌, ◌<◌, IfSome, None, Some, length, slice_index_or, slice_set};
 ghost use Rattle.cb_world.specs.Homes.{HasHomes};
 

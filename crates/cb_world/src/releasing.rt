@@ -1,3 +1,5 @@
+//! A slot is emptied.
+
 ghost use Rattle.std.specs.Prelude.{◌≡◌, ℕ};
 ghost use Rattle.cb_span.specs.Contents.{Contents};
 ghost use Rattle.cb_world.specs.Released.{IsSlotAt, spans_without, frames_without};

@@ -1,3 +1,5 @@
+//! The words of a run of frames, as a row.
+
 ghost use Rattle.std.specs.Prelude.{◌≡◌, ◌+◌, ◌*◌, ◌^◌, ◌<◌, ◌≤◌, length};
 ghost use Rattle.cb_world.specs.declared.shown.Shown.{Shown};
 ghost use Rattle.cb_world.specs.FrameWords.{OwnsRun, ReadsRun, stores_from};

@@ -1,3 +1,5 @@
+//! Seats, with their pins and open writes.
+
 ghost use Rattle.std.specs.Prelude.{◌≡◌, ◌<◌, ◌≤◌, ◌+◌, ◌^◌, true, false, List, [], ◌++◌, ◌∷◌, length, replicate, Option, Some, None, IfSome, IfNone, IfOk, OnOk, OnErr, slice_get, slice_set};
 ghost use Rattle.std.specs.List.{remove};
 ghost use Rattle.cb_world.specs.declared.seats.SeatPin.{SeatPin};
@@ -201,7 +203,7 @@ impl Seats {
         &self.seats[seat as usize].claims[at]
     }
 
-    /// Opens a write of a seat, behind its others. Takes the memory of its place; where there is
+    /// Opens a write of a seat, after its others. Takes the memory of its place; where there is
     /// none, nothing is changed.
     pub fn open(&mut self, seat: u32, write: OpenWrite) -> Result<(), NoMemory>
         requires seat { seat < length self.old }

@@ -1,3 +1,5 @@
+//! What the holder of the far lock knows of all words.
+
 use crate::object::Object;
 
 /// What the holder of the far lock knows. No value of it is made; contracts read its arrays as

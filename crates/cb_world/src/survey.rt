@@ -1,3 +1,5 @@
+//! What is known of how the sets stand.
+
 ghost use Rattle.std.specs.Prelude.{◌≡◌};
 ghost use Rattle.cb_world.specs.Survey.{no_survey, survey_without};
 

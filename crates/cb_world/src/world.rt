@@ -1,3 +1,5 @@
+//! The whole world on one thread.
+
 ghost use Rattle.std.specs.Prelude.{◌≡◌, IfOk};
 ghost use Rattle.cb_types.specs.Config.{IsAccepted};
 ghost use Rattle.cb_world.specs.World.{empty_world};

@@ -48,7 +48,7 @@ pub(crate) trait Acts {
 pub(crate) type Row = (u8, u32, Act, Told);
 
 /// The steps of two seats with an object of the bytes 0a 0b: a claim is refused beside the second
-/// seat's pin, and a pin beside the claim; the write is settled behind its last store; and the
+/// seat's pin, and a pin beside the claim; the write is settled after its last store; and the
 /// second seat makes no turn while the first one holds the far lock.
 pub(crate) static WRITES: [Row; 16] = [
     (0, 0, Act::Make, Told::Step(Step::Made, 0)),
@@ -123,11 +123,11 @@ pub(crate) enum Case {
     Writes,
     /// The replies of a run of these.
     WritesInARun,
-    /// An object that is read behind a crash.
+    /// An object that is read after a crash.
     Crash,
 }
 
-/// The least and the most bytes of each class, and the place behind one slot of it.
+/// The least and the most bytes of each class, and the place after one slot of it.
 pub(crate) static LENGTHS: [Case; 24] = [
     Case::Second { len: 1, place: 2 },
     Case::Second { len: 16, place: 2 },

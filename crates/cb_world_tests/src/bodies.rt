@@ -111,7 +111,7 @@ pub(crate) fn len_shared(i: usize) -> usize
     }
 }
 
-/// The length of an object, and its bytes up to the most: two, behind which there are zeros.
+/// The length of an object, and its bytes up to the most: two, after which there are zeros.
 pub(crate) fn bytes_of(body: Body, i: usize) -> (usize, [u8; MOST])
     ensures { (1 ≤ result.0) × (result.0 ≤ 1024) }
 {

@@ -120,7 +120,7 @@ pub(crate) fn run_crew<R: Threads + Wait + Sync>(
     gather(shared, objects, first, &mut ends, notes)
 }
 
-/// Behind the threads: each object was written where it is, or the one that may be freed is freed.
+/// After the threads: each object was written where it is, or the one that may be freed is freed.
 pub(crate) fn are_settled<A: Asks>(
     asked: &mut A,
     work: Work,

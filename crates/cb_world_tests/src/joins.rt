@@ -1,3 +1,5 @@
+//! Joins of two sets, in steps and at once.
+
 ghost use Rattle.cb_world.specs.World.{IsSoundWorld};
 
 use crate::merges::{TWO_SETS, given_in};

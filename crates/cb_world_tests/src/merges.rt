@@ -1,3 +1,5 @@
+//! Scripts of joins, by the nodes and by the compute side.
+
 use crate::scrubbing::world_of;
 use cb_types::NoMemory;
 use cb_world::World;
@@ -32,7 +34,7 @@ fn are_given_by(alloc: Global, parts: &[&[u8]], rows: u64) -> Result<bool, NoMem
     Ok(given == rows)
 }
 
-/// Whether a merge, in steps and at once, gives no row out, and four are given out behind it.
+/// Whether a merge, in steps and at once, gives no row out, and four are given out after it.
 fn merges_give_none(alloc: Global) -> Result<bool, NoMemory> {
     let mut all = are_given_by(alloc, &[TWO_SETS], 2)?;
     for merge in [IN_STEPS, AT_ONCE] {

@@ -20,7 +20,7 @@ use std::sync::Wait;
 use std::test::Fail;
 use std::thread::Threads;
 
-/// What the first pass does, or does behind the threads; whether no answer was wrong.
+/// What the first pass does, or does after the threads; whether no answer was wrong.
 fn asked_through<A: Asks>(
     asked: &mut A,
     body: Body,

@@ -1,3 +1,5 @@
+//! A scrub of a world with a wrong row.
+
 ghost use Rattle.std.specs.Prelude.{◌≡◌, ◌+◌, ◌*◌, ◌^◌, ◌<◌, ◌≤◌, ℕ, IfOk, IfSome, IsTrue};
 ghost use Rattle.cb_world.specs.Sound.{Sound};
 ghost use Rattle.cb_world.specs.World.{IsSoundWorld};
@@ -87,7 +89,7 @@ fn tells_the_row(scrubbed: Scrubbed) -> bool
 }
 
 /// Spoils the row of position 1 of the first set, and scrubs the set. That there is no such row, or
-/// another finding, is told as want of memory.
+/// another finding, is told as out of memory.
 fn spoil_and_scrub(alloc: Global, far: &mut Far) -> Result<(), NoMemory>
     requires may { MayScrub far.old }
     requires given { far.old.nodes.given < 2 ^ 61 }
@@ -114,7 +116,7 @@ fn few_were_given(far: &Far) -> bool
 }
 
 /// Spoils the row, and scrubs the set twice; whether it is clean at last. What else comes of it is
-/// told as want of memory.
+/// told as out of memory.
 fn scrub_twice(alloc: Global, far: &mut Far) -> Result<bool, NoMemory>
     requires may { MayScrub far.old }
     ensures given { IfOk result (λ _. far.new.nodes.given ≤ 2 ^ 20 * far.old.counts.turns) }

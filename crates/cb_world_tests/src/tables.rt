@@ -398,7 +398,7 @@ fn are_answered<A: Asks>(asked: &mut A, rows: &[Line]) -> Result<bool, NoMemory>
     Ok(all)
 }
 
-/// What is done with the objects: two tables, one behind the other.
+/// What is done with the objects: two tables, one after the other.
 fn tables_of(body: Body) -> (&'static [Line], &'static [Line]) {
     match body {
         Body::TwoPasses => (&TWO_PASSES, &NONE),

@@ -163,7 +163,7 @@ pub(crate) fn told_of_write(answer: WriteAnswer) -> Told {
     }
 }
 
-/// What a call told, where the words under another pass's pin were one version before it and behind.
+/// What a call told, where the words under another pass's pin were one version before it and after.
 pub(crate) fn told_while(
     before: Told,
     told: Result<Told, NoMemory>,

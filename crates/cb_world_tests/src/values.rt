@@ -314,8 +314,8 @@ impl<'a, R: Wait> Numbers for OnPass<'a, R> {
 /// The object is kept at the version of its make, and has the next one.
 const FOREIGN: Said = Said::Foreign { kept: 1, found: 2 };
 
-/// What is done to the one object of an array, the next call, and what it is answered. Where nothing
-/// is done, the array goes on behind the split and the join.
+/// What is done to the one object of an array, the next call, and what it is answered. Where
+/// nothing is done, the array goes on after the split and the join.
 const ROWS: [(Foul, Call, Said); 8] = [
     (Foul::Nothing, Call::Get, Said::Number(7)),
     (Foul::Nothing, Call::Set, Said::Done),
@@ -383,7 +383,7 @@ fn are_rows<R: Wait>(rt: &R, alloc: Global, shared: &Shared, pass: &mut Pass) ->
 }
 
 /// Whether arrays and maps are answered so, where they are to be; what else the test makes comes
-/// behind them.
+/// after them.
 pub(crate) fn are_values<R: Wait>(
     rt: &R,
     alloc: Global,
