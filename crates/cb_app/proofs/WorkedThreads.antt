@@ -306,8 +306,13 @@ module _ (s : Shared) (p : Pass) (of : IsPassOf s p) (fresh : IsFreshRecord (rec
   with_none ended = absurd (let e = ended.lines_are in cc)
 
   runs : (w : Worker') → TaskRuns s leaves none (task (Worker w 0)) (record { body = Worker w 0; left = Ok (told_end []) })
-  runs w = (refl, λ given named known. none_told given, λ other. none_due other w, refl,
-      (refl, subst (IsWorkOf s.config.handles w 0) (sym fresh.turns) (idle_work s.config.handles w)))
+  runs w = (
+    refl,
+    λ given named known. none_told given,
+    λ other. none_due other w,
+    refl,
+    (refl, subst (IsWorkOf s.config.handles w 0) (sym fresh.turns) (idle_work s.config.handles w)),
+  )
 
   ran_another_body : (w : Worker')
       → TaskRuns s leaves none (task (lane 2)) (record { body = Worker w 0; left = Ok (told_end []) })
