@@ -9,6 +9,12 @@ from model import run
 HEADER = "carbink 1 k=%d r=%d nodes=%d frames=%d room=%d handles=%d turns=0"
 
 
+def front_of(request):
+    """The words of a request that stand before its reply: the verb, and the name or the node."""
+    words = request.split()
+    return words[:1] if words[0] == "recode" else words[:2]
+
+
 class Written:
     """A name with a text and what must be printed, which is written as a case. Its words are `seq` where none are named."""
     called, status, packed_from = (), 0, PACKED_FROM
@@ -34,7 +40,7 @@ class Case(Written):
     @staticmethod
     def reply(line, told):
         """What stands behind the lane, the verb and its first word."""
-        return told.split(" ", 1 + min(2, len(line.split())))[-1]
+        return told.split(" ", 1 + len(front_of(line)))[-1]
 
     def answers(self, line):
         """The replies to all lines of this text, in order."""
@@ -45,7 +51,7 @@ def worked(name, header, text, lane=1):
     """A case of lines `request => reply`, which the model must answer so."""
     pairs = [line.split(" => ") for line in text.strip().split("\n")]
     case = Case.of_lines(name, header, [request for request, _ in pairs], lane)
-    told = [f"{lane} {' '.join(request.split()[:2])} {reply}" for request, reply in pairs]
+    told = [f"{lane} {' '.join(front_of(request))} {reply}" for request, reply in pairs]
     assert case.out == "".join(line + "\n" for line in told), (name, case.out)
     return case
 

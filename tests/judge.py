@@ -23,7 +23,7 @@ REPLIES = {
     "range": f"range {NUMBER}", "pinned": f"pinned {NUMBER}", "scopefull": "scopefull", "notpinned": "notpinned",
     "nothere": "nothere", "noslot": f"noslot {NUMBER}", "nospans": f"nospans {NUMBER}", "nonodes": f"nonodes {NUMBER}",
     "nopair": "nopair", "joining": f"joining {NUMBER} {NUMBER}", "nodefull": f"nodefull {NUMBER}",
-    "whole": f"whole {NUMBER}", "stuck": f"stuck set {NUMBER}", "down": f"down {NUMBER}", "up": f"up {NUMBER}",
+    "code": f"code {NUMBER} {NUMBER}", "whole": f"whole {NUMBER}", "stuck": f"stuck set {NUMBER}", "down": f"down {NUMBER}", "up": f"up {NUMBER}",
 }
 PATTERNS = {kind: re.compile(form) for kind, form in REPLIES.items()}
 OF_VERB = {
@@ -32,7 +32,7 @@ OF_VERB = {
     "pin": "version noroom unmade freed unavailable scopefull", "peek": "bytes unmade notpinned",
     "unpin": "ok unmade notpinned", "leave": "left", "filter": "moved same unmade moving pinned nothere noslot",
     "evict": "set nospans nonodes", "compact": "merged nopair joining nodefull", "rebuild": "rebuilt whole stuck",
-    "crash": "epoch down", "join": "epoch up",
+    "crash": "epoch down", "join": "epoch up", "recode": "code",
 }
 # What a line may be answered that was told before that its object is freed, or that it is lost with its set.
 AFTER_FREED = {"read": "freed", "write": "freed", "free": "freed", "pin": "freed scopefull", "filter": "nothere",
@@ -53,6 +53,7 @@ class Line:
         self.lane, self.verb = int(words[0]), words[1]
         self.name = words[2] if self.verb in NAMED else None
         self.node = int(words[2]) if self.verb in ("crash", "join") else None
+        self.code = (int(words[2]), int(words[3])) if self.verb == "recode" else None
         self.at = int(words[3]) if self.verb == "write" else 0
         data = {"make": 3, "write": 4}.get(self.verb)
         self.data = b"" if not data or words[data] == "-" else bytes.fromhex(words[data])
@@ -60,7 +61,7 @@ class Line:
 
     def front(self):
         """What stands in front of the reply."""
-        return " ".join([str(self.lane), self.verb] + self.text.split(" ")[2:3])
+        return " ".join([str(self.lane), self.verb] + ([] if self.code else self.text.split(" ")[2:3]))
 
     def answer(self, place, told):
         """Takes the reply; whether it is one that this line may have."""
@@ -92,10 +93,15 @@ class Script:
             lines.pop()
         self.text, self.head = text, head
         self.config = {word.split("=")[0]: int(word.split("=")[1]) for word in head.split(" ")[2:]}
-        self.k, self.r, self.nodes, self.frames, self.room, self.handles, self.turns = (
-            self.config[field] for field in ("k", "r", "nodes", "frames", "room", "handles", "turns"))
-        self.n = self.k + self.r
+        self.nodes, self.frames, self.room, self.handles, self.turns = (
+            self.config[field] for field in ("nodes", "frames", "room", "handles", "turns"))
         self.lines = [Line(number + 2, line) for number, line in enumerate(lines)]
+        codes = [(self.config["k"], self.config["r"])] + [line.code for line in self.lines if line.code]
+        self.has_recode = len(codes) > 1
+        # The bounds of what is told, over all codes that a set may have.
+        self.least_k, self.k = min(k for k, _ in codes), max(k for k, _ in codes)
+        self.least_r, self.r = min(r for _, r in codes), max(r for _, r in codes)
+        self.least_n, self.n = min(k + r for k, r in codes), max(k + r for k, r in codes)
         self.maker = {line.name: line.lane for line in self.lines if line.verb == "make"}
         if any(line.verb not in OF_VERB for line in self.lines):
             raise ValueError("the script has a step, which threads refuse")
@@ -110,7 +116,7 @@ class Script:
 
     def is_roomy(self):
         crashing = {line.node for line in self.lines if line.verb == "crash"}
-        return (self.has_frames_to_try_again() and self.room >= self.handles + 4 and self.nodes >= self.k + 2 * self.r
+        return (not self.has_recode and self.has_frames_to_try_again() and self.room >= self.handles + 4 and self.nodes >= self.k + 2 * self.r
                 and len(self.maker) <= self.handles and len(crashing) <= self.r)
 
     def is_own(self, lane, name):
@@ -371,6 +377,8 @@ def judge_numbers(script, lines, say):
             right = script.turns > 0 or script.maker[line.name] == 0
         elif line.kind in ("down", "up"):
             right = numbers[0] == line.node
+        elif line.kind == "code":
+            right = tuple(numbers) == line.code
         if not right:
             say(line, "numbers", "no such numbers can be")
 
@@ -401,7 +409,7 @@ class Epochs:
 
 def moment_of(script, line, epochs):
     """The test that the epoch of the moment of this line's reply must pass; None where each does."""
-    k, r, n, kind, numbers = script.k, script.r, script.n, line.kind, line.numbers
+    k, r, n, kind, numbers = script.least_k, script.least_r, script.least_n, line.kind, line.numbers
     if kind in ("down", "up"):
         return lambda e: (line.node in epochs.up[e]) == (kind == "up")
     if kind == "unavailable":
@@ -461,8 +469,8 @@ def judge_losses(script, lines, say):
         if line.kind != "unavailable":
             continue
         losses = line.losses
-        if not script.r < len(losses) <= script.n or len({node for node, _ in losses}) != len(losses):
-            say(line, "losses", f"more than {script.r} different nodes are lost, and at the most {script.n}")
+        if not script.least_r < len(losses) <= script.n or len({node for node, _ in losses}) != len(losses):
+            say(line, "losses", f"more than {script.least_r} different nodes are lost, and at the most {script.n}")
         elif not set(losses) <= crashes:
             say(line, "losses", "no line was answered such a crash")
         else:

@@ -4,8 +4,8 @@
 #include <stdio.h>
 
 int main(void) {
-    printf("kind handle version set other_set moved position node epoch handles frames loose nodes length pins gone frame\n");
-    for (uint32_t kind = 0; kind < 60; kind++) {
+    printf("kind handle version set other_set moved position node epoch handles frames loose nodes length pins gone frame k r\n");
+    for (uint32_t kind = 0; kind < 62; kind++) {
         const struct carbink_reply reply = {kind, 1, 2, 3, 0};
         const uint64_t told[] = {
             carbink_reply_handle(&reply),
@@ -24,6 +24,8 @@ int main(void) {
             carbink_reply_pins(&reply),
             carbink_reply_gone(&reply),
             carbink_reply_frame(&reply),
+            carbink_reply_k(&reply),
+            carbink_reply_r(&reply),
         };
         printf("%u", (unsigned)kind);
         for (size_t i = 0; i < sizeof told / sizeof told[0]; i++) printf(" %u", (unsigned)told[i]);

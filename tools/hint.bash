@@ -41,6 +41,7 @@ form_of() {
     write) echo "NAME AT HEX" ;;
     read | free | pin | peek | unpin | filter) echo "NAME" ;;
     crash | join) echo "NODE" ;;
+    recode) echo "K R" ;;
     leave | evict | begin | ship | commit | abort | compact | pair | patch | merge | part | rebuild) echo "nothing" ;;
     esac
 }
@@ -241,6 +242,8 @@ reason_text() {
     fi ;;
     9) if [ "$verb" = write ]; then
         echo "the place is a number up to 4,096"
+    elif [ "$verb" = recode ]; then
+        echo "K is a number 1 to 16 and R a number 1 to 4, together no more than the nodes of the header"
     else
         echo "the node is a number below the nodes of the header"
     fi ;;

@@ -227,7 +227,7 @@ class MeasuredWorld(CountedWorld):
 
     def dead_share(self):
         """The share of positions of all sets whose span is back or freed."""
-        positions = self.k * len(self.sets)
+        positions = sum(one.k for one in self.sets.values())
         return (positions - sum(len(one.slots) for one in self.sets.values())) / positions if positions else 0.0
 
     def merge(self):
@@ -284,7 +284,7 @@ class MeasuredWorld(CountedWorld):
         if reply.startswith("rebuilt "):
             number, node = int(reply.split()[2]), int(reply.split()[-1])
             self.note_damage()
-            self.count("read", self.k, self.sets[number].pages)
+            self.count("read", self.sets[number].k, self.sets[number].pages)
             self.hold(node, self.sets[number].pages, "rebuilt")
         for scheme in self.schemes:
             scheme.rebuild(reply.startswith("whole "))

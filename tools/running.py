@@ -25,7 +25,7 @@ RANGES = {"k": (1, 16), "r": (1, 4), "nodes": (2, 64), "frames": (1, 4096), "roo
 WORDS = ("toolong", "header", "config", "lines", "shape", "lane", "name", "known", "number", "hex",
          "length", "mode")
 # What stands behind each verb.
-FORMS = {"make": "NAME HEX", "write": "NAME AT HEX", "crash": "NODE", "join": "NODE",
+FORMS = {"make": "NAME HEX", "write": "NAME AT HEX", "crash": "NODE", "join": "NODE", "recode": "K R",
          **dict.fromkeys("read free pin peek unpin filter".split(), "NAME"),
          **dict.fromkeys("leave evict begin ship commit abort compact pair patch merge part rebuild"
                          .split(), "")}
@@ -33,7 +33,7 @@ FORMS = {"make": "NAME HEX", "write": "NAME AT HEX", "crash": "NODE", "join": "N
 STEPS = frozenset("begin ship commit abort pair patch merge part".split())
 # The replies that tell that the request was done, a version among them as v; every other is a refusal.
 DONE = frozenset("v ok left moved same set batch shipped allshipped pair stepped allstepped rebuilt "
-                 "epoch".split())
+                 "epoch code recoded".split())
 
 NUMBER = re.compile("0|[1-9][0-9]{0,8}")
 HEADER = re.compile("carbink 1 " + " ".join(f"{field}=({NUMBER.pattern})" for field in FIELDS))
@@ -270,6 +270,14 @@ def fault_of_lane(place, words):
     return None
 
 
+def is_code(words, nodes):
+    """Whether the two words spell a code that a world of so many nodes may have."""
+    if not all(map(NUMBER.fullmatch, words)):
+        return False
+    k, r = map(int, words)
+    return 1 <= k <= 16 and 1 <= r <= 4 and k + r <= nodes
+
+
 def fault_of_words(place, words):
     lane, verb, *rest = words
     form = FORMS[verb].split()
@@ -287,6 +295,8 @@ def fault_of_words(place, words):
             number = rest[form.index(word)]
             if not NUMBER.fullmatch(number) or int(number) > bound:
                 return 9, what
+    if verb == "recode" and not is_code(rest, place.nodes):
+        return 9, "K is a number 1 to 16 and R a number 1 to 4, together no more than the header's nodes"
     if "HEX" in form and not (verb == "write" and rest[-1] == "-"):
         if not HEX.fullmatch(rest[-1]):
             return 10, ("bytes are two lower-case hexadecimal digits each; - stands for none, in a "

@@ -6,7 +6,7 @@ ghost use Rattle.std.specs.Prelude.{◌≡◌};
 /// third.
 #[unsafe(no_mangle)]
 pub extern "C" fn carbink_version() -> u32
-    ensures { result ≡ 2000 }
+    ensures { result ≡ 3000 }
 {
-    2_000
+    3_000
 }

@@ -76,6 +76,7 @@ says_same lines lane s line.Compact a b own x y = none_own own
 says_same lines lane s line.Rebuild a b own x y = none_own own
 says_same lines lane s (line.Crash node) a b own x y = none_own own
 says_same lines lane s (line.Join node) a b own x y = none_own own
+says_same lines lane s (line.Recode code) a b own x y = none_own own
 says_same lines lane s line.Leave a b own x y = none_own own
 
 -- a leave takes all pins out of the scope

@@ -108,7 +108,7 @@ module _ (c : Config) (seal : Seal) (closed : IsClosed Did 1 c (sealed_record se
 
   another_code : (w : WorldState) → (w.far.code.k ≡ c.k → ⊥)
       → IsRun (script c []) (record (end []) { world = w }) → ⊥
-  another_code w other run = other run.codes.force.0
+  another_code w other run = other (run.codes refl).force.0
 
   another_configuration : (d : Config) → (c ≡ d → ⊥) → IsRun (script d []) (end []) → ⊥
   another_configuration d other run = other (sym closed.settings ∙ run.closed.settings)

@@ -8,8 +8,8 @@ ghost use Rattle.cb_events.specs.Listing.{IsEventOf, IsHeadWithin, IsJobOf, IsLi
 ghost use Rattle.cb_events.specs.Listing.{event_len as len_of_event, head_in, number_in};
 
 use cb_core::{Atomic, Event};
-use cb_member::NodeId;
-use cb_types::{Bytes, Config, Handle, Job, MOST_BYTES, NoMemory};
+use cb_member::{Code, NodeId};
+use cb_types::{Bytes, Config, Handle, Job, MOST_BYTES, NoMemory, is_code_for};
 use std::alloc::Global;
 
 /// The bytes of an event, but for those of a write.
@@ -25,8 +25,9 @@ pub(crate) struct Head {
     /// The number of its job's kind, or one from 32 on for a step.
     pub(crate) kind: u8,
     pub(crate) handle: Handle,
+    /// The node, or how many data positions a code has.
     pub(crate) node: NodeId,
-    /// Where a write begins, in bytes.
+    /// Where a write begins, in bytes, or how many parities a code has.
     pub(crate) at: u32,
 }
 
@@ -192,8 +193,25 @@ fn plain_job(config: Config, head: Head) -> Option<Job>
         20 => Some(Job::Install),
         21 => Some(Job::Fetch { handle }),
         22 => Some(Job::Land),
+        23 => recode_of(config, head),
         _ => None,
     }
+}
+
+/// The job that puts a code in force, None where the world may have no sets of it.
+fn recode_of(config: Config, head: Head) -> Option<Job>
+    requires kind { head.kind ≡ 23 }
+    ensures { (written : List ℕ) → MatchOption result (NoJob config head written)
+        (λ job. IsJobOf head written job × IsJob config job) }
+{
+    let code = Code {
+        k: u32::from(head.node.n),
+        r: head.at,
+    };
+    if !is_code_for(code, config.nodes) {
+        return None;
+    }
+    Some(Job::Recode { code })
 }
 
 /// The step that these say.

@@ -12,7 +12,7 @@ use Rattle.cb_types.specs.declared.request.Request.TheVariants.{Make, Read, Writ
 use Rattle.cb_types.specs.declared.request.Request.TheVariants.{Unpin, Filter, Evict, Begin, Ship}
 use Rattle.cb_types.specs.declared.request.Request.TheVariants.{Commit, Abort, Pair, Patch, Merge}
 use Rattle.cb_types.specs.declared.request.Request.TheVariants.{Part, Compact, Rebuild, Crash, Join}
-use Rattle.cb_types.specs.declared.request.Request.TheVariants.{Leave}
+use Rattle.cb_types.specs.declared.request.Request.TheVariants.{Leave, Recode}
 use Rattle.cb_core.specs.declared.event.Atomic.TheVariants as atomic
 use Rattle.cb_core.specs.declared.event.Event.TheVariants as event
 use Rattle.cb_core.specs.Step.{Step}
@@ -105,7 +105,8 @@ jobs_of = (refl, refl, refl, refl, refl, refl, refl, refl, refl)
 jobs_of_nodes : (job_of Compact ≡ Some job.Compact) × (job_of Rebuild ≡ Some job.Rebuild)
     × (job_of (Crash (record { n = 5 })) ≡ Some (job.Crash (record { n = 5 })))
     × (job_of (Join (record { n = 5 })) ≡ Some (job.Join (record { n = 5 })))
-jobs_of_nodes = (refl, refl, refl, refl)
+    × (job_of (Recode (record { k = 2; r = 1 })) ≡ Some (job.Recode (record { k = 2; r = 1 })))
+jobs_of_nodes = (refl, refl, refl, refl, refl)
 
 no_jobs : (job_of (Make a []) ≡ None) × (job_of (Write a 0 []) ≡ None) × (job_of (Pin a) ≡ None)
     × (job_of (Filter a) ≡ None) × (job_of Leave ≡ None)

@@ -54,6 +54,7 @@ pub enum Verb {
     Join,
     Pin,
     Unpin,
+    Recode,
 }
 
 /// An event: what its verb does not take is not looked at.
@@ -200,6 +201,11 @@ impl World {
     /// A verb on a node: Crash or Join.
     pub fn at_node(&mut self, verb: Verb, node: u32) -> Result<Reply, Refused> {
         self.step(Event { node, ..Event::of(verb) })
+    }
+
+    /// Sets that are made from here have k data rows and r parities.
+    pub fn recode(&mut self, k: u32, r: u32) -> Result<Reply, Refused> {
+        self.step(Event { handle: k, at: r, ..Event::of(Verb::Recode) })
     }
 
     /// Any other verb.
