@@ -46,17 +46,17 @@ pub turn_written : (c : Config) (j : Job) (r : Reply) (v : View) (d : Part) → 
 turn_written c j r v d (answers, t) = subst (TurnWrites j r)
     (sym (ap (λ (p : Part). p.written) t.part)) t.wrote
 
-pub asked_written : (c : Config) (may : Job → Type 0) (r : Reply) (h : ℕ) (v : View) (d : Part)
-    → (x : AsksFor c may r h v d) → TurnWrites x.turned.job r d.written
+pub asked_written : {since : ℕ} (c : Config) (may : Job → Type 0) (r : Reply) (h : ℕ) (v : View) (d : Part)
+    → (x : AsksFor c may r h since v d) → TurnWrites x.turned.job r d.written
 asked_written c may r h v d x = turn_written c x.turned.job r v d x.turned.ends
 
 -- ---- a read writes nothing
 place_none : (h : ℕ) (r : Reply) (v : View) (d : Part) → ReadsInPlace h r v d → d.written ≡ []
-place_none h (answer.Bytes version bytes) v d x = ap (λ (p : Part). p.written) x.part
-place_none h answer.Freed v d (word, version, empty, newest, is) = ap (λ (p : Part). p.written) is
+place_none h (answer.Bytes version bytes) v d x = ap (λ (p : Part). p.written) x.part.3
+place_none h answer.Freed v d (word, version, empty, newest, is) = ap (λ (p : Part). p.written) is.3
 place_none h r v d x = absurd x
 
-read_last : (c : Config) (h : ℕ) (r : Reply) (v : View) (d : Part) → ReadCallEnds c h r v d
+read_last : {since : ℕ} (c : Config) (h : ℕ) (r : Reply) (v : View) (d : Part) → ReadCallEnds c h r since v d
     → d.written ≡ []
 read_last c h r v d (inl x) = place_none h r v d x
 read_last c h r v d (inr x) = of_read h (λ (j : Job). TurnWrites j r d.written → d.written ≡ [])
@@ -67,7 +67,7 @@ pub read_written : (c : Config) (h : ℕ) (r : Reply) (v w : View) → ReadGives
     → w.written ≡ v.written
 read_written c h r v w (d, x, is) = ap (λ (z : View). z.written) is
     ∙ ap (λ (l : List Entry). l ++ v.written)
-    (last_written (AtThis h) _ (ReadCallEnds c h r) v d x
+    (last_written (AtThis h) _ (ReadCallEnds c h r v.clock) v d x
     ∙ read_last c h r (grown x.before v) x.last x.ends_so)
 
 -- ---- the version that was read stands as read
@@ -83,7 +83,7 @@ here_seen : (h version : ℕ) (bytes : List ℕ) (v : View) (d : Part)
     → IsReadHere h version bytes v d → IsReadIn h version bytes d.seen
 here_seen h version bytes v d x = (
   version_seen h version (len_of x.word) x.words,
-  subst (λ (p : Part). Has (version_seen h version (len_of x.word) x.words) p.seen) (sym x.part)
+  subst (λ (p : Part). Has (version_seen h version (len_of x.word) x.words) p.seen) (sym x.part.3)
       (inl refl),
   refl,
   refl,
@@ -107,8 +107,8 @@ turn_seen c h version bytes v d (answers, t) = by t.reads
         (read_front h version bytes z.last.seen z.before.seen
         (here_seen h version bytes (grown z.before v) z.last z.finds)))
 
-read_ends : (c : Config) (h version : ℕ) (bytes : List ℕ) (v : View) (d : Part)
-    → ReadCallEnds c h (answer.Bytes version bytes) v d → IsReadIn h version bytes d.seen
+read_ends : {since : ℕ} (c : Config) (h version : ℕ) (bytes : List ℕ) (v : View) (d : Part)
+    → ReadCallEnds c h (answer.Bytes version bytes) since v d → IsReadIn h version bytes d.seen
 read_ends c h version bytes v d (inl x) = here_seen h version bytes v d x
 read_ends c h version bytes v d (inr x) = turn_seen c h version bytes v d
     (by_read c h (answer.Bytes version bytes) v d (λ again lack. lack) x)
@@ -145,7 +145,7 @@ write_place h at bytes n v d (place.Ok version) says x =
       len = len_of x.word;
       words = x.old;
       later = x.new;
-      is = ap (λ (p : Part). p.written) x.part
+      is = ap (λ (p : Part). p.written) x.part.3
           ∙ ap (λ (m : ℕ). entry h m (len_of x.word) x.old x.new ∷ []) same;
       write = x.write;
     }
@@ -159,8 +159,8 @@ write_place h at bytes n v d place.NotHere says x = absurd says
 write_place h at bytes n v d place.Moving says x = absurd says
 write_place h at bytes n v d (place.Raced saw found) says x = absurd says
 
-write_last : (c : Config) (h at : ℕ) (bytes : List ℕ) (n : ℕ) (v : View) (d : Part)
-    → WriteCallEnds c h at bytes (answer.Version n) v d → Added h at bytes n [] d.written
+write_last : {since : ℕ} (c : Config) (h at : ℕ) (bytes : List ℕ) (n : ℕ) (v : View) (d : Part)
+    → WriteCallEnds c h at bytes (answer.Version n) since v d → Added h at bytes n [] d.written
 write_last c h at bytes n v d (inl (a, says, finds)) = write_place h at bytes n v d a says finds
 write_last c h at bytes n v d (inr x) =
     let y = turn_written c (jobs.Write (the_handle h) at bytes) (answer.Version n) v d
@@ -181,7 +181,7 @@ write_adds c h at bytes n v w (d, x, is) =
       later = a.later;
       is = ap (λ (z : View). z.written) is
           ∙ ap (λ (l : List Entry). l ++ v.written)
-          (last_written (AtThis h) _ (WriteCallEnds c h at bytes (answer.Version n)) v d x ∙ a.is);
+          (last_written (AtThis h) _ (WriteCallEnds c h at bytes (answer.Version n) v.clock) v d x ∙ a.is);
       write = a.write;
     }
 
@@ -190,10 +190,10 @@ place_same : (h at : ℕ) (bytes : List ℕ) (r : Reply) (v : View) (d : Part) (
     → ((n : ℕ) → r ≡ answer.Version n → ⊥) → SaysAs a r → WriteFinds h at bytes a v d
     → d.written ≡ []
 place_same h at bytes r v d (place.Ok version) off says x = absurd (off version says)
-place_same h at bytes r v d place.Freed off says x = ap (λ (p : Part). p.written) x.4
-place_same h at bytes r v d (place.Range len) off says x = ap (λ (p : Part). p.written) x.2
-place_same h at bytes r v d (place.Pinned count) off says x = ap (λ (p : Part). p.written) x.2
-place_same h at bytes r v d place.Worn off says x = ap (λ (p : Part). p.written) x.part
+place_same h at bytes r v d place.Freed off says x = ap (λ (p : Part). p.written) x.4.3
+place_same h at bytes r v d (place.Range len) off says x = ap (λ (p : Part). p.written) x.3.3
+place_same h at bytes r v d (place.Pinned count) off says x = ap (λ (p : Part). p.written) x.3.3
+place_same h at bytes r v d place.Worn off says x = ap (λ (p : Part). p.written) x.part.3
 place_same h at bytes r v d place.NotHere off says x = absurd says
 place_same h at bytes r v d place.Moving off says x = absurd says
 place_same h at bytes r v d (place.Raced saw found) off says x = absurd says
@@ -203,8 +203,8 @@ no_more : (h at : ℕ) (bytes : List ℕ) (r : Reply) (more : List Entry)
 no_more h at bytes (answer.Version n) more off x = absurd (off n refl)
 no_more h at bytes r more off x = x
 
-same_last : (c : Config) (h at : ℕ) (bytes : List ℕ) (r : Reply) (v : View) (d : Part)
-    → ((n : ℕ) → r ≡ answer.Version n → ⊥) → WriteCallEnds c h at bytes r v d → d.written ≡ []
+same_last : {since : ℕ} (c : Config) (h at : ℕ) (bytes : List ℕ) (r : Reply) (v : View) (d : Part)
+    → ((n : ℕ) → r ≡ answer.Version n → ⊥) → WriteCallEnds c h at bytes r since v d → d.written ≡ []
 same_last c h at bytes r v d off (inl (a, says, finds)) =
     place_same h at bytes r v d a off says finds
 same_last c h at bytes r v d off (inr x) = of_write h at bytes
@@ -217,5 +217,5 @@ pub write_same : (c : Config) (h at : ℕ) (bytes : List ℕ) (r : Reply) (v w :
     → w.written ≡ v.written
 write_same c h at bytes r v w off (d, x, is) = ap (λ (z : View). z.written) is
     ∙ ap (λ (l : List Entry). l ++ v.written)
-    (last_written (AtThis h) _ (WriteCallEnds c h at bytes r) v d x
+    (last_written (AtThis h) _ (WriteCallEnds c h at bytes r v.clock) v d x
     ∙ same_last c h at bytes r (grown x.before v) x.last off x.ends_so)

@@ -101,8 +101,8 @@ module _ (v : View) (k : KeptObject) (sole : IsSole v k) (idle : v.fresh ≡ [])
 
 -- ---- a read
 -- one that is told neither of its object nor of a lack has no such end
-read_off : (c : Config) (h : ℕ) (r : Reply) (v : View) (d : Part) → (ReadsInPlace h r v d → ⊥)
-    → (TellsWhatIs r → ⊥) → ((again : Bool) → IsLack again r → ⊥) → ReadCallEnds c h r v d → ⊥
+read_off : {since : ℕ} (c : Config) (h : ℕ) (r : Reply) (v : View) (d : Part) → (ReadsInPlace h r v d → ⊥)
+    → (TellsWhatIs r → ⊥) → ((again : Bool) → IsLack again r → ⊥) → ReadCallEnds c h r since v d → ⊥
 read_off c h r v d there off lack (inl x) = there x
 read_off c h r v d there off lack (inr x) =
     ⊎_elim off (lack (again_in d.turns)) (by_read c h r v d lack x).0
@@ -174,8 +174,8 @@ module _ (c : Config) (k : KeptObject) (at : ℕ) (bytes : List ℕ) (v : View) 
         each_below n m es next all.1,
       )
 
-  write_next : (n : ℕ) (u : View) (d : Part) → u.fresh ≡ v.fresh → u.written ≡ v.written
-      → u.share ≡ v.share → WriteCallEnds c k.handle.n at bytes (answer.Version n) u d
+  write_next : {since : ℕ} (n : ℕ) (u : View) (d : Part) → u.fresh ≡ v.fresh → u.written ≡ v.written
+      → u.share ≡ v.share → WriteCallEnds c k.handle.n at bytes (answer.Version n) since u d
       → n ≡ k.version + 1
   write_next n u d fresh is share (inl (a, says, finds)) =
       place_next n u d a fresh is share says finds
@@ -199,7 +199,7 @@ module _ (c : Config) (k : KeptObject) (at : ℕ) (bytes : List ℕ) (v : View) 
     place_range len z d (place.Ok version) fresh is share wrote says x =
         odd version (answer.Range len) refl (sym says)
     place_range len z d place.Freed fresh is share wrote says x = absurd cc
-    place_range len z d (place.Range n) fresh is share wrote says (word, (past, last), part) =
+    place_range len z d (place.Range n) fresh is share wrote says (word, (past, last), version, part) =
         short n z fresh is share wrote last past.2
     place_range len z d (place.Pinned count) fresh is share wrote says x = absurd cc
     place_range len z d place.Worn fresh is share wrote says x = absurd cc
@@ -219,24 +219,24 @@ module _ (c : Config) (k : KeptObject) (at : ℕ) (bytes : List ℕ) (v : View) 
         odd version (answer.Pinned count) refl (sym says)
     place_pinned count z d place.Freed share pins says x = absurd cc
     place_pinned count z d (place.Range n) share pins says x = absurd cc
-    place_pinned count z d (place.Pinned n) share pins says (word, (room, pinned, last), part) =
+    place_pinned count z d (place.Pinned n) share pins says (word, (room, pinned, last), version, part) =
         no_pins n z pins pinned.1 (pinned.2 (inl (share ∙ sole.whole)))
     place_pinned count z d place.Worn share pins says x = absurd cc
     place_pinned count z d place.NotHere share pins says x = absurd says
     place_pinned count z d place.Moving share pins says x = absurd says
     place_pinned count z d (place.Raced saw found) share pins says x = absurd says
 
-    end_range : (len : ℕ) (z : View) (d : Part) → z.fresh ≡ v.fresh → z.written ≡ v.written
+    end_range : {since : ℕ} (len : ℕ) (z : View) (d : Part) → z.fresh ≡ v.fresh → z.written ≡ v.written
         → z.share ≡ v.share → u.written ≡ v.written
-        → WriteCallEnds c k.handle.n at bytes (answer.Range len) z d → ⊥
+        → WriteCallEnds c k.handle.n at bytes (answer.Range len) since z d → ⊥
     end_range len z d fresh is share wrote (inl (a, says, x)) =
         place_range len z d a fresh is share wrote says x
     end_range len z d fresh is share wrote (inr x) =
         let t = (by_write c k.handle.n (answer.Range len) z d (λ again lack. lack) at bytes x).1 in
         short len z fresh is share wrote t.pins (range_told at bytes c k.handle.n len z d t)
 
-    end_pinned : (count : ℕ) (z : View) (d : Part) → z.share ≡ v.share → z.pins ≡ v.pins
-        → WriteCallEnds c k.handle.n at bytes (answer.Pinned count) z d → ⊥
+    end_pinned : {since : ℕ} (count : ℕ) (z : View) (d : Part) → z.share ≡ v.share → z.pins ≡ v.pins
+        → WriteCallEnds c k.handle.n at bytes (answer.Pinned count) since z d → ⊥
     end_pinned count z d share pins (inl (a, says, x)) = place_pinned count z d a share pins says x
     end_pinned count z d share pins (inr x) =
         let y = by_write c k.handle.n (answer.Pinned count) z d (λ again lack. lack) at bytes x in

@@ -65,7 +65,7 @@ gone_saw : (h : ℕ) (v : View) (before last : Part) → before.written ≡ []
 gone_saw h v before last none (word, version, empty, newest, is) = (
   version,
   saw_grown h version v before none newest,
-  subst (λ (z : Part). Has (freed_seen h version) z.seen) (sym is) (inl refl),
+  subst (λ (z : Part). Has (freed_seen h version) z.seen) (sym is.3) (inl refl),
 )
 
 -- by a turn that was answered so, which wrote nothing
@@ -124,8 +124,8 @@ here_saw h version bytes v u d written fresh share here = record {
   newest = here.newest;
 }
 
-read_saw : (c : Config) (h version : ℕ) (bytes : List ℕ) (v : View) (before last : Part)
-    → before.written ≡ [] → ReadCallEnds c h (answer.Bytes version bytes) (grown before v) last
+read_saw : {since : ℕ} (c : Config) (h version : ℕ) (bytes : List ℕ) (v : View) (before last : Part)
+    → before.written ≡ [] → ReadCallEnds c h (answer.Bytes version bytes) since (grown before v) last
     → SawNewest h version v
 read_saw c h version bytes v before last none (inl here) =
     here_saw h version bytes v (grown before v) last
@@ -153,8 +153,8 @@ pub saw_read : (c : Config) (h version : ℕ) (bytes : List ℕ) (v w : View)
 saw_read c h version bytes v w (d, x, is) = read_saw c h version bytes v x.before x.last
     (vain_written (AtThis h) _ x.before x.in_vain) x.ends_so
 
-read_gone : (c : Config) (h : ℕ) (v : View) (before last : Part) → before.written ≡ []
-    → ReadCallEnds c h answer.Freed (grown before v) last → SawGone h v last
+read_gone : {since : ℕ} (c : Config) (h : ℕ) (v : View) (before last : Part) → before.written ≡ []
+    → ReadCallEnds c h answer.Freed since (grown before v) last → SawGone h v last
 read_gone c h v before last none (inl x) = gone_saw h v before last none x
 read_gone c h v before last none (inr x) =
     let y = by_read c h answer.Freed (grown before v) last (λ again lack. lack) x in
@@ -176,8 +176,8 @@ place_gone h at bytes v d (place.Pinned count) says x = absurd cc
 place_gone h at bytes v d place.Worn says x = absurd cc
 place_gone h at bytes v d a says x = absurd says
 
-write_ends : (c : Config) (h at : ℕ) (bytes : List ℕ) (v : View) (before last : Part)
-    → before.written ≡ [] → WriteCallEnds c h at bytes answer.Freed (grown before v) last
+write_ends : {since : ℕ} (c : Config) (h at : ℕ) (bytes : List ℕ) (v : View) (before last : Part)
+    → before.written ≡ [] → WriteCallEnds c h at bytes answer.Freed since (grown before v) last
     → SawGone h v last
 write_ends c h at bytes v before last none (inl x) =
     gone_saw h v before last none (place_gone h at bytes (grown before v) last x.0 x.1 x.2)

@@ -175,9 +175,9 @@ one_turn c ask r v u d j asked answers made x = record {
         let f = ap (λ (o : Option Reply). length (made_by_turn j o)) x.reply_is in
         omega (arith, e, f, made)
 
-asked_turn : (c : Config) (ask : Ask) (r : Reply) (h : ℕ) (v u : View) (d : Part)
+asked_turn : {since : ℕ} (c : Config) (ask : Ask) (r : Reply) (h : ℕ) (v u : View) (d : Part)
     → ((j : Job) → IsAskedBy ask j → length (made_by_turn j (Some r)) ≡ made_of ask r)
-    → AsksFor c (IsAskedBy ask) r h u d → LastAdds c ask r v d
+    → AsksFor c (IsAskedBy ask) r h since u d → LastAdds c ask r v d
 asked_turn c ask r h v u d made x = let t = x.turned in
     one_turn c ask r v u d t.job t.of t.ends.0 (made t.job t.of) t.ends.1
 
@@ -192,13 +192,13 @@ in_place c ask r v d none made is = record {
 read_place : (c : Config) (k : KeptObject) (r : Reply) (v u : View) (d : Part)
     → ReadsInPlace k.handle.n r u d → LastAdds c (AskRead k) r v d
 read_place c k (answer.Bytes version bytes) v u d x =
-    in_place c (AskRead k) (answer.Bytes version bytes) v d (ap (λ (p : Part). p.turns) x.part) refl (inl tt)
+    in_place c (AskRead k) (answer.Bytes version bytes) v d (ap (λ (p : Part). p.turns) x.part.3) refl (inl tt)
 read_place c k answer.Freed v u d x =
-    in_place c (AskRead k) answer.Freed v d (ap (λ (p : Part). p.turns) x.4) refl (inl tt)
+    in_place c (AskRead k) answer.Freed v d (ap (λ (p : Part). p.turns) x.4.3) refl (inl tt)
 read_place c k r v u d x = absurd x
 
-read_ends : (c : Config) (k : KeptObject) (r : Reply) (v u : View) (d : Part)
-    → ReadCallEnds c k.handle.n r u d → LastAdds c (AskRead k) r v d
+read_ends : {since : ℕ} (c : Config) (k : KeptObject) (r : Reply) (v u : View) (d : Part)
+    → ReadCallEnds c k.handle.n r since u d → LastAdds c (AskRead k) r v d
 read_ends c k r v u d (inl x) = read_place c k r v u d x
 read_ends c k r v u d (inr x) = asked_turn c (AskRead k) r k.handle.n v u d
     (λ j of. read_none k.handle.n j (Some r) of) x
@@ -216,26 +216,26 @@ write_place c k at bytes r v before d none a says x = by a says x
         → LastAdds c (AskWrite k at bytes) r v d
     by (place.Ok version) says x = same_as (answer.Version version) says
         (in_place c (AskWrite k at bytes) (answer.Version version) v d
-        (ap (λ (p : Part). p.turns) x.part) refl (inl tt))
+        (ap (λ (p : Part). p.turns) x.part.3) refl (inl tt))
     by place.Freed says x = same_as answer.Freed says
-        (in_place c (AskWrite k at bytes) answer.Freed v d (ap (λ (p : Part). p.turns) x.4) refl
+        (in_place c (AskWrite k at bytes) answer.Freed v d (ap (λ (p : Part). p.turns) x.4.3) refl
         (inl tt))
     by (place.Range len) says x = same_as (answer.Range len) says
         (in_place c (AskWrite k at bytes) (answer.Range len) v d
-        (ap (λ (p : Part). p.turns) x.2) refl (inl tt))
+        (ap (λ (p : Part). p.turns) x.3.3) refl (inl tt))
     by (place.Pinned count) says x = same_as (answer.Pinned count) says
         (in_place c (AskWrite k at bytes) (answer.Pinned count) v d
-        (ap (λ (p : Part). p.turns) x.2) refl (inl tt))
+        (ap (λ (p : Part). p.turns) x.3.3) refl (inl tt))
     by place.Worn says x = same_as answer.Worn says
-        (in_place c (AskWrite k at bytes) answer.Worn v d (ap (λ (p : Part). p.turns) x.part) refl
+        (in_place c (AskWrite k at bytes) answer.Worn v d (ap (λ (p : Part). p.turns) x.part.3) refl
         (inr (refl, saw_grown k.handle.n (2 ^ 64 - 1) v before none x.newest)))
     by place.NotHere says x = absurd says
     by place.Moving says x = absurd says
     by (place.Raced saw found) says x = absurd says
 
-write_ends : (c : Config) (k : KeptObject) (at : ℕ) (bytes : List ℕ) (r : Reply) (v : View)
+write_ends : {since : ℕ} (c : Config) (k : KeptObject) (at : ℕ) (bytes : List ℕ) (r : Reply) (v : View)
     (before d : Part) → before.written ≡ []
-    → WriteCallEnds c k.handle.n at bytes r (grown before v) d
+    → WriteCallEnds c k.handle.n at bytes r since (grown before v) d
     → LastAdds c (AskWrite k at bytes) r v d
 write_ends c k at bytes r v before d none (inl (a, says, x)) =
     write_place c k at bytes r v before d none a says x

@@ -165,8 +165,8 @@ module _ (c : Config) (r : View) where
               let f = length-append x.last.turns x.before.turns in
               omega (arith, a, b, e, f)
 
-          by : ReadCallEnds c 5 (answer.Bytes 1 bytes) (grown x.before v) x.last → ⊥
-          by (inl once) = let e : length x.last.looks ≡ 2 = ap (λ (p : Part). length p.looks) once.part in
+          by : ReadCallEnds c 5 (answer.Bytes 1 bytes) v.clock (grown x.before v) x.last → ⊥
+          by (inl once) = let e : length x.last.looks ≡ 2 = ap (λ (p : Part). length p.looks) once.part.3 in
               let n = none in omega (arith, e, n)
           by (inr a) = let e = ap (λ (p : Part). length p.turns) a.turned.ends.1.part in
               let n = no_turn in omega (arith, e, n)

@@ -255,8 +255,8 @@ module _ (c : Config) where
   here_pinned h at bytes place.Moving r v d says x count told = absurd says
   here_pinned h at bytes (place.Raced saw other) r v d says x count told = absurd says
 
-  ends_pinned : (h at : ℕ) (bytes : List ℕ) (r : Reply) (v : View) (d : Part)
-      → WriteCallEnds c h at bytes r v d → PinnedSays (pins_on h v) r
+  ends_pinned : {since : ℕ} (h at : ℕ) (bytes : List ℕ) (r : Reply) (v : View) (d : Part)
+      → WriteCallEnds c h at bytes r since v d → PinnedSays (pins_on h v) r
   ends_pinned h at bytes r v d (inl (a, says, x)) = here_pinned h at bytes a r v d says x
   ends_pinned h at bytes r v d (inr x) = by (write_own c h at bytes r v d x)
     where
@@ -301,7 +301,7 @@ module _ (c : Config) where
     between_same r x = pins_of_same _ x.between x.in_vain.2
 
     pin_ends : (r : Reply) → length v.pins < 16 → (x : PinsAtLast c h r v w)
-        → PinEnds c h r x.between w → IsScoped number (Some h) scope (Pin name) r w
+        → PinEnds c h r v.clock x.between w → IsScoped number (Some h) scope (Pin name) r w
     pin_ends (answer.Version version) room x ends = record {
       says = room_says (answer.Version version) room refl;
       pins = subst (AreNamedPins number (record { name = name; version = version } ∷ scope))

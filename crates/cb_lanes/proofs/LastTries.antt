@@ -47,7 +47,7 @@ module _ (c : Config) where
   answer_ends again r (inl x) = told_ends r x
   answer_ends again r (inr x) = lack_ends again r x
 
-  read_ends : (h : ℕ) (r : Reply) (v : View) (d : Part) → ReadCallEnds c h r v d → EndsTries r
+  read_ends : {since : ℕ} (h : ℕ) (r : Reply) (v : View) (d : Part) → ReadCallEnds c h r since v d → EndsTries r
   read_ends h (answer.Bytes version bytes) v d x = tt
   read_ends h answer.Freed v d x = tt
   read_ends h r v d x = lack_ends (again_in d.turns) r (read_lacks c h r v d (λ t. t) x)
@@ -62,13 +62,13 @@ module _ (c : Config) where
   said_ends place.Moving r is = absurd is
   said_ends (place.Raced saw found) r is = absurd is
 
-  write_ends : (h at : ℕ) (bytes : List ℕ) (r : Reply) (v : View) (d : Part)
-      → WriteCallEnds c h at bytes r v d → EndsTries r
+  write_ends : {since : ℕ} (h at : ℕ) (bytes : List ℕ) (r : Reply) (v : View) (d : Part)
+      → WriteCallEnds c h at bytes r since v d → EndsTries r
   write_ends h at bytes r v d (inl (a, says, x)) = said_ends a r says
   write_ends h at bytes r v d (inr x) =
       answer_ends (again_in d.turns) r (write_told c h at bytes r v d x)
 
-  pin_ends : (h : ℕ) (r : Reply) (v w : View) → PinEnds c h r v w → EndsTries r
+  pin_ends : {since : ℕ} (h : ℕ) (r : Reply) (v w : View) → PinEnds c h r since v w → EndsTries r
   pin_ends h (answer.Version version) v w x = tt
   pin_ends h answer.Freed v w x = tt
   pin_ends h answer.ScopeFull v w x = tt

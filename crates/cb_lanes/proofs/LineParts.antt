@@ -361,8 +361,8 @@ read_turn c h name answer.Worn v d a x = read_turned c h name answer.Worn v d x
 read_turn c h name r v d (inl a) x = absurd a
 read_turn c h name r v d (inr a) x = absurd a
 
-read_ends : (c : Config) (h : ℕ) (name : List ℕ) (r : Reply) (v : View) (d : Part)
-    → ReadCallEnds c h r v d → Backs d (told_as (Some h) (Read name) r ∷ [])
+read_ends : {since : ℕ} (c : Config) (h : ℕ) (name : List ℕ) (r : Reply) (v : View) (d : Part)
+    → ReadCallEnds c h r since v d → Backs d (told_as (Some h) (Read name) r ∷ [])
 read_ends c h name r v d (inl x) = in_place_backs h name r v d x
 read_ends c h name r v d (inr x) = by (read_own c h r v d x)
   where
@@ -452,8 +452,8 @@ write_here h at name bytes place.NotHere r v d says x = absurd says
 write_here h at name bytes place.Moving r v d says x = absurd says
 write_here h at name bytes (place.Raced saw other) r v d says x = absurd says
 
-write_ends : (c : Config) (h at : ℕ) (name bytes : List ℕ) (r : Reply) (v : View) (d : Part)
-    → WriteCallEnds c h at bytes r v d → Backs d (told_as (Some h) (Write name at bytes) r ∷ [])
+write_ends : {since : ℕ} (c : Config) (h at : ℕ) (name bytes : List ℕ) (r : Reply) (v : View) (d : Part)
+    → WriteCallEnds c h at bytes r since v d → Backs d (told_as (Some h) (Write name at bytes) r ∷ [])
 write_ends c h at name bytes r v d (inl (a, says, x)) = write_here h at name bytes a r v d says x
 write_ends c h at name bytes r v d (inr x) = by (write_own c h at bytes r v d x)
   where
@@ -556,7 +556,7 @@ filter_line c h name r v w x = by_turn c (job.Filter (the_handle h)) (Some h) (F
     subst (IsReplyOf (Filter name)) is (filter_reply c h name r v w x)) y) x
 
 -- ---- a pin
-pin_ends : (c : Config) (h : ℕ) (name : List ℕ) (r : Reply) (v w : View) → PinEnds c h r v w
+pin_ends : {since : ℕ} (c : Config) (h : ℕ) (name : List ℕ) (r : Reply) (v w : View) → PinEnds c h r since v w
     → LineAdds v w (told_as (Some h) (Pin name) r)
 pin_ends c h name (answer.Version version) v w x = (
   read_once h x.word version x.words,

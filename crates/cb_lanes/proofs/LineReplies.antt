@@ -72,7 +72,7 @@ module _ (c : Config) where
       x.ends_so.1
 
   -- why an object can't be brought in may be told to these lines
-  read_ends : (h : ℕ) (name : List ℕ) (r : Reply) (v : View) (d : Part) → ReadCallEnds c h r v d
+  read_ends : {since : ℕ} (h : ℕ) (name : List ℕ) (r : Reply) (v : View) (d : Part) → ReadCallEnds c h r since v d
       → IsReplyOf (Read name) r
   read_ends h name (answer.Bytes version bytes) v d x = tt
   read_ends h name answer.Freed v d x = tt
@@ -105,8 +105,8 @@ module _ (c : Config) where
       by (inl y) = y
       by (inr y) = y
 
-  write_ends : (h at : ℕ) (name bytes : List ℕ) (r : Reply) (v : View) (d : Part)
-      → WriteCallEnds c h at bytes r v d → IsReplyOf (Write name at bytes) r
+  write_ends : {since : ℕ} (h at : ℕ) (name bytes : List ℕ) (r : Reply) (v : View) (d : Part)
+      → WriteCallEnds c h at bytes r since v d → IsReplyOf (Write name at bytes) r
   write_ends h at name bytes r v d (inl (a, says, x)) = says_so name bytes at a r says
   write_ends h at name bytes r v d (inr x) = by (write_own c h at bytes r v d x)
     where
@@ -133,7 +133,7 @@ module _ (c : Config) where
       y.rule.answer) tt x
 
   -- ---- pins
-  pin_ends : (h : ℕ) (name : List ℕ) (r : Reply) (v w : View) → PinEnds c h r v w
+  pin_ends : {since : ℕ} (h : ℕ) (name : List ℕ) (r : Reply) (v w : View) → PinEnds c h r since v w
       → IsReplyOf (Pin name) r
   pin_ends h name (answer.Version version) v w x = tt
   pin_ends h name answer.Freed v w x = tt

@@ -43,8 +43,8 @@ here_least : (h version : ℕ) (bytes : List ℕ) (u : View) (d : Part) → IsRe
     → IsAtLeast u h version
 here_least h version bytes u d here = newest_above h version (with_look h here.word u) here.newest
 
-read_least : (c : Config) (h version : ℕ) (bytes : List ℕ) (u : View) (d : Part)
-    → ReadCallEnds c h (answer.Bytes version bytes) u d → IsAtLeast u h version
+read_least : {since : ℕ} (c : Config) (h version : ℕ) (bytes : List ℕ) (u : View) (d : Part)
+    → ReadCallEnds c h (answer.Bytes version bytes) since u d → IsAtLeast u h version
 read_least c h version bytes u d (inl here) = here_least h version bytes u d here
 read_least c h version bytes u d (inr x) = by (read_own c h (answer.Bytes version bytes) u d x)
   where

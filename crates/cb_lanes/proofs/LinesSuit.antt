@@ -231,19 +231,19 @@ not_said a r x is = by a (subst (SaysAs a) is x)
     by place.Moving y = y
     by (place.Raced saw other) y = y
 
-not_read : (c : Config) (h : ℕ) (r : Reply) (v : View) (d : Part) → ReadCallEnds c h r v d
+not_read : {since : ℕ} (c : Config) (h : ℕ) (r : Reply) (v : View) (d : Part) → ReadCallEnds c h r since v d
     → r ≢ answer.Unmade
 not_read c h (answer.Bytes version bytes) v d x is = absurd cc
 not_read c h answer.Freed v d x is = absurd cc
 not_read c h r v d x is = not_lack (again_in d.turns) r (read_lacks c h r v d (λ t. t) x) is
 
-not_written : (c : Config) (h at : ℕ) (bytes : List ℕ) (r : Reply) (v : View) (d : Part)
-    → WriteCallEnds c h at bytes r v d → r ≢ answer.Unmade
+not_written : {since : ℕ} (c : Config) (h at : ℕ) (bytes : List ℕ) (r : Reply) (v : View) (d : Part)
+    → WriteCallEnds c h at bytes r since v d → r ≢ answer.Unmade
 not_written c h at bytes r v d (inl (a, says, x)) is = not_said a r says is
 not_written c h at bytes r v d (inr x) is =
     not_told (again_in d.turns) r (write_told c h at bytes r v d x) is
 
-not_pinned : (c : Config) (h : ℕ) (r : Reply) (v w : View) → PinEnds c h r v w
+not_pinned : {since : ℕ} (c : Config) (h : ℕ) (r : Reply) (v w : View) → PinEnds c h r since v w
     → r ≢ answer.Unmade
 not_pinned c h (answer.Version version) v w x is = absurd cc
 not_pinned c h answer.Freed v w x is = absurd cc

@@ -260,9 +260,9 @@ module _ (h at : ℕ) (bytes : List ℕ) (r : Reply) (of_word : IsOfWord r) wher
   lack_word = by_lack (λ (q : Reply). IsOfWord q → ⊥) (λ set lost is. is)
       (λ frames loose nodes is. is) (λ is. is)
 
-  ends_saw : (c : Config) (u : View) (d : Part) (m : View)
+  ends_saw : {since : ℕ} (c : Config) (u : View) (d : Part) (m : View)
       → ((l : Look) → Has l d.looks → Has l m.looks) → ((t : Turn) → Has t d.turns → Has t m.turns)
-      → WriteCallEnds c h at bytes r u d → SawWord m
+      → WriteCallEnds c h at bytes r since u d → SawWord m
   ends_saw c u d m looks turns (inl x) = place_saw u d m looks x.0 x.1 x.2
   ends_saw c u d m looks turns (inr x) = by (write_own c h at bytes r u d x)
     where

@@ -53,7 +53,7 @@ module _ (c : Config) where
   call_own j r v m (d, x, is) k has = subst (λ (z : View). Has k z.own) (sym is)
       (has_right k (made_by_turn j (Some r)) v.own has)
 
-  end_own : (h : ℕ) (r : Reply) (v m : View) → PinEnds c h r v m → OwnMore v m
+  end_own : {since : ℕ} (h : ℕ) (r : Reply) (v m : View) → PinEnds c h r since v m → OwnMore v m
   end_own h (answer.Version version) v m x k has =
       subst (λ (z : View). Has k z.own) (sym x.left) has
   end_own h answer.Freed v m (word, version, empty, newest, is) k has =

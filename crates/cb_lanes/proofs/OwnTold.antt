@@ -90,8 +90,8 @@ module _ (c : Config) where
   lack_tells again h at bytes (answer.Range len) u lack = absurd lack
   lack_tells again h at bytes r u lack = λ own. tt
 
-  ends_tell : (h at : ℕ) (bytes : List ℕ) (r : Reply) (u : View) (d : Part)
-      → WriteCallEnds c h at bytes r u d
+  ends_tell : {since : ℕ} (h at : ℕ) (bytes : List ℕ) (r : Reply) (u : View) (d : Part)
+      → WriteCallEnds c h at bytes r since u d
       → TellsOwn (Calls (job.Write (the_handle h) at bytes)) u r
   ends_tell h at bytes r u d (inl x) = here_tells h at bytes x.0 r u d x.1 x.2
   ends_tell h at bytes r u d (inr x) = by (write_own c h at bytes r u d x)

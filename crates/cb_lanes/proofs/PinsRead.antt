@@ -95,7 +95,7 @@ module _ (c : Config) where
   call_pins (job.Free handle) r v w (d, x, is) read = pins_grown v w d _ is read
   call_pins j r v w (d, x, is) read = pins_grown v w d _ is read
 
-  end_pins : (h : ℕ) (r : Reply) (v w : View) → PinEnds c h r v w → PinsRead v → PinsRead w
+  end_pins : {since : ℕ} (h : ℕ) (r : Reply) (v w : View) → PinEnds c h r since v w → PinsRead v → PinsRead w
   end_pins h (answer.Version version) v w x read = subst PinsRead (sym x.left) (
     (_, inl refl, refl, refl, refl, refl),
     pins_more v (with_pin h x.word version x.words (with_look h x.word v)) v.pins

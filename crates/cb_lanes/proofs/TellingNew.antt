@@ -107,8 +107,8 @@ lack_new : (again : Bool) (h at : ℕ) (bytes : List ℕ) (r : Reply) (v : View)
 lack_new again h at bytes (answer.Version version) v lack = absurd lack
 lack_new again h at bytes r v lack = tt
 
-ends_new : (c : Config) (h at : ℕ) (bytes : List ℕ) (r : Reply) (v : View) (d : Part)
-    → WriteCallEnds c h at bytes r v d → TellsNew (Calls (job.Write (the_handle h) at bytes)) v r
+ends_new : {since : ℕ} (c : Config) (h at : ℕ) (bytes : List ℕ) (r : Reply) (v : View) (d : Part)
+    → WriteCallEnds c h at bytes r since v d → TellsNew (Calls (job.Write (the_handle h) at bytes)) v r
 ends_new c h at bytes r v d (inl x) = here_new h at bytes x.0 r v d x.1 x.2
 ends_new c h at bytes r v d (inr x) = by (write_own c h at bytes r v d x)
   where

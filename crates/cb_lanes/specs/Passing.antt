@@ -1,5 +1,5 @@
 -- What a line adds to the record of the pass with which its lane runs beside other threads.
-use Rattle.std.specs.Prelude.{◌≡◌, ◌≢◌, ℕ, suc, zero, ◌<◌, List, [], ◌∷◌, ◌++◌, length, map}
+use Rattle.std.specs.Prelude.{◌≡◌, ◌≢◌, ℕ, suc, zero, ◌<◌, List, [], ◌∷◌, ◌++◌, length, map, false}
 use Rattle.std.specs.Prelude.{slice_index, ◌⊎◌, Ok, Option, None, Some}
 use Rattle.cb_types.specs.declared.config.Config.{Config}
 use Rattle.cb_types.specs.declared.job.Job.{Job}
@@ -16,6 +16,7 @@ use Rattle.cb_rule.specs.declared.view.Stand.{Stand}
 use Rattle.cb_rule.specs.declared.view.View.{View}
 use Rattle.cb_rule.specs.Seats.{pins_on}
 use Rattle.cb_rule.specs.Steps.{IsNewest, with_look, with_pin, without_pin}
+use Rattle.cb_record.specs.Finding.{FindsAs}
 use Rattle.cb_record.specs.Parts.{Grows, Part}
 use Rattle.cb_shared.specs.declared.pass.Pin.{Pin}
 use Rattle.cb_shared.specs.Calls.{AsksFor, AtThis, Brings, IsUnanswered, ReadGives, TriesInVain}
@@ -41,15 +42,15 @@ pub record IsPinnedOnce (h version : ℕ) (v w : View) : Type 0 where
   pub words : List ℕ
   pub here : state_of word ≡ state.Here
   pub newest : IsNewest h version v
-  pub left : w ≡ with_pin h word version words (with_look h word v)
+  pub left : FindsAs h version false v (with_pin h word version words (with_look h word v)) w
 
--- The last try of a pin: it takes the pin, or a look finds the object freed, or a turn can't bring
--- in one that the newest look found far.
-abbrev pub PinEnds : Config → ℕ → Reply → View → View → Type 0
-PinEnds c h (answer.Version version) v w = IsPinnedOnce h version v w
-PinEnds c h answer.Freed v w = FindsFreed h v w
-PinEnds c h answer.ScopeFull v w = ⊥
-PinEnds c h r v w = (d : Part) × AsksFor c (Brings h) r h v d × Grows v d w
+-- The last try of a pin that began at this clock: it takes the pin, or a look finds the object
+-- freed, or a turn can't bring in one that the newest look found far.
+abbrev pub PinEnds : Config → ℕ → Reply → ℕ → View → View → Type 0
+PinEnds c h (answer.Version version) since v w = IsPinnedOnce h version v w
+PinEnds c h answer.Freed since v w = FindsFreed h v w
+PinEnds c h answer.ScopeFull since v w = ⊥
+PinEnds c h r since v w = (d : Part) × AsksFor c (Brings h) r h since v d × Grows v d w
 
 -- tries of a pin that came to nothing: turns that bring the object in, and looks at it
 abbrev pub PinsInVain : Config → ℕ → View → View → Type 0
@@ -59,7 +60,7 @@ PinsInVain c h v w = TriesInVain (AtThis h) (IsUnanswered (Brings h)) v w
 pub record PinsAtLast (c : Config) (h : ℕ) (r : Reply) (v w : View) : Type 0 where
   pub between : View
   pub in_vain : PinsInVain c h v between
-  pub ends_so : PinEnds c h r between w
+  pub ends_so : PinEnds c h r v.clock between w
 
 -- A pin: a pass that has as many pins as it may have is told so, and nothing changes.
 abbrev pub PinGoes : Config → ℕ → View → Reply → View → Type 0

@@ -1,4 +1,5 @@
 -- The lemmas of this crate that other crates cite.
+pub use Rattle.cb_record.proofs.Finding.{find_behind, find_front, finds_then, finds_twice, found_behind, found_front, next_front}
 pub use Rattle.cb_record.proofs.Happening.{turn_of_make}
 pub use Rattle.cb_record.proofs.Lasting.{has_last}
 pub use Rattle.cb_record.proofs.Legality.{are_histories, known_of_backed, legal_of_backed}

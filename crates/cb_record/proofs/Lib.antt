@@ -1,4 +1,5 @@
 mod Listing
+mod Finding
 mod Summing
 mod Links
 mod Ordering
@@ -17,6 +18,7 @@ mod Happening
 mod Upholding
 pub mod Laws
 mod WorkedParts
+mod WorkedFinding
 mod WorkedNeeds
 mod WorkedBacks
 mod WorkedWrote

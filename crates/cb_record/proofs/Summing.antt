@@ -1,5 +1,5 @@
 -- What parts back adds up: one part and a later one back the answers of both.
-use Rattle.std.proofs.Common.{◌≡◌, ◌+◌, List, [], ◌∷◌, ◌++◌, map, sym, refl, ap, ◌∙◌, append_assoc, subst, inl, inr, Option, Some, arith}
+use Rattle.std.proofs.Common.{◌≡◌, ◌+◌, max, List, [], ◌∷◌, ◌++◌, map, sym, refl, ap, ◌∙◌, append_assoc, subst, inl, inr, Option, Some, arith}
 use Rattle.std.specs.List.{flat_map}
 use Rattle.std.proofs.lemmas.List.{append-nil, map-append}
 use Rattle.std.proofs.lemmas.List.Concat.{flat_map-append}
@@ -145,6 +145,8 @@ sum-nothing_more d = λ i. record {
   peeked = d.peeked;
   ever = (let e : d.ever + 0 ≡ d.ever = omega arith in e) i;
   looks = d.looks;
+  clock = (let n : max d.clock 0 ≡ d.clock = omega arith in n) i;
+  finds = d.finds;
   turns = d.turns;
 }
 
@@ -155,6 +157,8 @@ nothing_more-sum d = λ i. record {
   peeked = append-nil d.peeked i;
   ever = (let e : 0 + d.ever ≡ d.ever = omega arith in e) i;
   looks = append-nil d.looks i;
+  clock = (let n : max 0 d.clock ≡ d.clock = omega arith in n) i;
+  finds = append-nil d.finds i;
   turns = append-nil d.turns i;
 }
 
@@ -165,6 +169,8 @@ sum-sum c d e = λ i. record {
   peeked = sym (append_assoc e.peeked d.peeked c.peeked) i;
   ever = (let n : c.ever + d.ever + e.ever ≡ c.ever + (d.ever + e.ever) = omega arith in n) i;
   looks = sym (append_assoc e.looks d.looks c.looks) i;
+  clock = (let n : max (max c.clock d.clock) e.clock ≡ max c.clock (max d.clock e.clock) = omega arith in n) i;
+  finds = sym (append_assoc e.finds d.finds c.finds) i;
   turns = sym (append_assoc e.turns d.turns c.turns) i;
 }
 
@@ -181,6 +187,9 @@ grown-sum d e v = λ i. record v {
   peeked = append_assoc e.peeked d.peeked v.peeked i;
   ever = (let n : v.ever + (d.ever + e.ever) ≡ v.ever + d.ever + e.ever = omega arith in n) i;
   looks = append_assoc e.looks d.looks v.looks i;
+  clock = (let n : max v.clock (max d.clock e.clock) ≡ max (max v.clock d.clock) e.clock =
+      omega arith in n) i;
+  finds = append_assoc e.finds d.finds v.finds i;
   turns = append_assoc e.turns d.turns v.turns i;
   order = keeps_append e.turns d.turns v.order i;
 }
@@ -188,4 +197,5 @@ grown-sum d e v = λ i. record v {
 pub grown-nothing_more : (v : View) → grown nothing_more v ≡ v
 grown-nothing_more v = λ i. record v {
   ever = (let n : v.ever + 0 ≡ v.ever = omega arith in n) i;
+  clock = (let n : max v.clock 0 ≡ v.clock = omega arith in n) i;
 }

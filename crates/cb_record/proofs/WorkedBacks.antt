@@ -149,6 +149,8 @@ module _ (t : Turn) where
     peeked = [];
     ever = 1;
     looks = [];
+    clock = 0;
+    finds = [];
     turns = crash_turn ∷ filter_turn ∷ make_turn ∷ [];
   }
 

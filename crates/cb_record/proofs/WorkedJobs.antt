@@ -1,5 +1,5 @@
 -- Worked jobs of lines, and answers that need a turn: each row, and what breaks one part alone.
-use Rattle.std.proofs.Common.{◌≡◌, ℕ, ◌+◌, ◌*◌, true, false, List, [], ◌∷◌, Option, Some, None, refl, ap, inl, inr, ⊎_elim, arith}
+use Rattle.std.proofs.Common.{◌≡◌, ℕ, ◌+◌, ◌*◌, max, true, false, List, [], ◌∷◌, Option, Some, None, refl, ap, inl, inr, ⊎_elim, arith}
 use Rattle.cb_ptr.specs.declared.word.State.TheVariants as state
 use Rattle.cb_types.specs.declared.job.Job.{Job}
 use Rattle.cb_types.specs.declared.job.Job.TheVariants as job
@@ -9,6 +9,7 @@ use Rattle.cb_types.specs.declared.request.Request.{Request}
 use Rattle.cb_types.specs.declared.request.Request.TheVariants as request
 use Rattle.cb_world.specs.Written.{entry, gone}
 use Rattle.cb_rule.specs.declared.turn.Turn.{Turn}
+use Rattle.cb_rule.specs.declared.view.Find.{Find}
 use Rattle.cb_rule.specs.declared.view.Look.{Look}
 use Rattle.cb_rule.specs.declared.view.Peeked.{Peeked}
 use Rattle.cb_rule.specs.declared.view.Seen.{Seen}
@@ -229,6 +230,9 @@ module _ (t : Turn) where
   abbrev peek : ℕ → Peeked
   peek j = record { handle = 3; version = 2; index = j; word = 7 }
 
+  abbrev find : ℕ → Find
+  find at = record { handle = 3; version = 1; freed = false; at = at }
+
   abbrev first_part : Part
   first_part = record {
     written = entry 3 1 2 [] (513 ∷ []) ∷ [];
@@ -236,6 +240,8 @@ module _ (t : Turn) where
     peeked = peek 0 ∷ [];
     ever = 2;
     looks = empty ∷ [];
+    clock = 4;
+    finds = find 4 ∷ [];
     turns = t ∷ [];
   }
 
@@ -246,6 +252,8 @@ module _ (t : Turn) where
     peeked = peek 1 ∷ [];
     ever = 5;
     looks = here ∷ [];
+    clock = 6;
+    finds = find 6 ∷ [];
     turns = record t { job = job.Evict } ∷ [];
   }
 
@@ -255,6 +263,8 @@ module _ (t : Turn) where
     peeked = peek 1 ∷ peek 0 ∷ [];
     ever = 7;
     looks = here ∷ empty ∷ [];
+    clock = 6;
+    finds = find 6 ∷ find 4 ∷ [];
     turns = record t { job = job.Evict } ∷ t ∷ [];
   }
   both_parts = refl
@@ -269,6 +279,8 @@ module _ (t : Turn) where
       peeked = peek 0 ∷ v.peeked;
       ever = v.ever + 2;
       looks = empty ∷ v.looks;
+      clock = max v.clock 4;
+      finds = find 4 ∷ v.finds;
       order = t.keeps;
       turns = t ∷ v.turns;
     }
@@ -288,6 +300,8 @@ module _ (t : Turn) where
       peeked = [];
       ever = 0;
       looks = [];
+      clock = 3;
+      finds = [];
       turns = [];
     }) ≡ first_part
     whole_part = refl

@@ -1,5 +1,5 @@
 -- Worked parts and lists of a record: what meets each definition, and what breaks one part alone.
-use Rattle.std.proofs.Common.{◌≡◌, ℕ, ◌+◌, ◌≤◌, true, false, List, [], ◌∷◌, length, Some, None, refl, ap, inl, inr, ⊎_elim, arith}
+use Rattle.std.proofs.Common.{◌≡◌, ℕ, ◌+◌, ◌≤◌, max, true, false, List, [], ◌∷◌, length, Some, None, refl, ap, inl, inr, ⊎_elim, arith}
 use Rattle.cb_types.specs.declared.answer.Answer.{Answer}
 use Rattle.cb_types.specs.declared.job.Job.TheVariants as job
 use Rattle.cb_types.specs.declared.reply.Reply.TheVariants as answer
@@ -41,7 +41,11 @@ the_other_way e =
     let z : 2 ≡ 1 = ap (λ (d : Part). version_first d.written) e in omega (arith, z)
 
 grows : (v : View)
-    → Grows v made_part (record v { written = made_entry ∷ v.written; ever = v.ever + 1 })
+    → Grows v made_part (record v {
+      written = made_entry ∷ v.written;
+      ever = v.ever + 1;
+      clock = max v.clock 0;
+    })
 grows v = refl
 
 -- without the pin, and without the entry

@@ -1,4 +1,5 @@
 pub mod Parts
+pub mod Finding
 pub mod Deeds
 pub mod Lists
 pub mod Told

@@ -1,8 +1,9 @@
 -- A part of the record of a pass: what a call, a line or a body adds to it.
-use Rattle.std.specs.Prelude.{◌≡◌, ℕ, ◌+◌, List, [], ◌∷◌, ◌++◌, Option}
+use Rattle.std.specs.Prelude.{◌≡◌, ℕ, ◌+◌, max, List, [], ◌∷◌, ◌++◌, Option}
 use Rattle.cb_types.specs.declared.order.Kept.{Kept}
 use Rattle.cb_world.specs.declared.entry.Entry.{Entry}
 use Rattle.cb_rule.specs.declared.turn.Turn.{Turn}
+use Rattle.cb_rule.specs.declared.view.Find.{Find}
 use Rattle.cb_rule.specs.declared.view.Look.{Look}
 use Rattle.cb_rule.specs.declared.view.Peeked.{Peeked}
 use Rattle.cb_rule.specs.declared.view.Seen.{Seen}
@@ -15,6 +16,8 @@ pub record Part : Type 0 where
   pub peeked : List Peeked
   pub ever : ℕ
   pub looks : List Look
+  pub clock : ℕ
+  pub finds : List Find
   pub turns : List Turn
 
 abbrev pub nothing_more : Part
@@ -24,6 +27,8 @@ nothing_more = record {
   peeked = [];
   ever = 0;
   looks = [];
+  clock = 0;
+  finds = [];
   turns = [];
 }
 
@@ -35,6 +40,8 @@ sum d e = record {
   peeked = e.peeked ++ d.peeked;
   ever = d.ever + e.ever;
   looks = e.looks ++ d.looks;
+  clock = max d.clock e.clock;
+  finds = e.finds ++ d.finds;
   turns = e.turns ++ d.turns;
 }
 
@@ -51,6 +58,8 @@ grown d v = record v {
   peeked = d.peeked ++ v.peeked;
   ever = v.ever + d.ever;
   looks = d.looks ++ v.looks;
+  clock = max v.clock d.clock;
+  finds = d.finds ++ v.finds;
   turns = d.turns ++ v.turns;
   order = keeps_after d.turns v.order;
 }

@@ -19,6 +19,8 @@ as_part v = record {
   peeked = v.peeked;
   ever = v.ever;
   looks = v.looks;
+  clock = v.clock;
+  finds = v.finds;
   turns = v.turns;
 }
 

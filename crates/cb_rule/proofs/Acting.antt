@@ -139,7 +139,7 @@ module _ (beside : Beside) (steady : IsSteady beside) (first : ℕ) (c : Config)
           views = set s.views id (act (Looked h x) me.0);
         }) (sym (ap (λ b. either b new x) (ne_eqb x old ne)))
             (next_load beside steady first c s id me.0 at r (Looked h x) (1 + h) holds live
-            (omega arith) tt tt (look_steps c s.words s.views me.0 r.history m h l)),
+            (omega arith) tt tt (look_steps c s.words s.views me.0 r.history m h l low)),
         λ h' q. let same : h ≡ h' = omega arith in (
           (λ e. absurd (ne e)),
           (λ _. subst (λ (j : ℕ). HasEvent me (Looked j x) (act (Looked h x) me.0, me.1)) same

@@ -1,6 +1,6 @@
 -- Any seat may claim an object outside of a turn, store there and settle it: the steps on the
 -- table.
-use Rattle.std.proofs.Common.{◌≡◌, ℕ, ◌+◌, ◌*◌, ◌<◌, ◌≤◌, Bool, true, cond, List, [], ◌∷◌, length}
+use Rattle.std.proofs.Common.{◌≡◌, ℕ, ◌+◌, ◌*◌, ◌<◌, ◌≤◌, Bool, true, false, cond, List, [], ◌∷◌, length}
 use Rattle.std.proofs.Common.{get_or, set, sym, refl, ap, ◌∙◌, subst, ⊎_elim, arith, eqb, eq-eqb}
 use Rattle.std.proofs.Common.{ne_eqb}
 use mathlib.Core.Logic.{dite}
@@ -12,6 +12,7 @@ use Rattle.atomic_table.specs.Table.{Allows, keeps, step}
 use Rattle.cb_types.specs.declared.config.Config.{Config}
 use Rattle.cb_ptr.specs.declared.word.State.TheVariants as word
 use Rattle.cb_ptr.specs.Word.{state_of, hot_of, len_of, place_of, pins_of}
+use Rattle.cb_world.specs.declared.entry.Entry.{Entry}
 use Rattle.cb_world.specs.declared.object.Object.TheVariants as is
 use Rattle.cb_world.specs.Memory.{words_for}
 use Rattle.cb_world.specs.Shown.{Fits}
@@ -19,21 +20,25 @@ use Rattle.cb_world.specs.StillDesk.{window_length}
 use Rattle.cb_world.specs.Write.{IsWrite}
 use Rattle.cb_rule.specs.declared.view.Held.{Held}
 use Rattle.cb_rule.specs.declared.view.View.{View}
-use Rattle.cb_rule.specs.History.{newest, top}
+use Rattle.cb_rule.specs.History.{Value, newest, top}
 use Rattle.cb_rule.specs.Lists.{times, Has}
 use Rattle.cb_rule.specs.Records.{LookOk}
 use Rattle.cb_rule.specs.Ruled.{Beside, IsSteady, Ruled}
 use Rattle.cb_rule.specs.Seats.{claims_it}
 use Rattle.cb_rule.specs.Slot.{Sat, Table}
+use Rattle.cb_rule.specs.Steps.{Finds, found, found_both}
 use Rattle.cb_rule.specs.Steps.{FindsVersion, Knows, claimed_here, look_at, next_entry, put_back}
 use Rattle.cb_rule.specs.Steps.{settled_here, stamped_here, stored_here, with_claim, with_back}
 use Rattle.cb_rule.specs.Steps.{with_held, with_look, with_stamp, with_version, with_claim_word}
-use Rattle.cb_rule.specs.Words.{base, pointer, stamps}
+use Rattle.cb_rule.specs.Words.{base, is_gone, pointer, stamps}
 use Rattle.cb_rule.proofs.Calm.{look_ok, still_rule}
 use Rattle.cb_rule.proofs.Claiming.{found_below, found_calm, found_here, found_shared}
 use Rattle.cb_rule.proofs.Counts.{hit}
+use Rattle.cb_rule.proofs.Finding.{clock_low, finds_as, found_now, found_rule, gone_now, keeps_found}
+use Rattle.cb_rule.proofs.Finding.{kept_now}
 use Rattle.cb_rule.proofs.Keeping.{lies_here}
 use Rattle.cb_rule.proofs.Lifting.{any_seat, same_lock, same_words}
+use Rattle.cb_rule.proofs.Histories.{newest_same, top_same}
 use Rattle.cb_rule.proofs.Newest.{is_newest}
 use Rattle.cb_rule.proofs.Members.{times_has}
 use Rattle.cb_rule.proofs.Owning.{keeps_all, keeps_back, keeps_claim, keeps_held, keeps_version}
@@ -61,17 +66,22 @@ module _ (beside : Beside) (steady : IsSteady beside) (first : ℕ) (c : Config)
       (h n : ℕ) → h < c.handles → pointer s.words h ≡ n → Ruled beside first c record {
         words = set s.words (1 + h) (get_or s.words (1 + h) 0);
         homes = s.homes;
-        views = set s.views id (with_look h n me.0);
+        views = set s.views id (found h (top r.history h) (is_gone (state_of n)) (length r.history)
+            (with_look h n me.0));
       }
-  looked_on s r at h n l found =
+  looked_on s r at h n l there =
       let u : View = with_look h n me.0 in let ok = r.kept.seats id me.0 at in
+      let gone : Bool = is_gone (state_of n) in let v : ℕ = top r.history h in
+      let w : View = found h v gone (length r.history) u in
       subst (λ (ws : List ℕ). Ruled beside first c record {
         words = ws;
         homes = s.homes;
-        views = set s.views id u;
+        views = set s.views id w;
       }) (sym (same_words s.words (1 + h)))
-      (any_seat beside steady first c s id me.0 at r u s.words r.history refl live
-      record { holds = refl; start = refl; since = refl; took = refl; turns = refl; order = refl } (keeps_all me.0 u.looks me.0.peeked) refl
+      (any_seat beside steady first c s id me.0 at r w s.words r.history refl live
+      record { holds = refl; start = refl; since = refl; took = refl; turns = refl; order = refl }
+      (keeps_found me.0 u h v (length r.history) gone (keeps_all me.0 u.looks me.0.peeked)) refl
+      (found_now c s.words s.views r.known r.history id me.0 u h gone at
       (still_rule c s.words s.views r.known r.history r.kept id h me.0 u at record {
         same_config = refl;
         claims = refl;
@@ -82,11 +92,14 @@ module _ (beside : Beside) (steady : IsSteady beside) (first : ℕ) (c : Config)
         few = ok.few;
         others = λ k ne. refl;
         lasting = record_held c r.known.first r.history me.0 me.0.claims u.looks (
-          subst (λ (m : ℕ). LookOk r.history (look_at h m)) found
+          subst (λ (m : ℕ). LookOk r.history (look_at h m)) there
               (look_ok c s.words s.views r.known r.history r.kept h l),
           ok.lasting.looks,
         ) ok.lasting;
-      } refl))
+      } refl)
+      (gone_now c s.words s.views r.known r.history r.kept h l
+      ∙ ap (λ (m : ℕ). is_gone (state_of m)) there)
+      (clock_low c s.words s.views r.known r.history r.kept id me.0 at)))
 
   -- what was found of an object whose word is Here
   finds_it : (s : Table) (r : Ruled beside first c s) (at : get_elem? s.views id ≡ some me.0)
@@ -120,46 +133,54 @@ module _ (beside : Beside) (steady : IsSteady beside) (first : ℕ) (c : Config)
       let v : ℕ = top r.history h in let words : List ℕ = (newest r.history h).words in
       dite (ℕ_discrete x old)
       (λ e. let u : View = with_claim h x v words me.0 in
+      let n : ℕ = length r.history in let w : View = found h v false n u in
+      let low = clock_low c s.words s.views r.known r.history r.kept id me.0 at in
       let here' : state_of x ≡ word.Here = ap state_of e ∙ here in (
-        u,
+        w,
         keeps,
         tt,
         subst (λ (n : ℕ). Ruled beside first c record {
           words = set s.words (1 + h) n;
           homes = s.homes;
-          views = set s.views id u;
+          views = set s.views id w;
         }) (ap (λ (j : ℕ). j + 1) e ∙ sym one ∙ ap (λ b. either b new x) (sym (eq-eqb x old e)))
-            (any_seat beside steady first c s id me.0 at r u (set s.words (1 + h) (x + 1))
+            (any_seat beside steady first c s id me.0 at r w (set s.words (1 + h) (x + 1))
             r.history refl live record { holds = refl; start = refl; since = refl; took = refl; turns = refl; order = refl }
-            (keeps_claim h me.0 (known_traces h me.0 knows) x v words)
+            (keeps_found me.0 u h v n false
+            (keeps_claim h me.0 (known_traces h me.0 knows) x v words))
             (same_lock s.words (1 + h) (x + 1) (omega arith))
-            (own_claim c s.words s.views r.known r.history r.kept id me.0 at h x l refl here'
-            (ap pins_of e ∙ bare))),
+            (found_now c (set s.words (1 + h) (x + 1)) s.views r.known r.history id me.0 u h false
+            at (own_claim c s.words s.views r.known r.history r.kept id me.0 at h x l refl here'
+            (ap pins_of e ∙ bare))
+            (kept_now c s.words s.views r.known r.history r.kept h l here') low)),
         λ h' q. let same : h ≡ h' = omega arith in (
           (λ _. (
             v,
             words,
-            ap (λ (j : ℕ). let m : Sat = (with_claim j x v words me.0, me.1) in m)
-                same,
+            finds_as h h' v n false (λ j. with_claim j x v words me.0) me same low,
             subst (λ (j : ℕ). FindsVersion j x v words me.0) same
                 (finds_it s r at h x l refl here'),
           )),
           λ ne. absurd (ne e),
         ),
       ))
-      (λ ne. (
-        with_look h x me.0,
+      (λ ne. let gone : Bool = is_gone (state_of x) in let n : ℕ = length r.history in (
+        found h v gone n (with_look h x me.0),
         keeps,
         tt,
-        subst (λ (n : ℕ). Ruled beside first c record {
-          words = set s.words (1 + h) n;
+        subst (λ (y : ℕ). Ruled beside first c record {
+          words = set s.words (1 + h) y;
           homes = s.homes;
-          views = set s.views id (with_look h x me.0);
+          views = set s.views id (found h v gone n (with_look h x me.0));
         }) (sym (ap (λ b. either b new x) (ne_eqb x old ne)))
             (looked_on s r at h x l refl),
         λ h' q. let same : h ≡ h' = omega arith in (
           (λ e. absurd (ne e)),
-          λ _. ap (λ (j : ℕ). let m : Sat = (with_look j x me.0, me.1) in m) same,
+          λ _. (
+            v,
+            finds_as h h' v n gone (λ j. with_look j x me.0) me same
+                (clock_low c s.words s.views r.known r.history r.kept id me.0 at),
+          ),
         ),
       ))
 
@@ -236,18 +257,50 @@ module _ (beside : Beside) (steady : IsSteady beside) (first : ℕ) (c : Config)
         → Allows (Ruled beside first c) slots id me (1 + x.handle) (λ _. w)
         (λ _. settled_here (step slots (1 + x.handle) w 0 none) me w)
     settles_here w at' bytes up write inside here bare hot fits s r _ at _ =
-        let u : View = with_version x me.0 in (
-          u,
+        let u : View = with_version x me.0 in let n : ℕ = length r.history in
+        let k = r.kept in let es : List Entry = next_entry x ∷ r.history in
+        let low = clock_low c s.words s.views r.known r.history k id me.0 at in
+        let o = own_ok c s.words s.views r.known r.history k id me.0 at x there in
+        let old : View = found x.handle x.version false n u in (
+          found_both x n u,
           keeps,
           tt,
-          any_seat beside steady first c s id me.0 at r u (set s.words (1 + x.handle) w)
-              (next_entry x ∷ r.history) refl live
-              record { holds = refl; start = refl; since = refl; took = refl; turns = refl; order = refl } (keeps_version x me.0 there)
+          any_seat beside steady first c s id me.0 at r (found_both x n u)
+              (set s.words (1 + x.handle) w) es refl live
+              record { holds = refl; start = refl; since = refl; took = refl; turns = refl; order = refl }
+              (keeps_found me.0 old x.handle (x.version + 1) (n + 1) false
+              (keeps_found me.0 u x.handle x.version n false (keeps_version x me.0 there)))
               (same_lock s.words (1 + x.handle) w (omega arith))
-              (own_settle c s.words s.views r.known r.history r.kept id me.0 at x there w at' bytes
-              up write inside here bare hot fits),
-          λ z has e. ap (λ (q : Held). let m : Sat = (with_version q me.0, me.1) in m)
-              (only_one s r at x z there has (omega (arith, e))),
+              (found_rule c (set s.words (1 + x.handle) w) s.views r.known es id me.0 old x.handle
+              (x.version + 1) (n + 1) false at
+              (found_rule c (set s.words (1 + x.handle) w) s.views r.known es id me.0 u x.handle
+              x.version n false at
+              (own_settle c s.words s.views r.known r.history k id me.0 at x there w at' bytes
+              up write inside here bare hot fits)
+              record {
+                newer = next_entry x ∷ [];
+                older = r.history;
+                parts = refl;
+                long = refl;
+                last = sym o.number;
+                gone = ap (λ (v : Value). v.freed) o.contents;
+              }
+              low (omega arith))
+              record {
+                newer = [];
+                older = es;
+                parts = refl;
+                long = omega arith;
+                last = top_same (next_entry x) r.history;
+                gone = ap (λ (v : Value). v.freed) (newest_same (next_entry x) r.history);
+              }
+              (omega arith) (omega arith)),
+          λ z has e. (
+            n,
+            low,
+            ap (λ (q : Held). let m : Sat = (found_both q n (with_version q me.0), me.1) in m)
+                (only_one s r at x z there has (omega (arith, e))),
+          ),
         )
 
     -- or put back as it was
@@ -255,15 +308,32 @@ module _ (beside : Beside) (steady : IsSteady beside) (first : ℕ) (c : Config)
         → Allows (Ruled beside first c) slots id me (1 + x.handle) (λ _. x.word)
         (λ _. put_back (step slots (1 + x.handle) x.word 0 none) me x.word)
     puts_back same_stamp same_memory s r _ at _ =
-        let u : View = with_back x me.0 in (
-          u,
+        let u : View = with_back x me.0 in let n : ℕ = length r.history in let k = r.kept in
+        let low = clock_low c s.words s.views r.known r.history k id me.0 at in
+        let o = own_ok c s.words s.views r.known r.history k id me.0 at x there in
+        let w : View = found x.handle x.version false n u in (
+          w,
           keeps,
           tt,
-          any_seat beside steady first c s id me.0 at r u (set s.words (1 + x.handle) x.word)
-              r.history refl live record { holds = refl; start = refl; since = refl; took = refl; turns = refl; order = refl }
-              (keeps_back x me.0 there) (same_lock s.words (1 + x.handle) x.word (omega arith))
-              (own_put_back c s.words s.views r.known r.history r.kept id me.0 at x there same_stamp
-              same_memory),
-          λ z has e. ap (λ (q : Held). let m : Sat = (with_back q me.0, me.1) in m)
-              (only_one s r at x z there has (omega (arith, e))),
+          any_seat beside steady first c s id me.0 at r w (set s.words (1 + x.handle) x.word)
+              r.history refl live
+              record { holds = refl; start = refl; since = refl; took = refl; turns = refl; order = refl }
+              (keeps_found me.0 u x.handle x.version n false (keeps_back x me.0 there))
+              (same_lock s.words (1 + x.handle) x.word (omega arith))
+              (found_rule c (set s.words (1 + x.handle) x.word) s.views r.known r.history id me.0 u
+              x.handle x.version n false at
+              (own_put_back c s.words s.views r.known r.history k id me.0 at x there same_stamp
+              same_memory)
+              record {
+                newer = [];
+                older = r.history;
+                parts = refl;
+                long = refl;
+                last = sym o.number;
+                gone = ap (λ (v : Value). v.freed) o.contents;
+              }
+              low (omega arith)),
+          λ z has e. subst (λ (q : Held). Finds q.handle q.version false (with_back q me.0) me
+              (w, me.1)) (only_one s r at x z there has (omega (arith, e)))
+              record { at = n; late = low; noted = refl },
         )

@@ -1,20 +1,24 @@
 -- A load of the pointer word of any object, whether the record knows it or not.
-use Rattle.std.proofs.Common.{◌≡◌, ◌⊎◌, ℕ, ◌+◌, ◌<◌, ◌≤◌, List, set, sym, refl, ap, subst}
+use Rattle.std.proofs.Common.{◌≡◌, ◌≢◌, ◌⊎◌, ℕ, ◌+◌, ◌<◌, ◌≤◌, Bool, List, length, set, sym, refl, subst}
 use Rattle.std.proofs.Common.{inl, inr, ⊎_elim, arith, eqb-true, eq-eqb}
 use Rattle.std.proofs.lemmas.Bool.{cases_lt}
 use mathlib.Core.Option.{none}
-use Rattle.atomic_table.specs.Table.{step, keeps, Allows}
+use Rattle.atomic_table.specs.Table.{step, keeps, carried_after, Allows}
 use Rattle.cb_types.specs.declared.config.Config.{Config}
+use Rattle.cb_ptr.specs.declared.word.State.TheVariants as word
+use Rattle.cb_ptr.specs.Word.{state_of}
 use Rattle.cb_world.specs.declared.entry.Entry.{Entry}
 use Rattle.cb_rule.specs.declared.view.Seen.{Seen}
 use Rattle.cb_rule.specs.declared.view.View.{View}
 use Rattle.cb_rule.specs.AnyGlance.{glanced_any}
+use Rattle.cb_rule.specs.History.{top}
 use Rattle.cb_rule.specs.Lists.{times, Has}
 use Rattle.cb_rule.specs.Own.{reads_it, writes_it}
 use Rattle.cb_rule.specs.Ruled.{Beside, IsSteady, Ruled}
 use Rattle.cb_rule.specs.Slot.{Sat}
-use Rattle.cb_rule.specs.Steps.{Knows, with_look}
-use Rattle.cb_rule.specs.Words.{pointer}
+use Rattle.cb_rule.specs.Steps.{Finds, Knows, found, with_look}
+use Rattle.cb_rule.specs.Words.{is_gone, pointer}
+use Rattle.cb_rule.proofs.Finding.{clock_low, finds_as, not_gone}
 use Rattle.cb_rule.proofs.Glancing.{glances}
 use Rattle.cb_rule.proofs.Lifting.{same_words}
 use Rattle.cb_rule.proofs.Members.{has_times, times_has}
@@ -60,24 +64,44 @@ module _ (beside : Beside) (steady : IsSteady beside) (first : ℕ) (c : Config)
         z.3,
         λ h' q. let same : h ≡ h' = omega (arith, q) in let f = z.4 h' q in (
           (λ e _. f.0 e),
-          (λ off. f.1 (λ e. off e (subst (λ (j : ℕ). Knows j me.0) same knows))),
+          (λ off. let full : state_of x ≢ word.Empty =
+              λ e. off e (subst (λ (j : ℕ). Knows j me.0) same knows) in
+              let o = f.1 full in (
+                o.0,
+                subst (λ (b : Bool). Finds h' o.0 b (with_look h' x me.0) me
+                    (z.0, carried_after me.1 z.1))
+                    (sym (not_gone (state_of x) full)) o.1,
+              )),
         ),
       ))
       (λ (none_of : Knows h me.0 → ⊥). (
-        with_look h x me.0,
+        found h v gone n (with_look h x me.0),
         keeps,
         tt,
         subst (λ (ws : List ℕ). Ruled beside first c record {
           words = ws;
           homes = s.homes;
-          views = set s.views id (with_look h x me.0);
+          views = set s.views id (found h v gone n (with_look h x me.0));
         }) (sym (same_words s.words (1 + h)))
-            (lost beside steady first c slots id me live h l s x r at refl),
+            (lost beside steady first c slots id me live h l s x gone refl r at refl),
         λ h' q. let same : h ≡ h' = omega (arith, q) in (
           (λ e knows. absurd (none_of (subst (λ (j : ℕ). Knows j me.0) (sym same) knows))),
-          (λ _. ap (λ (j : ℕ). let z : Sat = (with_look j x me.0, me.1) in z) same),
+          (λ _. (
+            v,
+            finds_as h h' v n gone (λ j. with_look j x me.0) me same
+                (clock_low c s.words s.views r.known r.history r.kept id me.0 at),
+          )),
         ),
       )) (knows_or h me.0)
     where
       x : ℕ
       x = pointer s.words h
+
+      v : ℕ
+      v = top r.history h
+
+      n : ℕ
+      n = length r.history
+
+      gone : Bool
+      gone = is_gone (state_of x)

@@ -1,6 +1,6 @@
 -- The holder gives the lock back, and the far state to its slot: the history has its turn more.
 use Rattle.std.proofs.Common.{◌≡◌, ◌≢◌, ℕ, zero, suc, ◌+◌, ◌*◌, ◌^◌, ◌<◌, ◌≤◌, Bool, true, cond}
-use Rattle.std.proofs.Common.{eqb, List, [], ◌∷◌, ◌++◌, length, set, Option, Some, None, sym, refl}
+use Rattle.std.proofs.Common.{eqb, List, [], ◌∷◌, ◌++◌, length, max, set, Option, Some, None, sym, refl}
 use Rattle.std.proofs.Common.{ap, ◌∙◌, subst, inl, inr, ⊎_elim, arith, eq-eqb, eqb-true, ne_eqb}
 use Rattle.std.proofs.Common.{length-set, get_or-set_same, true≢false}
 use Rattle.std.proofs.lemmas.List.{append_cancel_right}
@@ -21,6 +21,7 @@ use Rattle.cb_world.specs.Memory.{bytes_in}
 use Rattle.cb_world.specs.Orders.{KeepsOrder}
 use Rattle.cb_world.specs.Shown.{object_at}
 use Rattle.cb_rule.specs.declared.turn.Turn.{Turn}
+use Rattle.cb_rule.specs.declared.view.Find.{Find}
 use Rattle.cb_rule.specs.declared.view.Seen.{Seen}
 use Rattle.cb_rule.specs.declared.view.View.{View}
 use Rattle.cb_rule.specs.History.{is_version, newest, top}
@@ -29,13 +30,14 @@ use Rattle.cb_rule.specs.Locking.{Deeds, IsHandedOn, IsTimed, IsUnlocked, Locked
 use Rattle.cb_rule.specs.Locking.{is_turn, turn_number, turns_on, when_ended}
 use Rattle.cb_rule.specs.LockSteps.{HasGiven, IsFoundFreed, MayGive, ReadInTurn, gave, gave_lock}
 use Rattle.cb_rule.specs.LockSteps.{turn_of}
-use Rattle.cb_rule.specs.Records.{ReadOk, SeenOk, SeenSince, WroteOk, seen_value}
+use Rattle.cb_rule.specs.Records.{IsSettledFrom, ReadOk, SeenOk, SeenSince, WroteOk, seen_value}
 use Rattle.cb_rule.specs.Own.{AreOwn, Make, reads_it, traces, writes_it}
 use Rattle.cb_rule.specs.Rule.{RuleKept}
 use Rattle.cb_rule.specs.Ruled.{Ruled}
 use Rattle.cb_rule.specs.Seats.{holding}
 use Rattle.cb_rule.specs.Slot.{LockSlot, Sat, Table}
-use Rattle.cb_rule.proofs.Growing.{all_old, has_front, settled_now}
+use Rattle.cb_rule.proofs.Growing.{all_old, has_front, made_none, settled_in, settled_now}
+use Rattle.cb_rule.proofs.Making.{made_now}
 use Rattle.cb_rule.proofs.Counts.{each_append, each_map, hit, miss, times-append, total-at}
 use Rattle.cb_rule.proofs.Counts.{total-set}
 use Rattle.cb_rule.proofs.Flagging.{flagged, lock_word}
@@ -234,14 +236,13 @@ module _ (deeds : Deeds) (first : ℕ) (c : Config) (s : Table) (id : ℕ) (v : 
       )
 
   -- and what a job told as written
-  wrote_ok : WroteOk r.history (length r.history) job reply
-  wrote_ok h n told = let pos = may.writes h n told in
-      let parts = times-append (is_version h n) v.fresh v.written in
-      let found = has_times (is_version h n) (v.fresh ++ v.written) (omega (arith, pos, parts)) in
+  wrote_ok : WroteOk r.history v.since (length r.history) job reply
+  wrote_ok h n told = let found = has_times (is_version h n) v.fresh (may.writes h n told) in
       let named = both_true (eqb found.0.handle h) (eqb found.0.version n) found.2 in (
         found.0,
-        settled_now r.history found.0
-            (each_has (λ e. Has e r.history) found.0 (v.fresh ++ v.written) wrote_all found.1),
+        settled_in r.history v.since found.0
+            (each_has (IsSettledFrom r.history v.since) found.0 v.fresh
+            (r.kept.seats id v at).lasting.fresh_from found.1),
         eqb-true found.0.handle h named.0,
         eqb-true found.0.version n named.1,
       )
@@ -277,7 +278,14 @@ module _ (deeds : Deeds) (first : ℕ) (c : Config) (s : Table) (id : ℕ) (v : 
           seen = each_append (SeenOk r.history) freed v.seen found_seen k.seen;
           peeked = k.peeked;
           looks = k.looks;
+          clocked = let l = k.clocked in omega (arith, l);
+          finds = k.finds;
+          early = each_map (λ (f : Find). f.at ≤ v.clock)
+              (λ (f : Find). f.at ≤ max v.clock (length r.history)) v.finds
+              (λ f o. omega (arith, o)) k.early;
           reached = omega arith;
+          fresh_from = tt;
+          made_by = made_none r.history;
           told = tt;
           began = λ h l. never_now r.history h;
           lately = λ his. absurd (true≢false (sym his));
@@ -287,6 +295,8 @@ module _ (deeds : Deeds) (first : ℕ) (c : Config) (s : Table) (id : ℕ) (v : 
               reached = omega arith;
               read = read_ok;
               wrote = wrote_ok;
+              made_by = k.made_by;
+              made_then = made_now c s.words s.views r.known r.history r.kept far stood;
               had_by = k.order.had_by;
               had_later = k.order.had_later;
               told = k.told;
@@ -560,6 +570,8 @@ module _ (deeds : Deeds) (first : ℕ) (c : Config) (s : Table) (id : ℕ) (v : 
   has_given hand = let ok = r.kept in let same = (ok.seats id v at).same_config in record {
     entries = length r.history;
     given = refl;
+    late = (ok.seats id v at).lasting.clocked;
+    lasted = (ok.seats id v at).lasting.reached;
     written = each_map (λ e. Has e r.history) (λ (e : Entry). e.handle < v.config.handles)
         (v.fresh ++ v.written)
         (λ e there. subst (λ (q : Config). e.handle < q.handles) (sym same)

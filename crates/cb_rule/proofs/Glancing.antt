@@ -1,15 +1,13 @@
 -- Loads of any seat: of a pointer word, of a version word, and of a memory word that it pins or
 -- claims.
-use Rattle.std.proofs.Common.{◌≡◌, ◌≢◌, ◌⊎◌, ℕ, ◌+◌, ◌%◌, ◌<◌, ◌≤◌, Bool, true, false, List, get_or}
-use Rattle.std.proofs.Common.{set, sym, refl, ap, ◌∙◌, subst, inl, inr, ⊎_elim, arith, true≢false}
+use Rattle.std.proofs.Common.{◌≡◌, ◌≢◌, ℕ, ◌+◌, ◌<◌, ◌≤◌, true, false, List, get_or, length}
+use Rattle.std.proofs.Common.{set, sym, refl, ap, ◌∙◌, subst, inr, ⊎_elim, arith}
 use mathlib.Core.Option.{some, none}
 use lib.ListN.{get_elem?}
 use Rattle.atomic_table.specs.Table.{step, keeps, Allows}
 use Rattle.cb_types.specs.declared.config.Config.{Config}
-use Rattle.cb_ptr.specs.declared.word.State.{State}
 use Rattle.cb_ptr.specs.declared.word.State.TheVariants as word
-use Rattle.cb_ptr.specs.Word.{state_of, state_number}
-use Rattle.cb_ptr.proofs.Laws.{state_number-state_of}
+use Rattle.cb_ptr.specs.Word.{state_of}
 use Rattle.cb_world.specs.declared.entry.Entry.{Entry}
 use Rattle.cb_world.specs.declared.object.Object.{Object}
 use Rattle.cb_world.specs.declared.object.Object.TheVariants as is
@@ -20,8 +18,8 @@ use Rattle.cb_world.proofs.Laws.{window_at}
 use Rattle.cb_rule.specs.declared.view.Held.{Held}
 use Rattle.cb_rule.specs.declared.view.Stand.{Stand}
 use Rattle.cb_rule.specs.declared.view.View.{View}
-use Rattle.cb_rule.specs.History.{newest, no_value, top}
-use Rattle.cb_rule.specs.Lists.{total}
+use Rattle.cb_rule.specs.History.{Value, newest, no_value, top}
+use Rattle.cb_rule.specs.Lists.{total, Has}
 use Rattle.cb_rule.specs.Records.{PinOk, HeldOk, SeenOk}
 use Rattle.cb_rule.specs.Rule.{RuleKept}
 use Rattle.cb_rule.specs.Ruled.{Beside, IsSteady, Ruled}
@@ -29,35 +27,21 @@ use Rattle.cb_rule.specs.Seats.{pins_on, claims_on}
 use Rattle.cb_rule.specs.Slot.{Sat, Table}
 use Rattle.cb_rule.specs.Stands.{Stands}
 use Rattle.cb_rule.specs.Steps.{IsNewest, Knows, LoadsHeld, TellsHeld, TellsPin, TellsPins, dated}
+use Rattle.cb_rule.specs.Steps.{Finds, dated_now, found}
 use Rattle.cb_rule.specs.Steps.{freed_seen, glanced, read_held, with_freed_seen, with_look}
-use Rattle.cb_rule.specs.Words.{stamps, base, pointer}
+use Rattle.cb_rule.specs.Words.{stamps, base, is_gone, pointer}
 use Rattle.cb_rule.proofs.Calm.{lies, look_ok, still_rule}
 use Rattle.cb_rule.proofs.Counts.{each_map, each_there, total-at}
+use Rattle.cb_rule.proofs.Finding.{bits_empty, clock_low, empty_or, finds_as, found_now}
+use Rattle.cb_rule.proofs.Finding.{gone_now, keeps_found, not_gone, other_state}
 use Rattle.cb_rule.proofs.Growing.{lately_next, seen_now}
 use Rattle.cb_rule.proofs.Histories.{newest_entry}
 use Rattle.cb_rule.proofs.Lifting.{any_seat, same_words, set_same}
+use Rattle.cb_rule.proofs.Members.{each_has}
 use Rattle.cb_rule.proofs.Newest.{is_newest, known_made}
-use Rattle.cb_rule.proofs.Owning.{keeps_freed, known_traces}
+use Rattle.cb_rule.proofs.Owning.{keeps_all, keeps_freed, known_traces}
 use Rattle.cb_rule.proofs.Pinning.{lost, reread}
 use Rattle.cb_rule.proofs.PinsTold.{tells_pins}
-
-abbrev is_empty : State → Bool
-is_empty word.Empty = true
-is_empty word.Far = false
-is_empty word.Here = false
-is_empty word.Moving = false
-
-other_state : (s : State) → is_empty s ≡ false → s ≢ word.Empty
-other_state s off e = true≢false (sym (ap is_empty e) ∙ off)
-
-empty_or : (s : State) → (s ≡ word.Empty) ⊎ (s ≢ word.Empty)
-empty_or word.Empty = inl refl
-empty_or word.Far = inr (other_state word.Far refl)
-empty_or word.Here = inr (other_state word.Here refl)
-empty_or word.Moving = inr (other_state word.Moving refl)
-
-bits_empty : (w : ℕ) → state_of w ≡ word.Empty → w % 4 ≡ 0
-bits_empty w e = sym (state_number-state_of w) ∙ ap state_number e
 
 module _ (c : Config) (ws : List ℕ) (views : List View) (known : Shown) (es : List Entry)
     (r : RuleKept c ws views known es) where
@@ -130,18 +114,18 @@ module _ (beside : Beside) (steady : IsSteady beside) (first : ℕ) (c : Config)
       (glanced (step slots (1 + h) 0 0 none) me)
   glances live h l knows s r _ at _ = ⊎_elim
       (λ (e : state_of x ≡ word.Empty). (
-        with_freed_seen h v x me.0,
+        found h v true n (with_freed_seen h v x me.0),
         keeps,
         tt,
         subst (λ (ws : List ℕ). Ruled beside first c record {
           words = ws;
           homes = s.homes;
-          views = set s.views id (with_freed_seen h v x me.0);
-        }) (sym (same_words s.words (1 + h))) (found e),
+          views = set s.views id (found h v true n (with_freed_seen h v x me.0));
+        }) (sym (same_words s.words (1 + h))) (freed_then e),
         λ h' q. let same : h ≡ h' = omega (arith, q) in (
           (λ _. (
             v,
-            ap (λ (j : ℕ). let z : Sat = (with_freed_seen j v x me.0, me.1) in z) same,
+            finds_as h h' v n true (λ j. with_freed_seen j v x me.0) me same low,
             subst (λ (j : ℕ). IsNewest j v me.0) same above,
           )),
           (λ ne. absurd (ne e)),
@@ -149,18 +133,19 @@ module _ (beside : Beside) (steady : IsSteady beside) (first : ℕ) (c : Config)
         ),
       ))
       (λ (ne : state_of x ≢ word.Empty). (
-        with_look h x me.0,
+        found h v false n (with_look h x me.0),
         keeps,
         tt,
         subst (λ (ws : List ℕ). Ruled beside first c record {
           words = ws;
           homes = s.homes;
-          views = set s.views id (with_look h x me.0);
+          views = set s.views id (found h v false n (with_look h x me.0));
         }) (sym (same_words s.words (1 + h)))
-            (lost beside steady first c slots id me live h l s x r at refl),
+            (lost beside steady first c slots id me live h l s x false (not_gone (state_of x) ne) r
+            at refl),
         λ h' q. let same : h ≡ h' = omega (arith, q) in (
           (λ e. absurd (ne e)),
-          (λ _. ap (λ (j : ℕ). let z : Sat = (with_look j x me.0, me.1) in z) same),
+          (λ _. (v, finds_as h h' v n false (λ j. with_look j x me.0) me same low)),
           subst (λ (j : ℕ). TellsPins j x me.0) same pins,
         ),
       )) (empty_or (state_of x))
@@ -174,23 +159,31 @@ module _ (beside : Beside) (steady : IsSteady beside) (first : ℕ) (c : Config)
       v : ℕ
       v = top r.history h
 
+      n : ℕ
+      n = length r.history
+
+      low : me.0.clock ≤ n
+      low = clock_low c s.words s.views r.known r.history k id me.0 at
+
       made : 0 < top r.history h
       made = known_made c s.words s.views r.known r.history k id h me.0 at knows
 
       above : IsNewest h v me.0
       above = is_newest c s.words s.views r.known r.history k r.shares first r.own id me.0 h at made
 
-      found : state_of x ≡ word.Empty → Ruled beside first c record {
+      freed_then : state_of x ≡ word.Empty → Ruled beside first c record {
         words = s.words;
         homes = s.homes;
-        views = set s.views id (with_freed_seen h v x me.0);
+        views = set s.views id (found h v true n (with_freed_seen h v x me.0));
       }
-      found e = let ok = k.seats id me.0 at in
-          any_seat beside steady first c s id me.0 at r (with_freed_seen h v x me.0) s.words
-          r.history
+      freed_then e = let ok = k.seats id me.0 at in
+          any_seat beside steady first c s id me.0 at r
+          (found h v true n (with_freed_seen h v x me.0)) s.words r.history
           refl live record { holds = refl; start = refl; since = refl; took = refl; turns = refl; order = refl }
-          (keeps_freed h me.0 (known_traces h me.0 knows) v x) refl
-          (still_rule c s.words s.views r.known r.history k id h me.0 (with_freed_seen h v x me.0)
+          (keeps_found me.0 (with_freed_seen h v x me.0) h v n true
+          (keeps_freed h me.0 (known_traces h me.0 knows) v x)) refl
+          (found_now c s.words s.views r.known r.history id me.0 (with_freed_seen h v x me.0) h true
+          at (still_rule c s.words s.views r.known r.history k id h me.0 (with_freed_seen h v x me.0)
           at
           record {
             same_config = refl;
@@ -210,6 +203,7 @@ module _ (beside : Beside) (steady : IsSteady beside) (first : ℕ) (c : Config)
                 (seen_now r.history me.0.since (freed_seen h v) ok.lasting.reached refl
                 (freed_value c s.words s.views r.known r.history k h l e)) (ok.lasting.lately his));
           } refl)
+          (gone_now c s.words s.views r.known r.history k h l ∙ ap is_gone e) low)
 
       pins : TellsPins h x me.0
       pins = tells_pins c s.words s.views r.known r.history k r.shares first r.own id h me.0 at l
@@ -276,6 +270,44 @@ module _ (beside : Beside) (steady : IsSteady beside) (first : ℕ) (c : Config)
       held : (y : Held) → HeldOk c s.words r.known r.history y
           → i ≡ stamps me.0.config + y.handle → get_or s.words i 0 ≡ y.stamp
       held y o e = at_stamp y.handle e ∙ o.stamped
+
+  -- a load of the version word of an object that the seat pins
+  pub dates_now : 1 ≤ me.0.share → me.0.config ≡ c → (p : Stand) → Has p me.0.pins
+      → Allows (Ruled beside first c) slots id me (stamps c + p.handle) (λ n. n)
+      (dated_now (step slots (stamps c + p.handle) 0 0 none) me)
+  dates_now live key p there s r long at small =
+      let k = r.kept in let es = r.history in let ok = k.seats id me.0 at in
+      let h : ℕ = p.handle in let n : ℕ = length es in
+      let low = clock_low c s.words s.views r.known es k id me.0 at in
+      let pin = each_has (PinOk c r.known es) p me.0.pins ok.pins there in
+      let w : View = found h (top es h) false n me.0 in (
+        w,
+        keeps,
+        tt,
+        subst (λ (ws : List ℕ). Ruled beside first c record {
+          words = ws;
+          homes = s.homes;
+          views = set s.views id w;
+        }) (sym (same_words s.words (stamps c + h)))
+            (any_seat beside steady first c s id me.0 at r w s.words es refl live
+            record { holds = refl; start = refl; since = refl; took = refl; turns = refl; order = refl }
+            (keeps_found me.0 me.0 h (top es h) n false (keeps_all me.0 me.0.looks me.0.peeked)) refl
+            (found_now c s.words s.views r.known es id me.0 me.0 h false at
+            (subst (λ (vs : List View). RuleKept c s.words vs r.known es)
+            (sym (set_same s.views id me.0 at)) k)
+            (ap (λ (v : Value). v.freed) pin.contents) low)),
+        λ q has e. let o = each_has (PinOk c r.known es) q me.0.pins ok.pins has in
+            let same : h ≡ q.handle = (let f : stamps c + h ≡ stamps c + q.handle =
+            e ∙ ap (λ (x : Config). stamps x + q.handle) key in omega (arith, f)) in
+            let told = (dates (stamps c + h) s r long at small).4 in
+            let number : top es h ≡ q.version = ap (top es) same ∙ sym o.number in (
+              each_has (TellsPin me.0.config (stamps c + h) (get_or s.words (stamps c + h) 0)) q
+                  me.0.pins told.1 has e,
+              each_has (λ (x : Stand). IsNewest x.handle x.version me.0) q me.0.pins told.3 has,
+              subst (λ (m : ℕ). Finds q.handle m false me.0 me (w, me.1)) number
+                  (finds_as h q.handle (top es h) n false (λ j. me.0) me same low),
+            ),
+      )
 
   -- a load of a memory word of an object that the seat claims
   pub reads_held : (i : ℕ) → Allows (Ruled beside first c) slots id me i (λ n. n)

@@ -1,7 +1,7 @@
 -- What holds of a history holds of it with more entries.
-use Rattle.std.proofs.Common.{◌≡◌, ℕ, ◌≤◌, List, [], ◌∷◌, ◌++◌, length, sym, refl, ap, ◌∙◌, inl}
+use Rattle.std.proofs.Common.{◌≡◌, ℕ, suc, ◌≤◌, Bool, false, List, [], ◌∷◌, ◌++◌, length, sym, refl, ap, ◌∙◌, inl}
 use Rattle.std.proofs.Common.{inr, ⊎_elim, arith}
-use Rattle.std.proofs.lemmas.List.{append_assoc, length-append}
+use Rattle.std.proofs.lemmas.List.{append-nil, append_assoc, length-append}
 use Rattle.cb_types.specs.declared.config.Config.{Config}
 use Rattle.cb_world.specs.declared.entry.Entry.{Entry}
 use Rattle.cb_world.specs.declared.access.Access.{Access}
@@ -10,12 +10,14 @@ use Rattle.cb_world.specs.declared.object.Object.{Object}
 use Rattle.cb_world.specs.declared.object.Object.TheVariants as is
 use Rattle.cb_world.specs.Shown.{object_at}
 use Rattle.cb_rule.specs.declared.turn.Turn.{Turn}
+use Rattle.cb_rule.specs.declared.view.Find.{Find}
 use Rattle.cb_rule.specs.declared.view.Look.{Look}
 use Rattle.cb_rule.specs.declared.view.Seen.{Seen}
 use Rattle.cb_rule.specs.declared.view.View.{View}
 use Rattle.cb_rule.specs.History.{Value, WasNow, newest, top}
 use Rattle.cb_rule.specs.Lists.{Each, Has}
-use Rattle.cb_rule.specs.Records.{IsOldOrLater, IsSettledBy, IsSettledFrom, LookOk, SeenOk}
+use Rattle.cb_rule.specs.Records.{FindOk, IsOldOrLater, IsSettledBy, IsSettledFrom, IsSettledIn}
+use Rattle.cb_rule.specs.Records.{LookOk, MadeBy, SeenOk, WasFound}
 use Rattle.cb_rule.specs.Records.{PeekedOk, TellsOk, OldOk, TurnOk, RecordOk, SeenLately, SeenSince}
 use Rattle.cb_rule.specs.Records.{ended_by, old_by, seen_value}
 use Rattle.cb_rule.proofs.Counts.{each_map}
@@ -45,12 +47,24 @@ module _ (more es : List Entry) where
     has = w.has;
   }
 
+  was_more : (since until until' h : ℕ) (gone : Bool) → until ≤ until'
+      → WasFound es since until h gone → WasFound (more ++ es) since until' h gone
+  was_more since until until' h gone le w = record {
+    newer = more ++ w.newer;
+    older = w.older;
+    parts = ap (λ (ys : List Entry). more ++ ys) w.parts ∙ sym (append_assoc more w.newer w.older);
+    low = w.low;
+    high = let a = w.high in omega (arith, a, le);
+    found = w.found;
+  }
+
   look_more : (l : Look) → LookOk es l → LookOk (more ++ es) l
   look_more l ok full = let z = ok full in (z.0, has_more z.0 more es z.1, z.2, z.3, z.4)
 
   pub tells_more : (first since until until' : ℕ) (e : Access) → until ≤ until'
       → TellsOk first es since until e → TellsOk first (more ++ es) since until' e
-  tells_more first since until until' (ev.Looked h w) le ok = look_more _ ok
+  tells_more first since until until' (ev.Looked h w) le ok =
+      (look_more _ ok.0, was_more since until until' h _ le ok.1)
   tells_more first since until until' (ev.Claimed h w v words) le ok =
       (ok.0, now_more since until until' h v _ le ok.1, ok.2)
   tells_more first since until until' (ev.Told h v) le ok = tt
@@ -64,7 +78,8 @@ module _ (more es : List Entry) where
   old_more first since h (is.Empty v) ok = now_more since since since h v _ (omega arith) ok
   old_more first since h (is.Far len v words) ok =
       (ok.0, now_more since since since h v _ (omega arith) ok.1)
-  old_more first since h (is.Here len place) ok = tt
+  old_more first since h (is.Here len place) ok =
+      was_more since since since h false (omega arith) ok
   old_more first since h (is.Claimed len place v words) ok =
       (ok.0, now_more since since since h v _ (omega arith) ok.1)
 
@@ -86,6 +101,27 @@ module _ (more es : List Entry) where
     long = s.long;
   }
 
+  in_more : (since until : ℕ) (e : Entry) → IsSettledIn es since until e
+      → IsSettledIn (more ++ es) since until e
+  in_more since until e s = record {
+    newer = more ++ s.newer;
+    older = s.older;
+    parts = ap (λ (ys : List Entry). more ++ ys) s.parts
+        ∙ sym (append_assoc more s.newer (e ∷ s.older));
+    low = s.low;
+    high = s.high;
+  }
+
+  made_more : (at made : ℕ) → MadeBy es at made → MadeBy (more ++ es) at made
+  made_more at made m = record {
+    newer = more ++ m.newer;
+    older = m.older;
+    parts = ap (λ (ys : List Entry). more ++ ys) m.parts ∙ sym (append_assoc more m.newer m.older);
+    long = m.long;
+    are_made = m.are_made;
+    are_not = m.are_not;
+  }
+
   all_settled : (until : ℕ) (xs : List Entry) → Each (IsSettledBy es until) xs
       → Each (IsSettledBy (more ++ es) until) xs
   all_settled until xs = each_map (IsSettledBy es until) (IsSettledBy (more ++ es) until) xs
@@ -96,6 +132,16 @@ module _ (more es : List Entry) where
   later_more old ended xs = each_map (IsOldOrLater es old ended) (IsOldOrLater (more ++ es) old ended)
       xs (λ e o. ⊎_elim (λ (has : Has e old). inl has)
       (λ (s : IsSettledFrom es ended e). inr (from_more ended e s)) o)
+
+  pub find_more : (f : Find) → FindOk es f → FindOk (more ++ es) f
+  find_more f o = record {
+    newer = more ++ o.newer;
+    older = o.older;
+    parts = ap (λ (ys : List Entry). more ++ ys) o.parts ∙ sym (append_assoc more o.newer o.older);
+    long = o.long;
+    last = o.last;
+    gone = o.gone;
+  }
 
   pub turn_more : (c : Config) (first : ℕ) (t : Turn)
       → TurnOk c first es t → TurnOk c first (more ++ es) t
@@ -111,7 +157,10 @@ module _ (more es : List Entry) where
       z.5,
       now_more t.since t.until t.until handle.n version _ (omega arith) z.6,
     );
-    wrote = λ h n told. let z = ok.wrote h n told in (z.0, settled_more t.until z.0 z.1, z.2, z.3);
+    wrote = λ h n told. let z = ok.wrote h n told in
+        (z.0, in_more t.since t.until z.0 z.1, z.2, z.3);
+    made_by = made_more t.since t.took.made ok.made_by;
+    made_then = made_more t.until t.gave.made ok.made_then;
     had_by = all_settled t.since t.had ok.had_by;
     had_later = later_more t.old t.ended t.had ok.had_later;
     told = each_map (TellsOk first es t.since t.until) (TellsOk first (more ++ es) t.since t.until)
@@ -142,7 +191,13 @@ module _ (more es : List Entry) where
         (λ p o. (o.0, has_more o.0 more es o.1, o.2)) ok.peeked;
     looks = each_map (LookOk es) (LookOk (more ++ es)) u.looks
         (λ l o. look_more l o) ok.looks;
+    clocked = let a = ok.clocked in let b = longer more es in omega (arith, a, b);
+    finds = each_map (FindOk es) (FindOk (more ++ es)) u.finds (λ f o. find_more f o) ok.finds;
+    early = ok.early;
     reached = let a = ok.reached in let b = longer more es in omega (arith, a, b);
+    fresh_from = each_map (IsSettledFrom es u.since) (IsSettledFrom (more ++ es) u.since) u.fresh
+        (from_more u.since) ok.fresh_from;
+    made_by = made_more u.since u.took.made ok.made_by;
     told = each_map (TellsOk first es u.since (length es))
         (TellsOk first (more ++ es) u.since (length (more ++ es))) u.acts
         (λ e o. tells_more first u.since (length es) (length (more ++ es)) e (longer more es) o)
@@ -180,6 +235,73 @@ lately_next es since had seen s now o = record {
   newer = s ∷ o.newer;
   parts = ap (λ (xs : List Seen). s ∷ xs) o.parts;
   since_then = (now, o.since_then);
+}
+
+-- the oldest entries of a history, so many, are the same ones however it is cut
+pub same_older : (n1 o1 n2 o2 : List Entry) → n1 ++ o1 ≡ n2 ++ o2 → length o1 ≡ length o2
+    → o1 ≡ o2
+same_older [] o1 [] o2 same long = same
+same_older [] o1 (y ∷ n2) o2 same long =
+    absurd (let n : length o1 ≡ suc (length (n2 ++ o2)) =
+    ap (λ (es : List Entry). length es) same in let more = longer n2 o2 in
+    omega (arith, n, more, long))
+same_older (x ∷ n1) o1 [] o2 same long =
+    absurd (let n : suc (length (n1 ++ o1)) ≡ length o2 =
+    ap (λ (es : List Entry). length es) same in let more = longer n1 o1 in
+    omega (arith, n, more, long))
+same_older (x ∷ n1) o1 (y ∷ n2) o2 same long = same_older n1 o1 n2 o2 (ap rest_of same) long
+  where
+    rest_of : List Entry → List Entry
+    rest_of [] = []
+    rest_of (z ∷ zs) = zs
+
+-- entries that are settled now are settled when the history has as many as before, or more
+pub settled_front : (more es : List Entry) (since : ℕ) → since ≤ length es
+    → Each (IsSettledFrom (more ++ es) since) more
+settled_front [] es since low = tt
+settled_front (x ∷ more) es since low = (
+  record {
+    newer = [];
+    older = more ++ es;
+    parts = refl;
+    long = let b = longer more es in omega (arith, b, low);
+  },
+  each_map (IsSettledFrom (more ++ es) since) (IsSettledFrom (x ∷ more ++ es) since) more
+      (from_more (x ∷ []) (more ++ es) since) (settled_front more es since low),
+)
+
+-- what was settled from some time on was settled from then until now
+pub settled_in : (es : List Entry) (since : ℕ) (e : Entry) → IsSettledFrom es since e
+    → IsSettledIn es since (length es) e
+settled_in es since e s = record {
+  newer = s.newer;
+  older = s.older;
+  parts = s.parts;
+  low = s.long;
+  high = let n : length es ≡ length (s.newer ++ e ∷ s.older) =
+      ap (λ (ys : List Entry). length ys) s.parts in
+      let m = length-append s.newer (e ∷ s.older) in omega (arith, n, m);
+}
+
+pub settled_by_then : (es : List Entry) (since until : ℕ) (e : Entry)
+    → IsSettledIn es since until e → IsSettledBy es until e
+settled_by_then es since until e s = record {
+  newer = s.newer;
+  older = e ∷ s.older;
+  parts = s.parts;
+  short = let l = s.high in omega (arith, l);
+  there = inl refl;
+}
+
+-- nothing was made before the first entry
+pub made_none : (es : List Entry) → MadeBy es 0 0
+made_none es = record {
+  newer = es;
+  older = [];
+  parts = sym (append-nil es);
+  long = refl;
+  are_made = λ h less. absurd (omega (arith, less));
+  are_not = λ h le. refl;
 }
 
 -- ---- what a view wrote, by its turns

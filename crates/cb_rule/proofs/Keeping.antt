@@ -24,7 +24,7 @@ use Rattle.cb_rule.specs.declared.view.Stand.{Stand}
 use Rattle.cb_rule.specs.declared.view.View.{View}
 use Rattle.cb_rule.specs.History.{Value, IsEntryHistory, holding_words, is_version, newest, top}
 use Rattle.cb_rule.specs.Lists.{times, total, Each, Has}
-use Rattle.cb_rule.specs.Records.{PinOk, HeldOk, TellsOk, RecordOk, SeatOk}
+use Rattle.cb_rule.specs.Records.{IsSettledFrom, PinOk, HeldOk, TellsOk, RecordOk, SeatOk}
 use Rattle.cb_rule.specs.Rule.{AreSized, RuleKept}
 use Rattle.cb_rule.specs.Seats.{pins_on, claims_on, written_on, holding}
 use Rattle.cb_rule.specs.Stands.{IsCalm, IsClaimedBySeat, IsKeptByHolder, IsHolding, Stands}
@@ -32,7 +32,7 @@ use Rattle.cb_rule.specs.Steps.{act}
 use Rattle.cb_rule.specs.Words.{base, pointer, stamp, words_at}
 use Rattle.cb_rule.proofs.Counts.{total-set, total-at, total-two, total-same, times-append}
 use Rattle.cb_rule.proofs.Counts.{each_append, each_there}
-use Rattle.cb_rule.proofs.Growing.{has_front, record_more}
+use Rattle.cb_rule.proofs.Growing.{has_front, record_more, settled_front}
 
 pub lt_or_le : (a b : ℕ) → (a < b) ⊎ (b ≤ a)
 lt_or_le a zero = inr (omega arith)
@@ -305,7 +305,13 @@ module _ (c : Config) (ws ws' : List ℕ) (views : List View) (id : ℕ) (v : Vi
         seen = g.seen;
         peeked = g.peeked;
         looks = g.looks;
+        clocked = g.clocked;
+        finds = g.finds;
+        early = g.early;
         reached = g.reached;
+        fresh_from = each_append (IsSettledFrom more v.since) (adds e v.known) v.fresh
+            (settled_front (adds e v.known) es v.since ok.reached) g.fresh_from;
+        made_by = g.made_by;
         told = each_append (TellsOk v.known.first more v.since (length more)) v.acts (e ∷ [])
             g.told (t.tells, tt);
         began = g.began;

@@ -6,10 +6,11 @@ pub use Rattle.cb_rule.proofs.Closing.{EndsIn, IsAtEnd, closes_table}
 pub use Rattle.cb_rule.proofs.AnyGlancing.{glances_any, knows_or}
 pub use Rattle.cb_rule.proofs.Binding.{entries_acted}
 pub use Rattle.cb_rule.proofs.Counts.{by_case, hit, times-append}
-pub use Rattle.cb_rule.proofs.Glancing.{dates, glances, reads_held}
+pub use Rattle.cb_rule.proofs.Glancing.{dates, dates_now, glances, reads_held}
 pub use Rattle.cb_rule.proofs.Giving.{gives_lock}
 pub use Rattle.cb_rule.proofs.Locking.{locked_steady}
 pub use Rattle.cb_rule.proofs.Looking.{loads, looks, tells}
+pub use Rattle.cb_rule.proofs.MakesTold.{makes_counted, makes_next, makes_one}
 pub use Rattle.cb_rule.proofs.Members.{each_has, times_has}
 pub use Rattle.cb_rule.proofs.Opening.{opens, stood_empty}
 pub use Rattle.cb_rule.proofs.OwnStanding.{stands_alone}

@@ -9,6 +9,8 @@ mod Lifting
 mod Looking
 mod Newest
 mod Calm
+mod Finding
+mod Making
 mod Pinning
 mod PinsTold
 mod Glancing
@@ -34,6 +36,7 @@ mod OwnStanding
 mod Turns
 mod Timing
 mod Told
+mod MakesTold
 mod Showing
 mod Lone
 mod FreedLast

@@ -96,6 +96,7 @@ module _ (c : Config) (views : List View) (id : ℕ) (v : View) (at : get_elem? 
     whole = λ e w. r.whole e (unwrote e w);
     told = λ t m. r.told t (unmade t m);
     order = λ t u m n less. r.order t u (unmade t m) (unmade u n) less;
+    found = λ f x. r.found f (v, (id, at), among (λ (u : View). Has f u.finds) x.0 x.1 x.2);
   }
 
   pub lone_turns : (deeds : Deeds) (first count : ℕ) (last : FarState)

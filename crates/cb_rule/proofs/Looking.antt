@@ -1,5 +1,5 @@
 -- Looks and loads of the holder of the lock.
-use Rattle.std.proofs.Common.{◌≡◌, ℕ, ◌+◌, ◌<◌, ◌≤◌, true, false, List, get_or, set, sym, refl, ap}
+use Rattle.std.proofs.Common.{◌≡◌, ℕ, ◌+◌, ◌<◌, ◌≤◌, true, false, List, [], get_or, length, set, sym, refl, ap}
 use Rattle.std.proofs.Common.{◌∙◌, subst, arith, get_or-set_other, get_or-set_same}
 use native.Mathlib.Decide.{ℕ_discrete}
 use mathlib.Core.Option.{none}
@@ -23,15 +23,16 @@ use Rattle.cb_rule.specs.Stands.{Stands}
 use Rattle.cb_rule.specs.Steps.{HasEvent, TellsPins, act, handle_count, looked, told, loaded}
 use Rattle.cb_rule.specs.Words.{stamps, base, pointer, stamp}
 use Rattle.cb_rule.proofs.Calm.{look_ok}
+use Rattle.cb_rule.proofs.Finding.{gone_now}
 use Rattle.cb_rule.proofs.Keeping.{HolderSteps, held_same}
 use Rattle.cb_rule.proofs.Lifting.{mine, next_load}
 use Rattle.cb_rule.proofs.PinsTold.{tells_pins}
 
 module _ (c : Config) (ws : List ℕ) (views : List View) (v : View) (es : List Entry)
     (r : RuleKept c ws views v.known es) where
-  pub look_steps : (h : ℕ) → h < c.handles
+  pub look_steps : (h : ℕ) → h < c.handles → v.since ≤ length es
       → HolderSteps c ws ws views v (Looked h (pointer ws h)) es
-  look_steps h l = let s = v.known in let x : ℕ = pointer ws h in record {
+  look_steps h l low = let s = v.known in let x : ℕ = pointer ws h in record {
     wide = refl;
     fit = r.fit;
     hot = λ k lk was. elim (ℕ_discrete k h) [
@@ -50,7 +51,17 @@ module _ (c : Config) (ws : List ℕ) (views : List View) (v : View) (es : List 
         ok;
     follows = r.history;
     within = tt;
-    tells = look_ok c ws views v.known es r h l;
+    tells = (
+      look_ok c ws views v.known es r h l,
+      record {
+        newer = [];
+        older = es;
+        parts = refl;
+        low = low;
+        high = let z : length es ≤ length es = omega arith in z;
+        found = gone_now c ws views v.known es r h l;
+      },
+    );
   }
 
   pub look_agrees : (h : ℕ) → h < c.handles → Agrees v.known (Looked h (pointer ws h))
@@ -116,7 +127,8 @@ module _ (beside : Beside) (steady : IsSteady beside) (first : ℕ) (c : Config)
         tt,
         next_load beside steady first c s id me.0 at r (Looked h x) (1 + h) holds live (omega arith)
             tt tt
-            (look_steps c s.words s.views me.0 r.history m h l),
+            (look_steps c s.words s.views me.0 r.history m h l
+            (r.kept.seats id me.0 at).lasting.reached),
         λ h' e. let same : h ≡ h' = omega arith in
             subst (λ (j : ℕ). HasEvent me (Looked j x) (act (Looked h x) me.0, me.1)
             × TellsPins j x me.0) same (

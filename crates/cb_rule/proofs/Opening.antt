@@ -31,6 +31,7 @@ use Rattle.cb_rule.specs.Slot.{Table}
 use Rattle.cb_rule.specs.Stands.{Stands}
 use Rattle.cb_rule.specs.Steps.{blank, opener}
 use Rattle.cb_rule.specs.Words.{base, pointer}
+use Rattle.cb_rule.proofs.Growing.{made_none}
 use Rattle.cb_rule.proofs.Owning.{own_one}
 use Rattle.cb_rule.proofs.Seating.{never_now}
 
@@ -92,7 +93,12 @@ module _ (first : ℕ) (pos : 1 ≤ first) (c : Config) (ws : List ℕ) (wide : 
       seen = tt;
       peeked = tt;
       looks = tt;
+      clocked = omega arith;
+      finds = tt;
+      early = tt;
       reached = omega arith;
+      fresh_from = tt;
+      made_by = made_none [];
       told = tt;
       began = λ h l. never_now [] h;
       lately = λ his. absurd (true≢false (sym his));
@@ -220,5 +226,12 @@ old_now c ws views known es r h l = go (object_at known h) (r.stand h l)
         → OldOk known.first es (length es) h o
     go (is.Empty v) k = was v no_value k.at k.has
     go (is.Far len v words) k = (k.born, was v _ k.kept.at k.kept.has)
-    go (is.Here len place) k = tt
+    go (is.Here len place) k = record {
+      newer = [];
+      older = es;
+      parts = refl;
+      low = omega arith;
+      high = omega arith;
+      found = ap (λ (v : Value). v.freed) k.held;
+    }
     go (is.Claimed len place v words) k = (k.born, was v _ k.kept.at k.kept.has)

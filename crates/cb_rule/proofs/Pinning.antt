@@ -34,12 +34,13 @@ use Rattle.cb_rule.specs.Rule.{RuleKept}
 use Rattle.cb_rule.specs.Ruled.{Beside, IsSteady, Ruled, AreShares}
 use Rattle.cb_rule.specs.Seats.{pins_it, pins_on}
 use Rattle.cb_rule.specs.Slot.{Sat}
-use Rattle.cb_rule.specs.Steps.{FindsVersion, Knows, look_at, pinned, unpinned, version_seen}
+use Rattle.cb_rule.specs.Steps.{FindsVersion, Knows, found, look_at, pinned, unpinned, version_seen}
 use Rattle.cb_rule.specs.Steps.{with_look, with_pin, without_pin}
-use Rattle.cb_rule.specs.Words.{base, pointer}
+use Rattle.cb_rule.specs.Words.{base, is_gone, pointer}
 use Rattle.cb_rule.proofs.Calm.{Lies, Quiet, calm_rule, lies, look_ok, still_rule}
 use Rattle.cb_rule.proofs.Counts.{each_removed, hit, miss, times-removed, times-removed_else}
 use Rattle.cb_rule.proofs.Counts.{total-at, total-set}
+use Rattle.cb_rule.proofs.Finding.{clock_low, finds_as, found_now, gone_now, keeps_found, kept_now}
 use Rattle.cb_rule.proofs.Growing.{lately_next, seen_now}
 use Rattle.cb_rule.proofs.Histories.{IsEntry, newest_entry}
 use Rattle.cb_rule.proofs.Keeping.{lies_here}
@@ -67,7 +68,12 @@ reread c first es v share ever pins claims looks seen peeked ok l s p lately = r
   seen = s;
   peeked = p;
   looks = l;
+  clocked = ok.clocked;
+  finds = ok.finds;
+  early = ok.early;
   reached = ok.reached;
+  fresh_from = ok.fresh_from;
+  made_by = ok.made_by;
   told = ok.told;
   began = ok.began;
   lately = lately;
@@ -149,20 +155,28 @@ pin_below old new f b s p e n = omega arith
 module _ (beside : Beside) (steady : IsSteady beside) (first : ℕ) (c : Config) (slots id : ℕ)
     (me : Sat) (live : 1 ≤ me.0.share) (h : ℕ) (l : h < c.handles) where
   -- an exchange found another word
-  pub lost : (s : Rattle.cb_rule.specs.Slot.Table) (x : ℕ) → (r : Ruled beside first c s)
+  pub lost : (s : Rattle.cb_rule.specs.Slot.Table) (x : ℕ) (freed : Bool)
+      → is_gone (state_of x) ≡ freed → (r : Ruled beside first c s)
       → get_elem? s.views id ≡ some me.0 → pointer s.words h ≡ x
       → Ruled beside first c record {
         words = s.words;
         homes = s.homes;
-        views = set s.views id (with_look h x me.0);
+        views = set s.views id
+            (found h (top r.history h) freed (length r.history) (with_look h x me.0));
       }
-  lost s x r at found = any_seat beside steady first c s id me.0 at r (with_look h x me.0) s.words
+  lost s x freed gone r at there = any_seat beside steady first c s id me.0 at r
+      (found h (top r.history h) freed (length r.history) (with_look h x me.0)) s.words
       r.history refl live record { holds = refl; start = refl; since = refl; took = refl; turns = refl; order = refl }
-      (keeps_all me.0 (with_look h x me.0).looks me.0.peeked) refl
+      (keeps_found me.0 (with_look h x me.0) h (top r.history h) (length r.history) freed
+      (keeps_all me.0 (with_look h x me.0).looks me.0.peeked)) refl
+      (found_now c s.words s.views r.known r.history id me.0 (with_look h x me.0) h freed at
       (still_rule c s.words s.views r.known r.history r.kept id h me.0 (with_look h x me.0) at
       (looks_quiet c s.words s.views r.known r.history r.kept id h x me.0 at
-      (subst (λ (n : ℕ). LookOk r.history (look_at h n)) found
+      (subst (λ (n : ℕ). LookOk r.history (look_at h n)) there
       (look_ok c s.words s.views r.known r.history r.kept h l))) refl)
+      (gone_now c s.words s.views r.known r.history r.kept h l
+      ∙ ap (λ (n : ℕ). is_gone (state_of n)) there ∙ gone)
+      (clock_low c s.words s.views r.known r.history r.kept id me.0 at))
 
   pub takes_pin : (old new : ℕ) → Knows h me.0 → state_of old ≡ word.Here
       → pins_of old < 1023 → length me.0.pins ≤ 16 → TakesPin old new
@@ -174,6 +188,8 @@ module _ (beside : Beside) (steady : IsSteady beside) (first : ℕ) (c : Config)
       let o = lies c s.words s.views r.known es k h l (inl (ap state_of e ∙ here)) in
       let v : ℕ = top es h in let words : List ℕ = (newest es h).words in
       let w : View = with_pin h x v words me.0 in
+      let n : ℕ = length es in let u : View = found h v false n w in
+      let low = clock_low c s.words s.views r.known es k id me.0 at in
       let f = subst (λ (z : Object). Fits z x) o.here (k.fit h l) in
       let sum = total-set (pins_on h) s.views id me.0 w at in
       let one = hit (eqb h h) (eq-eqb h h refl) in
@@ -191,40 +207,49 @@ module _ (beside : Beside) (steady : IsSteady beside) (first : ℕ) (c : Config)
       ) (t.state ∙ here)
       (λ _. t.hot) (λ _. t.hot)
       (let tp = t.pins in omega (arith, tp, px, count, sum, one)) in (
-        w,
+        u,
         keeps,
         tt,
         subst (λ (n : ℕ). Ruled beside first c record {
           words = set s.words (1 + h) n;
           homes = s.homes;
-          views = set s.views id w;
+          views = set s.views id u;
         }) (ap (λ b. either b new x) (sym (eq-eqb x old e)))
-            (any_seat beside steady first c s id me.0 at r w (set s.words (1 + h) new) es refl
+            (any_seat beside steady first c s id me.0 at r u (set s.words (1 + h) new) es refl
             live record { holds = refl; start = refl; since = refl; took = refl; turns = refl; order = refl }
-            (keeps_pin h me.0 (known_traces h me.0 knows) x v words)
-            (same_lock s.words (1 + h) new (omega arith)) kept),
+            (keeps_found me.0 w h v n false (keeps_pin h me.0 (known_traces h me.0 knows) x v words))
+            (same_lock s.words (1 + h) new (omega arith))
+            (found_now c (set s.words (1 + h) new) s.views r.known es id me.0 w h false at kept
+            (kept_now c s.words s.views r.known es k h l (ap state_of e ∙ here)) low)),
         λ h' q. let same : h ≡ h' = omega (arith, q) in (
-          (λ _. let p = subst (λ (j : ℕ).
-              (let z : Sat = (w, me.1) in z ≡ (with_pin j x v words me.0, me.1))
-              × FindsVersion j x v words me.0) same
-              (refl, finds c s.words s.views r.known es k r.shares first r.own id h me.0 at l o) in
-              (v, words, p.0, p.1)),
+          (λ _. (
+            v,
+            words,
+            finds_as h h' v n false (λ j. with_pin j x v words me.0) me same low,
+            subst (λ (j : ℕ). FindsVersion j x v words me.0) same
+                (finds c s.words s.views r.known es k r.shares first r.own id h me.0 at l o),
+          )),
           λ ne. absurd (ne e),
         ),
       ))
-      (λ ne. (
-        with_look h x me.0,
+      (λ ne. let v : ℕ = top r.history h in let n : ℕ = length r.history in
+      let gone : Bool = is_gone (state_of x) in (
+        found h v gone n (with_look h x me.0),
         keeps,
         tt,
         subst (λ (ws : List ℕ). Ruled beside first c record {
           words = ws;
           homes = s.homes;
-          views = set s.views id (with_look h x me.0);
+          views = set s.views id (found h v gone n (with_look h x me.0));
         }) (sym (ap (set s.words (1 + h)) (ap (λ b. either b new x) (ne_eqb x old ne))
-            ∙ same_words s.words (1 + h))) (lost s x r at refl),
+            ∙ same_words s.words (1 + h))) (lost s x gone refl r at refl),
         λ h' q. let same : h ≡ h' = omega (arith, q) in (
           (λ e. absurd (ne e)),
-          λ _. ap (λ (j : ℕ). let z : Sat = (with_look j x me.0, me.1) in z) same,
+          λ _. (
+            v,
+            finds_as h h' v n gone (λ j. with_look j x me.0) me same
+                (clock_low c s.words s.views r.known r.history r.kept id me.0 at),
+          ),
         ),
       ))
     where

@@ -297,7 +297,7 @@ module _ (c : Config) (ws : List ℕ) (views : List View) (known : Shown) (es : 
   looked_in : (l : Look) (since until : ℕ) (e : Access) → TellsOk known.first es since until e
       → IsLook l.handle l.word e → LookOk es l
   looked_in l since until (ev.Looked h w) ok is full =
-      let z = ok (λ none. full (ap state_of (sym is.1) ∙ none)) in
+      let z = ok.0 (λ none. full (ap state_of (sym is.1) ∙ none)) in
       (z.0, z.1, z.2 ∙ is.0, z.3, z.4 ∙ ap len_of is.1)
   looked_in l since until (ev.Claimed h w v words) ok is full =
       let z = claimed_in h w v since until words ok.0 ok.1 in

@@ -1,6 +1,6 @@
 -- A seat is split, and two are joined.
 use Rattle.std.proofs.Common.{◌≡◌, ◌≢◌, ℕ, zero, suc, ◌+◌, ◌<◌, ◌≤◌, Bool, false, cond, List, []}
-use Rattle.std.proofs.Common.{◌∷◌, ◌++◌, length, map, set, sym, refl, ap, ◌∙◌, subst, ⊎_elim, arith}
+use Rattle.std.proofs.Common.{◌∷◌, ◌++◌, length, map, max, set, sym, refl, ap, ◌∙◌, subst, ⊎_elim, arith}
 use Rattle.std.proofs.Common.{true≢false}
 use Rattle.std.proofs.lemmas.List.{append-nil}
 use mathlib.Core.Option.{some}
@@ -10,19 +10,20 @@ use Rattle.cb_types.specs.declared.config.Config.{Config}
 use Rattle.cb_world.specs.declared.entry.Entry.{Entry}
 use Rattle.cb_world.specs.declared.shown.Shown.{Shown}
 use Rattle.cb_world.specs.Shown.{object_at, version_at}
+use Rattle.cb_rule.specs.declared.view.Find.{Find}
 use Rattle.cb_rule.specs.declared.view.Stand.{Stand}
 use Rattle.cb_rule.specs.declared.view.View.{View}
 use Rattle.cb_rule.specs.History.{WasNow, is_version, newest, no_value, top}
-use Rattle.cb_rule.specs.Lists.{total, Has}
-use Rattle.cb_rule.specs.Records.{HeldOk, LookOk, PeekedOk, PinOk, RecordOk, SeatOk, SeenOk, TurnOk}
-use Rattle.cb_rule.specs.Records.{ended_by, seen_of}
+use Rattle.cb_rule.specs.Lists.{total, Each, Has}
+use Rattle.cb_rule.specs.Records.{FindOk, HeldOk, IsSettledFrom, LookOk, PeekedOk, PinOk, RecordOk, SeatOk, SeenOk}
+use Rattle.cb_rule.specs.Records.{TurnOk, ended_by, seen_of}
 use Rattle.cb_rule.specs.Rule.{StandsIn, RuleKept}
 use Rattle.cb_rule.specs.Ruled.{AreShares, Beside, IsSteady, Ruled}
 use Rattle.cb_rule.specs.Seats.{claims_it, claims_on, holding, pins_it, pins_on, share_of}
 use Rattle.cb_rule.specs.Seats.{written_on}
 use Rattle.cb_rule.specs.Stands.{Stands}
 use Rattle.cb_rule.specs.Steps.{blank, joined, left_of, right_of}
-use Rattle.cb_rule.proofs.Growing.{joined_old}
+use Rattle.cb_rule.proofs.Growing.{joined_old, made_none}
 use Rattle.cb_rule.proofs.Counts.{each_append, each_map, each_mapped, times-append, total-same}
 use Rattle.cb_rule.proofs.Counts.{total-set, total-snoc}
 use Rattle.cb_rule.proofs.Keeping.{seats_stay}
@@ -87,7 +88,12 @@ module _ (c : Config) (ws : List ℕ) (views : List View) (known : Shown) (es : 
           (each_append (λ e. Has e es) v.fresh v.written ok.fresh ok.written))) ok.seen;
       peeked = tt;
       looks = tt;
+      clocked = ok.clocked;
+      finds = ok.finds;
+      early = ok.early;
       reached = omega arith;
+      fresh_from = tt;
+      made_by = made_none es;
       told = tt;
       began = λ h l. never_now es h;
       lately = λ his. absurd (true≢false (sym his));
@@ -109,7 +115,12 @@ module _ (c : Config) (ws : List ℕ) (views : List View) (known : Shown) (es : 
       seen = tt;
       peeked = tt;
       looks = tt;
+      clocked = omega arith;
+      finds = tt;
+      early = tt;
       reached = omega arith;
+      fresh_from = tt;
+      made_by = made_none es;
       told = tt;
       began = λ h l. never_now es h;
       lately = λ his. absurd (true≢false (sym his));
@@ -180,7 +191,12 @@ module _ (c : Config) (ws : List ℕ) (views : List View) (known : Shown) (es : 
           seen = k.seen;
           peeked = k.peeked;
           looks = k.looks;
+          clocked = k.clocked;
+          finds = k.finds;
+          early = k.early;
           reached = k.reached;
+          fresh_from = k.fresh_from;
+          made_by = k.made_by;
           told = k.told;
           began = k.began;
           lately = k.lately;
@@ -191,9 +207,9 @@ module _ (c : Config) (ws : List ℕ) (views : List View) (known : Shown) (es : 
 
   pub kept_joins : (id : ℕ) (v : View) (other : ℕ) (w : View) → get_elem? views id ≡ some v
       → other ≢ id → get_elem? (set views id (joined v w)) other ≡ some w → w.holds ≡ false
-      → w.pins ≡ [] → v.holds ≡ false
+      → w.pins ≡ [] → w.fresh ≡ [] → v.holds ≡ false
       → RuleKept c ws (set (set views id (joined v w)) other (blank c)) known es
-  kept_joins id v other w at ne there quiet bare out = record {
+  kept_joins id v other w at ne there quiet bare unwritten out = record {
     wide = r.wide;
     sized = r.sized;
     begins = r.begins;
@@ -233,6 +249,11 @@ module _ (c : Config) (ws : List ℕ) (views : List View) (known : Shown) (es : 
           → total f more ≡ total f views
       sums f e z = total_joined f views id other v w both (blank c) at there e z
 
+      sooner : (n : ℕ) (fs : List Find) → n ≤ max w.clock v.clock
+          → Each (λ (f : Find). f.at ≤ n) fs → Each (λ (f : Find). f.at ≤ max w.clock v.clock) fs
+      sooner n fs le = each_map (λ (f : Find). f.at ≤ n)
+          (λ (f : Find). f.at ≤ max w.clock v.clock) fs (λ f o. omega (arith, o, le))
+
       ok : SeatOk c ws known es v
       ok = r.seats id v at
 
@@ -252,7 +273,15 @@ module _ (c : Config) (ws : List ℕ) (views : List View) (known : Shown) (es : 
           seen = each_append (SeenOk es) w.seen v.seen k'.seen k.seen;
           peeked = each_append (PeekedOk es) w.peeked v.peeked k'.peeked k.peeked;
           looks = each_append (LookOk es) w.looks v.looks k'.looks k.looks;
+          clocked = let a = k.clocked in let b = k'.clocked in omega (arith, a, b);
+          finds = each_append (FindOk es) w.finds v.finds k'.finds k.finds;
+          early = each_append (λ (f : Find). f.at ≤ max w.clock v.clock) w.finds v.finds
+              (sooner w.clock w.finds (omega arith) k'.early)
+              (sooner v.clock v.finds (omega arith) k.early);
           reached = k.reached;
+          fresh_from = subst (λ (xs : List Entry). Each (IsSettledFrom es v.since) (xs ++ v.fresh))
+              (sym unwritten) k.fresh_from;
+          made_by = k.made_by;
           told = k.told;
           began = k.began;
           lately = λ his. absurd (true≢false (sym his ∙ out));
@@ -324,7 +353,8 @@ module _ (beside : Beside) (steady : IsSteady beside) (first : ℕ) (c : Config)
     history = r.history;
     starts = r.starts;
     kept = kept_joins c s.words s.views r.known r.history r.kept id v other w at ne there quiet
-        bare out;
+        bare (r.own.idle other w (sym (set_else s.views id other (joined v w) ne) ∙ there) quiet)
+        out;
     shares = shares_joined c s.views id v other w at there live r.shares;
     own = let at' = sym (set_else s.views id other (joined v w) ne) ∙ there in
         own_joined first c s.views id v other w at at' fresh (r.own.idle other w at' quiet) r.own;

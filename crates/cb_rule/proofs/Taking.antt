@@ -1,5 +1,5 @@
 -- A seat takes the lock, and the far state out of its slot.
-use Rattle.std.proofs.Common.{◌≡◌, ℕ, zero, suc, ◌*◌, ◌^◌, ◌%◌, ◌<◌, ◌≤◌, true, List, [], ◌∷◌, length}
+use Rattle.std.proofs.Common.{◌≡◌, ℕ, zero, suc, ◌*◌, ◌^◌, ◌%◌, ◌<◌, ◌≤◌, Bool, true, false, cond, List, [], ◌∷◌, length}
 use Rattle.std.proofs.Common.{get_or, set, Some, sym, refl, ap, ◌∙◌, subst, ⊎_elim, arith, eqb}
 use Rattle.std.proofs.Common.{eq-eqb, ne_eqb, length-set, get_or-set_same, true≢false}
 use Rattle.std.proofs.lemmas.Bool.{cases_lt}
@@ -13,24 +13,23 @@ use Rattle.atomic_table.specs.Table.{takes as takes_slot}
 use Rattle.cb_types.specs.declared.config.Config.{Config}
 use Rattle.cb_world.specs.FarState.{FarState}
 use Rattle.cb_world.specs.LocalSound.{AreKnown}
-use Rattle.cb_world.specs.Shown.{never, object_at, version_at}
 use Rattle.cb_world.specs.Orders.{KeepsOrder}
 use Rattle.cb_rule.specs.declared.view.View.{View}
-use Rattle.cb_rule.specs.History.{newest, top}
+use Rattle.cb_rule.specs.History.{top}
 use Rattle.cb_rule.specs.Lists.{total, Each, Has}
 use Rattle.cb_rule.specs.Locking.{Deeds, IsHandedOn, IsTimed, Locked, Stood, TurnStands, turns_on}
 use Rattle.cb_rule.specs.Locking.{when_ended}
 use Rattle.cb_rule.specs.LockSteps.{HasTaken, took, took_lock}
 use Rattle.cb_rule.specs.Own.{AreOwn, held_on}
-use Rattle.cb_rule.specs.Records.{IsSettledBy}
+use Rattle.cb_rule.specs.Records.{IsSettledBy, IsSettledFrom}
 use Rattle.cb_rule.specs.Rule.{AreSized, RuleKept}
 use Rattle.cb_rule.specs.Ruled.{Ruled}
-use Rattle.cb_rule.specs.Seats.{claims_on, holding, pins_on}
+use Rattle.cb_rule.specs.Seats.{holding}
 use Rattle.cb_rule.specs.Slot.{Sat, Table}
-use Rattle.cb_rule.specs.Stands.{Stands}
 use Rattle.cb_rule.specs.Steps.{Knows}
 use Rattle.cb_rule.proofs.Binding.{bound_by, held_at_most}
 use Rattle.cb_rule.proofs.Growing.{settled_now}
+use Rattle.cb_rule.proofs.Making.{made_now, unwritten}
 use Rattle.cb_rule.proofs.Counts.{each_map, hit, total-at, total-same, total-set}
 use Rattle.cb_rule.proofs.Flagging.{flagged, lock_word}
 use Rattle.cb_rule.proofs.Keeping.{seats_stay}
@@ -43,6 +42,10 @@ use Rattle.cb_rule.proofs.Owning.{own_stays}
 none_of : (n : ℕ) → (0 < n → ⊥) → n ≡ 0
 none_of zero f = refl
 none_of (suc n) f = absurd (f (omega arith))
+
+not_holding : (holds : Bool) → cond {A = ℕ} holds 1 0 ≡ 0 → holds ≡ false
+not_holding true e = absurd (omega (arith, e))
+not_holding false e = refl
 
 module _ (deeds : Deeds) (first : ℕ) (c : Config) (s : Table) (id : ℕ) (me : Sat)
     (at : get_elem? s.views id ≡ some me.0) (r : Ruled (Locked deeds) first c s)
@@ -78,6 +81,10 @@ module _ (deeds : Deeds) (first : ℕ) (c : Config) (s : Table) (id : ℕ) (me :
   one_holds = let sum = total-set holding s.views id me.0 taken at in
       omega (arith, sum, not_mine, nobody)
 
+  unwritten_yet : me.0.fresh ≡ []
+  unwritten_yet = r.own.idle id me.0 at
+      (not_holding me.0.holds not_mine)
+
   kept_taken : RuleKept c (set s.words 0 1) views r.known r.history
   kept_taken = let ok = r.kept.seats id me.0 at in let k = ok.lasting in
       flagged c (set s.words 0 1) s.views r.known r.history
@@ -93,7 +100,13 @@ module _ (deeds : Deeds) (first : ℕ) (c : Config) (s : Table) (id : ℕ) (me :
           seen = k.seen;
           peeked = k.peeked;
           looks = k.looks;
+          clocked = k.clocked;
+          finds = k.finds;
+          early = k.early;
           reached = omega arith;
+          fresh_from = subst (Each (IsSettledFrom r.history (length r.history))) (sym unwritten_yet)
+              tt;
+          made_by = made_now c s.words s.views r.known r.history r.kept far (lock.free nobody).stood;
           told = tt;
           began = old_now c s.words s.views r.known r.history r.kept;
           lately = λ _. record { newer = []; parts = refl; since_then = tt };
@@ -165,18 +178,12 @@ module _ (deeds : Deeds) (first : ℕ) (c : Config) (s : Table) (id : ℕ) (me :
     far = locked_taken;
   }
 
-  -- an object that was never made has no entry
-  unwritten : (h : ℕ) → object_at r.known h ≡ never → h < c.handles → top r.history h ≡ 0
-  unwritten h vacant below = let z = r.kept.stand h below in
-      let k = subst (Stands c r.known.first s.words h (total (pins_on h) s.views)
-      (total (claims_on h) s.views) (top r.history h) (newest r.history h) (version_at r.known h))
-      vacant z in k.at
-
   -- so each object of which the record has one was made
   was_made : (h : ℕ) → Knows h me.0 → h < far.made
   was_made h knows = ⊎_elim (λ (less : h < far.made). less) (λ (past : far.made ≤ h). absurd
       (let vacant = (a.made h (omega (arith, below, sized))).0 past in
-      let zero_ = unwritten h vacant below in omega (arith, zero_, some))) (cases_lt h far.made)
+      let zero_ = unwritten c s.words s.views r.known r.history r.kept h vacant below in
+      omega (arith, zero_, some))) (cases_lt h far.made)
     where
       some : 0 < top r.history h
       some = known_made c s.words s.views r.known r.history r.kept id h me.0 at knows
@@ -201,6 +208,7 @@ module _ (deeds : Deeds) (first : ℕ) (c : Config) (s : Table) (id : ℕ) (me :
     stood = subst (λ (q : Config). Stood q r.known far) (sym ok.same_config) f.stood;
     made = was_made;
     kept = lock.resting nobody id me.0 at;
+    late = ok.lasting.clocked;
     number = sym found ∙ f.word ∙ ap (λ (k : ℕ). 2 * k) (sym lock.reached);
   }
 

@@ -16,11 +16,11 @@ use Rattle.cb_rule.specs.Lists.{Has}
 use Rattle.cb_rule.specs.Locking.{Deeds, Locked, turn_number}
 use Rattle.cb_rule.specs.OneHistory.{Made}
 use Rattle.cb_rule.specs.Promised.{Wrote}
-use Rattle.cb_rule.specs.Records.{OldOk, TellsOk, TellsWritten, TurnOk}
+use Rattle.cb_rule.specs.Records.{FindOk, OldOk, TellsOk, TellsWritten, TurnOk}
 use Rattle.cb_rule.specs.Ruled.{Ruled}
 use Rattle.cb_rule.specs.Slot.{Table}
 use Rattle.cb_rule.specs.Told.{AreTold}
-use Rattle.cb_rule.proofs.Growing.{has_more, longer}
+use Rattle.cb_rule.proofs.Growing.{has_more, longer, settled_by_then}
 use Rattle.cb_rule.proofs.Histories.{entry_within, newest_entry}
 use Rattle.cb_rule.proofs.Members.{each_has}
 use Rattle.cb_rule.proofs.Promising.{has_wrote, wrote_has}
@@ -36,6 +36,8 @@ are_told deeds first c s r = subst (λ (n : ℕ). AreTold n c s.views) r.starts 
   told = λ t m. each_has (TurnOk c r.known.first r.history) t m.0.turns
       (r.kept.seats m.1.0 m.0 m.1.1).lasting.past m.2;
   order = in_order deeds first c s r;
+  found = λ f x. each_has (FindOk r.history) f x.0.finds (r.kept.seats x.1.0 x.0 x.1.1).lasting.finds
+      x.2;
 }
 
 -- what stands in the older part of a history stands in a longer one too, and that is a history
@@ -91,10 +93,11 @@ module _ (first : ℕ) (pos : 1 ≤ first) (c : Config) (views : List View)
       let x = (r.told u mu).wrote h n wrote in
       let k = each_has (TellsOk first r.history t.since t.until) (Claimed h w v words) t.acts
       (r.told t m).told has in
-      let now = k.1 in let short = x.1.short in let order = r.order u t mu m less in
+      let now = k.1 in let by = settled_by_then r.history u.since u.until x.0 x.1 in
+      let short = by.short in let order = r.order u t mu m less in
       let from = now.low in
-      let there = in_longer x.0 x.1.newer x.1.older now.newer now.older
-      (sym x.1.parts ∙ now.parts) (omega (arith, short, order, from)) x.1.there in
+      let there = in_longer x.0 by.newer by.older now.newer now.older
+      (sym by.parts ∙ now.parts) (omega (arith, short, order, from)) by.there in
       let ordered = of_older first now.newer now.older
       (subst (IsEntryHistory first) now.parts r.ordered) in
       let high = (entry_within first pos x.0 now.older ordered there).1 in

@@ -10,15 +10,17 @@ use Rattle.cb_world.specs.declared.access.Access.TheVariants.{Claimed}
 use Rattle.cb_world.specs.declared.object.Object.TheVariants as is
 use Rattle.cb_world.specs.declared.shown.Shown.{Shown}
 use Rattle.cb_world.specs.Shown.{never}
+use Rattle.cb_rule.specs.declared.view.Find.{Find}
 use Rattle.cb_rule.specs.declared.view.View.{View}
 use Rattle.cb_rule.specs.declared.view.Seen.{Seen}
-use Rattle.cb_rule.specs.History.{Follows, holding_words, no_value, top, value_of}
+use Rattle.cb_rule.specs.History.{Follows, holding_words, newest, no_value, top, value_of}
 use Rattle.cb_rule.specs.Lists.{total, Each, Has}
 use Rattle.cb_rule.specs.Locking.{is_turn}
-use Rattle.cb_rule.specs.Records.{IsSettledFrom, RecordOk, SeatOk, SeenLately, SeenSince}
+use Rattle.cb_rule.specs.Records.{FindOk, IsSettledFrom, RecordOk, SeatOk, SeenLately, SeenSince}
 use Rattle.cb_rule.specs.Ruled.{Beside, IsAlike, IsSteady}
 use Rattle.cb_rule.specs.Slot.{Table}
 use Rattle.cb_rule.specs.Steps.{blank, freed_seen, look_at, nothing, opener, stand, version_seen}
+use Rattle.cb_rule.proofs.Growing.{made_none, same_older}
 use Rattle.cb_rule.proofs.Seating.{never_now}
 use Rattle.cb_rule.proofs.WorkedHistory.{freed, made, other, some_entries, written}
 use Rattle.cb_rule.proofs.WorkedLocking.{far, seen, turn}
@@ -56,7 +58,12 @@ record_ok = record {
   seen = tt;
   peeked = tt;
   looks = tt;
+  clocked = lit≤ tt;
+  finds = tt;
+  early = tt;
   reached = lit≤ tt;
+  fresh_from = tt;
+  made_by = made_none some_entries;
   told = tt;
   began = λ h low. never_now some_entries h;
   lately = λ holds. absurd (true≢false (sym holds));
@@ -168,6 +175,78 @@ peeked_none r = r.peeked.0.1
 
 looked_at_none : Alone record (opener pair_of) { looks = look_at 1 (here_word 8) ∷ [] } → ⊥
 looked_at_none r = (r.looks.0 (here_full (here_word 8) refl)).1
+
+clocked_too_late : Alone record (opener pair_of) { clock = 1 } → ⊥
+clocked_too_late r = let e = r.clocked in omega (arith, e)
+
+-- it found an object freed, or a version of it, or it found it later than its clock or the history
+abbrev Found : Find → Type 0
+Found f = RecordOk pair_of 3 some_entries record seat { clock = 2; finds = f ∷ [] }
+
+found_early : FindOk some_entries record { handle = 1; version = 3; freed = false; at = 2 }
+found_early = record {
+  newer = written ∷ [];
+  older = other ∷ made ∷ [];
+  parts = refl;
+  long = refl;
+  last = refl;
+  gone = refl;
+}
+
+found_ok : Found record { handle = 1; version = 3; freed = false; at = 2 }
+found_ok = record {
+  written = record_ok.written;
+  fresh = tt;
+  seen = tt;
+  peeked = tt;
+  looks = tt;
+  clocked = lit≤ tt;
+  finds = (found_early, tt);
+  early = (lit≤ tt, tt);
+  reached = lit≤ tt;
+  fresh_from = tt;
+  made_by = made_none some_entries;
+  told = tt;
+  began = record_ok.began;
+  lately = record_ok.lately;
+  past = tt;
+  order = record_ok.order;
+}
+
+-- the two oldest entries
+two_oldest : (newer older : List Entry) → some_entries ≡ newer ++ older → length older ≡ 2
+    → other ∷ made ∷ [] ≡ older
+two_oldest newer older parts long = same_older (written ∷ []) (other ∷ made ∷ []) newer older parts
+    (sym long)
+
+found_later_version : Found record { handle = 1; version = 4; freed = false; at = 2 } → ⊥
+found_later_version r = let f = r.finds.0 in
+    let e : 3 ≡ 4 = ap (λ (es : List Entry). top es 1) (two_oldest f.newer f.older f.parts f.long)
+    ∙ f.last in omega (arith, e)
+
+found_freed : Found record { handle = 1; version = 3; freed = true; at = 2 } → ⊥
+found_freed r = let f = r.finds.0 in true≢false (sym (ap (λ (es : List Entry). (newest es 1).freed)
+    (two_oldest f.newer f.older f.parts f.long) ∙ f.gone))
+
+found_past_its_clock : Found record { handle = 1; version = 4; freed = false; at = 3 } → ⊥
+found_past_its_clock r = let e = r.early.0 in omega (arith, e)
+
+-- its turn wrote what was settled before it began
+wrote_before_its_turn : RecordOk pair_of 3 some_entries record seat {
+  since = 3;
+  fresh = made ∷ [];
+} → ⊥
+wrote_before_its_turn r = let s = r.fresh_from.0 in
+    let e : 3 ≡ length (s.newer ++ made ∷ s.older) =
+    ap (λ (es : List Entry). length es) s.parts in
+    let n = length-append s.newer (made ∷ s.older) in let low = s.long in omega (arith, e, n, low)
+
+-- or began with a far state in which another number of objects was made than there were
+began_with_fewer_made : RecordOk pair_of 3 some_entries record seat { since = 2 } → ⊥
+began_with_fewer_made r = let m = r.made_by in let none = m.are_not 1 (lit≤ tt) in
+    let e : 3 ≡ top m.older 1 =
+    ap (λ (es : List Entry). top es 1) (two_oldest m.newer m.older m.parts m.long) in
+    omega (arith, e, none)
 
 began_too_late : Alone record (opener pair_of) { since = 1 } → ⊥
 began_too_late r = let e = r.reached in omega (arith, e)

@@ -9,7 +9,7 @@ use Rattle.cb_types.specs.declared.config.Config.{Config}
 use Rattle.cb_types.specs.declared.job.Job.TheVariants.{Evict}
 use Rattle.cb_ptr.specs.Word.{state_number}
 use Rattle.cb_world.specs.declared.entry.Entry.{Entry}
-use Rattle.cb_world.specs.declared.access.Access.TheVariants.{Claimed}
+use Rattle.cb_world.specs.declared.access.Access.TheVariants.{Claimed, Looked}
 use Rattle.cb_world.specs.declared.object.Object.{Object}
 use Rattle.cb_world.specs.declared.object.Object.TheVariants as is
 use Rattle.cb_world.specs.declared.shown.Shown.{Shown}
@@ -22,7 +22,7 @@ use Rattle.cb_rule.specs.declared.turn.Turn.{Turn}
 use Rattle.cb_rule.specs.declared.view.Seen.{Seen}
 use Rattle.cb_rule.specs.declared.view.View.{View}
 use Rattle.cb_rule.specs.AsShown.{as_shown}
-use Rattle.cb_rule.specs.History.{Value, WasNow, no_value, top}
+use Rattle.cb_rule.specs.History.{Value, WasNow, newest, no_value, top}
 use Rattle.cb_rule.specs.Lists.{Has}
 use Rattle.cb_rule.specs.Locking.{IsUnlocked, Locked}
 use Rattle.cb_rule.specs.LockSteps.{IsFoundFreed, MayGive}
@@ -367,6 +367,14 @@ began_far b = let e = no_entries 0 0 1 4 seven b.1 in omega (arith, e)
 
 began_claimed : Began (is.Claimed 8 0 4 (7 ∷ [])) → ⊥
 began_claimed b = let e = no_entries 0 0 1 4 seven b.1 in omega (arith, e)
+
+began_here : Began (is.Here 8 0) → ⊥
+began_here b = true≢false (ap (λ (es : List Entry). (newest es 1).freed)
+    (none_of_none b.older b.newer b.parts) ∙ b.found)
+
+looked_unwritten : TellsOk 3 [] 0 0 (Looked 1 here) → ⊥
+looked_unwritten t = let w = t.1 in true≢false (ap (λ (es : List Entry). (newest es 1).freed)
+    (none_of_none w.older w.newer w.parts) ∙ w.found)
 
 began_far_below : Began (is.Far 8 2 (7 ∷ [])) → ⊥
 began_far_below b = let e : 3 ≤ 2 = b.0 in omega (arith, e)

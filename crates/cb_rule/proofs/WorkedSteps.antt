@@ -1,6 +1,6 @@
 -- Worked steps of a seat on the words: what meets each definition, and what breaks one of its parts
 -- alone.
-use Rattle.std.proofs.Common.{◌≡◌, ◌≢◌, ℕ, zero, suc, ◌+◌, ◌*◌, ◌^◌, ◌<◌, ◌≤◌, false, eqb, List, []}
+use Rattle.std.proofs.Common.{◌≡◌, ◌≢◌, ℕ, zero, suc, ◌+◌, ◌*◌, ◌^◌, ◌<◌, ◌≤◌, Bool, false, true, eqb, List, []}
 use Rattle.std.proofs.Common.{◌∷◌, length, get_or, slice_index, refl, ap, subst, inl, ⊎_elim, lit<}
 use Rattle.std.proofs.Common.{lit≤, arith}
 use Rattle.std.proofs.lemmas.Bool.{eqb-false}
@@ -10,6 +10,8 @@ use Rattle.cb_world.specs.declared.access.Access.TheVariants.{Told, Loaded, Stor
 use Rattle.cb_world.specs.declared.object.Object.TheVariants as is
 use Rattle.cb_world.specs.Memory.{words_for}
 use Rattle.cb_world.specs.Shown.{Owns, Spares, object_at}
+use Rattle.cb_ptr.specs.Word.{state_of}
+use Rattle.cb_rule.specs.declared.view.Find.{Find}
 use Rattle.cb_rule.specs.declared.view.Held.{Held}
 use Rattle.cb_rule.specs.declared.view.Peeked.{Peeked}
 use Rattle.cb_world.specs.declared.entry.Entry.{Entry}
@@ -22,6 +24,7 @@ use Rattle.cb_rule.specs.Records.{seen_of}
 use Rattle.cb_rule.specs.Slot.{LockSlot, Sat}
 use Rattle.cb_rule.specs.Steps.{HasEvent, FindsVersion, IsInside, IsNewest, act, all_seen, blank}
 use Rattle.cb_rule.specs.AnyGlance.{glanced_any}
+use Rattle.cb_rule.specs.Steps.{Finds, dated_now, found, found_both}
 use Rattle.cb_rule.specs.Steps.{claimed_here, dated, freed_seen, glanced, held_at, joined, left_of}
 use Rattle.cb_rule.specs.Steps.{loaded, look_at, next_entry, nothing, peeked, pinned, put_back}
 use Rattle.cb_rule.specs.Steps.{read_held, right_of, settled, settled_here, stamped, stamped_here}
@@ -29,6 +32,7 @@ use Rattle.cb_rule.specs.Steps.{stand, stored, stored_here, told, unpinned, vers
 use Rattle.cb_rule.specs.Steps.{with_claim, with_freed_seen, with_held, with_look, with_peek}
 use Rattle.cb_rule.specs.Steps.{with_pin, with_back, with_stamp, with_version, with_claim_word}
 use Rattle.cb_rule.specs.Steps.{without_claim, without_pin}
+use Rattle.cb_rule.specs.Words.{is_gone}
 use Rattle.cb_rule.proofs.WorkedHistory.{made, written}
 use Rattle.cb_rule.proofs.WorkedLocking.{far, turn}
 use Rattle.cb_rule.proofs.WorkedViews.{here_full, here_word, pair_of}
@@ -137,48 +141,91 @@ maker_newest = record {
 abbrev looks_in : View → ℕ
 looks_in v = length v.looks
 
+abbrev finds_in : View → ℕ
+finds_in v = length v.finds
+
+-- a view that differs from what was found, whenever that was
+finds_else : (f : View → ℕ) (h version : ℕ) (freed : Bool) (u v w : View)
+    → ((at : ℕ) → eqb (f w) (f (found h version freed at u)) ≡ false)
+    → Finds h version freed u (lone v) (lone w) → ⊥
+finds_else f h version freed u v w ne z =
+    differ f w (found h version freed z.at u) (ne z.at) z.noted
+
 -- a glance at the word of object 1 is a look; where it was freed it is read so, at no version below
 glances_unnoted : Steps glanced 2 maker (here_word 8) maker → ⊥
-glances_unnoted g = differ looks_in maker (with_look 1 (here_word 8) maker) refl
-    ((g 1 refl).1 (here_full (here_word 8) refl))
+glances_unnoted g = let z = (g 1 refl).1 (here_full (here_word 8) refl) in
+    finds_else looks_in 1 z.0 false (with_look 1 (here_word 8) maker) maker maker (λ at. refl) z.1
+
+glances_unfound : Steps glanced 2 maker (here_word 8) (with_look 1 (here_word 8) maker) → ⊥
+glances_unfound g = let z = (g 1 refl).1 (here_full (here_word 8) refl) in
+    finds_else finds_in 1 z.0 false (with_look 1 (here_word 8) maker) maker
+    (with_look 1 (here_word 8) maker) (λ at. refl) z.1
+
+-- nor was it found earlier than what the seat found before
+abbrev later : View
+later = record maker { clock = 6 }
+
+abbrev first_time : List Find → ℕ
+first_time [] = 0
+first_time (f ∷ fs) = f.at
+
+finds_earlier : Finds 1 3 false later (lone later) (lone (found 1 3 false 5 later)) → ⊥
+finds_earlier f = let low = f.late in
+    let e : 5 ≡ f.at = ap (λ (m : Sat). first_time m.0.finds) f.noted in omega (arith, low, e)
+
+finds_it : Finds 1 3 false later (lone later) (lone (found 1 3 false 7 later))
+finds_it = record { at = 7; late = lit≤ tt; noted = refl }
+
+both_found : (found_both (held_at 1 (here_word 8) 3 (7 ∷ [])) 7 later).finds
+    ≡ record { handle = 1; version = 4; freed = false; at = 8 }
+    ∷ record { handle = 1; version = 3; freed = false; at = 7 } ∷ []
+both_found = refl
+
+both_clocked : (found_both (held_at 1 (here_word 8) 3 (7 ∷ [])) 7 later).clock ≡ 8
+both_clocked = refl
 
 glances_unread : Steps glanced 2 maker 0 (with_look 1 0 maker) → ⊥
 glances_unread g = let z = (g 1 refl).0 refl in
-    differ (λ v. length v.seen) (with_look 1 0 maker) (with_freed_seen 1 z.0 0 maker) refl z.1
+    finds_else (λ v. length v.seen) 1 z.0 true (with_freed_seen 1 z.0 0 maker) maker
+    (with_look 1 0 maker) (λ at. refl) z.1
 
 abbrev version_in : List Seen → ℕ
 version_in [] = 0
 version_in (s ∷ ss) = s.version
 
-glances_below : Steps glanced 2 maker 0 (with_freed_seen 1 2 0 maker) → ⊥
+glances_below : Steps glanced 2 maker 0 (found 1 2 true 5 (with_freed_seen 1 2 0 maker)) → ⊥
 glances_below g = let z = (g 1 refl).0 refl in
-    let two : 2 ≡ z.0 = ap (λ (m : Sat). version_in m.0.seen) z.1 in
+    let two : 2 ≡ z.0 = ap (λ (m : Sat). version_in m.0.seen) z.1.noted in
     let above : 3 ≤ z.0 = z.2.written.0 refl in omega (arith, two, above)
 
 -- so a glance at the word of any object, where the record knows it; where it does not it is a look
 glances_any_unread : Steps glanced_any 2 maker 0 (with_look 1 0 maker) → ⊥
 glances_any_unread g = let z = (g 1 refl).0 refl (inl (made, inl refl, refl)) in
-    differ (λ v. length v.seen) (with_look 1 0 maker) (with_freed_seen 1 z.0 0 maker) refl z.1
+    finds_else (λ v. length v.seen) 1 z.0 true (with_freed_seen 1 z.0 0 maker) maker
+    (with_look 1 0 maker) (λ at. refl) z.1
 
-glances_any_below : Steps glanced_any 2 maker 0 (with_freed_seen 1 2 0 maker) → ⊥
+glances_any_below : Steps glanced_any 2 maker 0 (found 1 2 true 5 (with_freed_seen 1 2 0 maker))
+    → ⊥
 glances_any_below g = let z = (g 1 refl).0 refl (inl (made, inl refl, refl)) in
-    let two : 2 ≡ z.0 = ap (λ (m : Sat). version_in m.0.seen) z.1 in
+    let two : 2 ≡ z.0 = ap (λ (m : Sat). version_in m.0.seen) z.1.noted in
     let above : 3 ≤ z.0 = z.2.written.0 refl in omega (arith, two, above)
 
 abbrev stranger : View
 stranger = record (blank pair_of) { share = 24 }
 
-reads_unknown : Steps glanced_any 2 stranger 0 (with_freed_seen 1 5 0 stranger) → ⊥
-reads_unknown g = differ (λ v. length v.seen) (with_freed_seen 1 5 0 stranger)
-    (with_look 1 0 stranger) refl ((g 1 refl).1 (λ e knows. ⊎_elim
+reads_unknown : Steps glanced_any 2 stranger 0
+    (found 1 5 true 5 (with_freed_seen 1 5 0 stranger)) → ⊥
+reads_unknown g = let z = (g 1 refl).1 (λ e knows. ⊎_elim
     (λ (x : (e : Entry) × Has e [] × (e.handle ≡ 1)). absurd x.1)
-    (λ (x : (s : Seen) × Has s [] × (s.handle ≡ 1)). absurd x.1) knows))
+    (λ (x : (s : Seen) × Has s [] × (s.handle ≡ 1)). absurd x.1) knows) in
+    finds_else (λ v. length v.seen) 1 z.0 true (with_look 1 0 stranger) stranger
+    (found 1 5 true 5 (with_freed_seen 1 5 0 stranger)) (λ at. refl) z.1
 
 glances_any_unnoted : Steps glanced_any 2 stranger 0 stranger → ⊥
-glances_any_unnoted g = differ looks_in stranger (with_look 1 0 stranger) refl
-    ((g 1 refl).1 (λ e knows. ⊎_elim
+glances_any_unnoted g = let z = (g 1 refl).1 (λ e knows. ⊎_elim
     (λ (x : (e : Entry) × Has e [] × (e.handle ≡ 1)). absurd x.1)
-    (λ (x : (s : Seen) × Has s [] × (s.handle ≡ 1)). absurd x.1) knows))
+    (λ (x : (s : Seen) × Has s [] × (s.handle ≡ 1)). absurd x.1) knows) in
+    finds_else looks_in 1 z.0 true (with_look 1 0 stranger) stranger stranger (λ at. refl) z.1
 
 read_freed : ((with_freed_seen 1 5 0 maker).looks ≡ look_at 1 0 ∷ [])
     × ((with_freed_seen 1 5 0 maker).seen ≡ freed_seen 1 5 ∷ [])
@@ -228,34 +275,43 @@ pinned_well = (refl, refl, refl, refl)
 -- which of two words an exchange finds, and what it then does
 abbrev Exchanged : (ℕ → ℕ → List ℕ → View → View) → ℕ → ℕ → View → Type 0
 Exchanged with n h w = (n ≡ here_word 8 → (v : ℕ) × (words : List ℕ)
-    × (lone w ≡ lone (with n v words maker)) × FindsVersion h n v words maker)
-    × (n ≢ here_word 8 → lone w ≡ lone (with_look h n maker))
+    × Finds h v false (with n v words maker) (lone maker) (lone w)
+    × FindsVersion h n v words maker)
+    × (n ≢ here_word 8 → (v : ℕ)
+    × Finds h v (is_gone (state_of n)) (with_look h n maker) (lone maker) (lone w))
 
 not_nine : here_word 9 ≡ here_word 8 → ⊥
 not_nine = eqb-false (here_word 9) (here_word 8) refl
 
-takes_pin : Steps pinned 2 maker (here_word 8) pinner
-takes_pin = of_one (λ h. Exchanged (with_pin h) (here_word 8) h pinner)
-    ((λ _. (3, 7 ∷ [], refl, finds)), λ off. absurd (off refl)) 1
+takes_pin : Steps pinned 2 maker (here_word 8) (found 1 3 false 5 pinner)
+takes_pin = of_one (λ h. Exchanged (with_pin h) (here_word 8) h (found 1 3 false 5 pinner)) (
+  (λ _. (3, 7 ∷ [], record { at = 5; late = lit≤ tt; noted = refl }, finds)),
+  λ off. absurd (off refl),
+) 1
 
-takes_no_pin : Steps pinned 2 maker (here_word 9) (with_look 1 (here_word 9) maker)
+takes_no_pin : Steps pinned 2 maker (here_word 9)
+    (found 1 3 false 5 (with_look 1 (here_word 9) maker))
 takes_no_pin = of_one
-    (λ h. Exchanged (with_pin h) (here_word 9) h (with_look 1 (here_word 9) maker))
-    ((λ nine. absurd (not_nine nine)), λ _. refl) 1
+    (λ h. Exchanged (with_pin h) (here_word 9) h
+    (found 1 3 false 5 (with_look 1 (here_word 9) maker))) (
+      (λ nine. absurd (not_nine nine)),
+      λ _. (3, record { at = 5; late = lit≤ tt; noted = refl }),
+    ) 1
 
 pins_unnoted : Steps pinned 2 maker (here_word 8) (with_look 1 (here_word 8) maker) → ⊥
-pins_unnoted p = let z = (p 1 refl).0 refl in differ (λ v. length v.pins)
-    (with_look 1 (here_word 8) maker) (with_pin 1 (here_word 8) z.0 z.1 maker) refl z.2
+pins_unnoted p = let z = (p 1 refl).0 refl in finds_else (λ v. length v.pins) 1 z.0 false
+    (with_pin 1 (here_word 8) z.0 z.1 maker) maker (with_look 1 (here_word 8) maker)
+    (λ at. refl) z.2
 
-pins_below : Steps pinned 2 maker (here_word 8) (with_pin 1 (here_word 8) 2 (7 ∷ []) maker)
-    → ⊥
+pins_below : Steps pinned 2 maker (here_word 8)
+    (found 1 2 false 5 (with_pin 1 (here_word 8) 2 (7 ∷ []) maker)) → ⊥
 pins_below p = let z = (p 1 refl).0 refl in
-    let two : 2 ≡ z.0 = ap (λ (m : Sat). version_in m.0.seen) z.2 in
+    let two : 2 ≡ z.0 = ap (λ (m : Sat). version_in m.0.seen) z.2.noted in
     let above : 3 ≤ z.0 = z.3.above.written.0 refl in omega (arith, two, above)
 
 pins_at_another : Steps pinned 2 maker (here_word 9) maker → ⊥
-pins_at_another p =
-    differ looks_in maker (with_look 1 (here_word 9) maker) refl ((p 1 refl).1 not_nine)
+pins_at_another p = let z = (p 1 refl).1 not_nine in
+    finds_else looks_in 1 z.0 false (with_look 1 (here_word 9) maker) maker maker (λ at. refl) z.1
 
 -- ---- it is given back
 gives_pin : Steps unpinned 2 pinner (here_word 8) (without_pin 1 pinner)
@@ -317,6 +373,27 @@ dates_an_old_pin : Steps dated 4 record both { seen = freed_seen 1 5 ∷ [] } 3
     record both { seen = freed_seen 1 5 ∷ [] } → ⊥
 dates_an_old_pin d = let e : 5 ≤ 3 = d.3.0.seen.0 refl in omega (arith, e)
 
+-- a load of the pin's version word that tells that it is the newest now
+dates_now : Steps dated_now 4 pinner 3 (found 1 3 false 5 pinner)
+dates_now p has e = ⊎_elim (λ (is : the_pin ≡ p). subst Dates is (
+  refl,
+  record {
+    written = (λ _. lit≤ tt, tt);
+    seen = (λ _. lit≤ tt, tt);
+    lone = λ alone. absurd (alone_shares 1 alone);
+  },
+  record { at = 5; late = lit≤ tt; noted = refl },
+))
+    (λ (none_of : ⊥). absurd none_of) has
+  where
+    Dates : Stand → Type 0
+    Dates q = (3 ≡ q.version) × IsNewest q.handle q.version pinner
+        × Finds q.handle q.version false pinner (lone pinner) (lone (found 1 3 false 5 pinner))
+
+dates_unnoted : Steps dated_now 4 pinner 3 pinner → ⊥
+dates_unnoted d = finds_else finds_in 1 3 false pinner pinner pinner (λ at. refl)
+    (d the_pin (inl refl) refl).2
+
 reads_claimed : Steps read_held 5 both 5 both
 reads_claimed = (refl, (words, tt))
   where
@@ -334,27 +411,30 @@ reads_and_looks r = differ looks_in (with_look 0 5 both) both refl r.0
 abbrev claimer : View
 claimer = with_claim 1 (here_word 8) 3 (7 ∷ []) maker
 
-takes_claim : Steps claimed_here 2 maker (here_word 8) claimer
-takes_claim = of_one (λ h. Exchanged (with_claim h) (here_word 8) h claimer)
-    ((λ _. (3, 7 ∷ [], refl, finds)), λ off. absurd (off refl)) 1
+takes_claim : Steps claimed_here 2 maker (here_word 8) (found 1 3 false 5 claimer)
+takes_claim = of_one (λ h. Exchanged (with_claim h) (here_word 8) h (found 1 3 false 5 claimer)) (
+  (λ _. (3, 7 ∷ [], record { at = 5; late = lit≤ tt; noted = refl }, finds)),
+  λ off. absurd (off refl),
+) 1
 
 claims_unnoted : Steps claimed_here 2 maker (here_word 8) (with_look 1 (here_word 8) maker) → ⊥
-claims_unnoted p = let z = (p 1 refl).0 refl in differ (λ v. length v.claims)
-    (with_look 1 (here_word 8) maker) (with_claim 1 (here_word 8) z.0 z.1 maker) refl z.2
+claims_unnoted p = let z = (p 1 refl).0 refl in finds_else (λ v. length v.claims) 1 z.0 false
+    (with_claim 1 (here_word 8) z.0 z.1 maker) maker (with_look 1 (here_word 8) maker)
+    (λ at. refl) z.2
 
 abbrev claimed_version : List Held → ℕ
 claimed_version [] = 0
 claimed_version (x ∷ xs) = x.version
 
 claims_below : Steps claimed_here 2 maker (here_word 8)
-    (with_claim 1 (here_word 8) 2 (7 ∷ []) maker) → ⊥
+    (found 1 2 false 5 (with_claim 1 (here_word 8) 2 (7 ∷ []) maker)) → ⊥
 claims_below p = let z = (p 1 refl).0 refl in
-    let two : 2 ≡ z.0 = ap (λ (m : Sat). claimed_version m.0.claims) z.2 in
+    let two : 2 ≡ z.0 = ap (λ (m : Sat). claimed_version m.0.claims) z.2.noted in
     let above : 3 ≤ z.0 = z.3.above.written.0 refl in omega (arith, two, above)
 
 claims_at_another : Steps claimed_here 2 maker (here_word 9) maker → ⊥
-claims_at_another p =
-    differ looks_in maker (with_look 1 (here_word 9) maker) refl ((p 1 refl).1 not_nine)
+claims_at_another p = let z = (p 1 refl).1 not_nine in
+    finds_else looks_in 1 z.0 false (with_look 1 (here_word 9) maker) maker maker (λ at. refl) z.1
 
 -- ---- its words are stored, and it is settled or put back
 abbrev the_claim : Held
@@ -396,37 +476,55 @@ stamps_nothing s = differ (λ v. stamp_in v.claims) claimer
 written_next : next_entry record the_claim { memory = 9 ∷ [] } ≡ written
 written_next = refl
 
-settles_here : Steps settled_here 2 claimer 65538 (with_version the_claim claimer)
-settles_here x has e = ⊎_elim
-    (λ (is : the_claim ≡ x). ap (λ (q : Held). lone (with_version q claimer)) is)
-    (λ (none_of : ⊥). absurd none_of) has
+settles_here : Steps settled_here 2 claimer 65538
+    (found_both the_claim 5 (with_version the_claim claimer))
+settles_here x has e = (
+  5,
+  lit≤ tt,
+  ⊎_elim
+      (λ (is : the_claim ≡ x). ap (λ (q : Held). lone (found_both q 5 (with_version q claimer))) is)
+      (λ (none_of : ⊥). absurd none_of) has,
+)
+
+settles_unfound : Steps settled_here 2 claimer 65538 (with_version the_claim claimer) → ⊥
+settles_unfound s = let z = s the_claim (inl refl) refl in differ finds_in
+    (with_version the_claim claimer) (found_both the_claim z.0 (with_version the_claim claimer))
+    refl z.2
 
 settles_and_claims : Steps settled_here 2 claimer 65538
     record claimer { written = next_entry the_claim ∷ made ∷ [] } → ⊥
-settles_and_claims s = differ (λ v. length v.claims)
+settles_and_claims s = let z = s the_claim (inl refl) refl in differ (λ v. length v.claims)
     record claimer { written = next_entry the_claim ∷ made ∷ [] }
-    (with_version the_claim claimer) refl (s the_claim (inl refl) refl)
+    (found_both the_claim z.0 (with_version the_claim claimer)) refl z.2
 
 settles_unwritten : Steps settled_here 2 claimer 65538 (without_claim 1 claimer) → ⊥
-settles_unwritten s = differ (λ v. length v.written) (without_claim 1 claimer)
-    (with_version the_claim claimer) refl (s the_claim (inl refl) refl)
+settles_unwritten s = let z = s the_claim (inl refl) refl in differ (λ v. length v.written)
+    (without_claim 1 claimer) (found_both the_claim z.0 (with_version the_claim claimer)) refl z.2
 
-puts_back : Steps put_back 2 claimer 65538 (with_back the_claim claimer)
-puts_back x has e = ⊎_elim
-    (λ (is : the_claim ≡ x). ap (λ (q : Held). lone (with_back q claimer)) is)
-    (λ (none_of : ⊥). absurd none_of) has
+puts_back : Steps put_back 2 claimer 65538 (found 1 3 false 5 (with_back the_claim claimer))
+puts_back x has e = record {
+  at = 5;
+  late = lit≤ tt;
+  noted = ⊎_elim
+      (λ (is : the_claim ≡ x). ap (λ (q : Held).
+      lone (found q.handle q.version false 5 (with_back q claimer))) is)
+      (λ (none_of : ⊥). absurd none_of) has;
+}
 
 puts_nothing_back : Steps put_back 2 claimer 65538 claimer → ⊥
-puts_nothing_back b = differ (λ v. length v.claims) claimer (with_back the_claim claimer) refl
-    (b the_claim (inl refl) refl)
+puts_nothing_back b = finds_else (λ v. length v.claims) 1 3 false (with_back the_claim claimer)
+    claimer claimer (λ at. refl) (b the_claim (inl refl) refl)
 
 puts_back_unread : Steps put_back 2 claimer 65538 (without_claim 1 claimer) → ⊥
-puts_back_unread b = differ (λ v. length v.seen) (without_claim 1 claimer)
-    (with_back the_claim claimer) refl (b the_claim (inl refl) refl)
+puts_back_unread b = finds_else (λ v. length v.seen) 1 3 false (with_back the_claim claimer)
+    claimer (without_claim 1 claimer) (λ at. refl) (b the_claim (inl refl) refl)
 
 -- ---- seats that are split and joined
 abbrev its_peek : Peeked
 its_peek = record { handle = 1; version = 3; index = 0; word = 7 }
+
+abbrev its_find : Find
+its_find = record { handle = 1; version = 3; freed = false; at = 5 }
 
 abbrev whole : View
 whole = record both {
@@ -435,12 +533,19 @@ whole = record both {
   peeked = its_peek ∷ [];
   own = 1 ∷ [];
   turns = turn (far 0) (far 1) ∷ [];
+  clock = 6;
+  finds = its_find ∷ [];
 }
 
 seen_in_all : all_seen whole ≡ seen_of written ∷ seen_of made ∷ freed_seen 0 4 ∷ []
 seen_in_all = refl
 
-right_has : right_of 8 whole ≡ record (blank pair_of) { share = 8; seen = all_seen whole }
+right_has : right_of 8 whole ≡ record (blank pair_of) {
+  share = 8;
+  seen = all_seen whole;
+  clock = 6;
+  finds = its_find ∷ [];
+}
 right_has = refl
 
 left_has : left_of 8 whole ≡ record whole { share = 16; own = [] }
@@ -456,6 +561,7 @@ another = record whole {
   seen = freed_seen 0 5 ∷ [];
   looks = look_at 0 1 ∷ [];
   turns = turn (far 1) (far 2) ∷ [];
+  clock = 7;
 }
 
 joined_has : joined whole another ≡ record whole {
@@ -468,6 +574,8 @@ joined_has : joined whole another ≡ record whole {
   seen = freed_seen 0 5 ∷ freed_seen 0 4 ∷ [];
   peeked = its_peek ∷ its_peek ∷ [];
   looks = look_at 0 1 ∷ look_at 1 (here_word 8) ∷ [];
+  clock = 7;
+  finds = its_find ∷ its_find ∷ [];
   base = written ∷ made ∷ [];
   own = [];
   turns = turn (far 1) (far 2) ∷ turn (far 0) (far 1) ∷ [];

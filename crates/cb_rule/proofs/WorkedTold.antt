@@ -20,11 +20,12 @@ use Rattle.cb_rule.specs.Lists.{Each, Has}
 use Rattle.cb_rule.specs.Locking.{turn_number}
 use Rattle.cb_rule.specs.OneHistory.{Made}
 use Rattle.cb_rule.specs.Promised.{Wrote}
-use Rattle.cb_rule.specs.Records.{IsSettledBy, IsSettledFrom, OldOk, ReadOk, TellsWritten, TurnOk}
+use Rattle.cb_rule.specs.Records.{IsSettledBy, IsSettledFrom, OldOk, ReadOk, TellsWritten, TurnOk, WasFound}
 use Rattle.cb_rule.specs.Steps.{blank}
 use Rattle.cb_rule.specs.Told.{AreTold}
-use Rattle.cb_rule.proofs.Growing.{has_more}
-use Rattle.cb_rule.proofs.Histories.{entry_before, same_entry}
+use Rattle.cb_rule.proofs.Growing.{has_more, same_older, settled_by_then}
+use Rattle.cb_rule.proofs.Making.{top_out}
+use Rattle.cb_rule.proofs.Histories.{entry_before, newest_entry, same_entry}
 use Rattle.cb_rule.proofs.Members.{each_has}
 use Rattle.cb_rule.proofs.WorkedHistory.{history as in_order, made, other, some_entries, written}
 use Rattle.cb_rule.proofs.WorkedLocking.{far, one_view, seen}
@@ -47,8 +48,8 @@ turn e = record {
   acts = e ∷ [];
   order = None;
   keeps = None;
-  took = far 0;
-  gave = far 1;
+  took = record (far 0) { made = 2 };
+  gave = record (far 1) { made = 2 };
 }
 
 abbrev pub handle_in : Job → ℕ
@@ -80,12 +81,33 @@ no_write h n (inl x) = absurd (let e = x.2 in cc)
 no_write h n (inr (inl x)) = absurd (let e = x.3 in cc)
 no_write h n (inr (inr x)) = absurd (let e = x.1 in cc)
 
+made_two : (es : List Entry) → 0 < top es 0 → 0 < top es 1 → (h : ℕ) → h < 2 → 0 < top es h
+made_two es none one zero less = none
+made_two es none one (suc zero) less = one
+made_two es none one (suc (suc h)) less = absurd (omega (arith, less))
+
 good_ok : TurnOk pair_of 3 some_entries good
 good_ok = record {
   lasted = lit≤ tt;
   reached = lit≤ tt;
   read = λ handle version bytes asked told. absurd (cc);
   wrote = λ h n told. absurd (no_write h n told);
+  made_by = record {
+    newer = written ∷ [];
+    older = other ∷ made ∷ [];
+    parts = refl;
+    long = refl;
+    are_made = made_two (other ∷ made ∷ []) (lit< tt) (lit< tt);
+    are_not = λ h le. top_out 2 h (other ∷ made ∷ []) (lit< tt, (lit< tt, tt)) le;
+  };
+  made_then = record {
+    newer = [];
+    older = some_entries;
+    parts = refl;
+    long = refl;
+    are_made = made_two some_entries (lit< tt) (lit< tt);
+    are_not = λ h le. top_out 2 h some_entries (lit< tt, (lit< tt, (lit< tt, tt))) le;
+  };
   had_by = (
     record {
       newer = written ∷ [];
@@ -119,9 +141,20 @@ good_ok = record {
   began = began;
 }
   where
+    was_there : (h : ℕ) → (newest (other ∷ made ∷ []) h).freed ≡ false
+        → WasFound some_entries 2 2 h false
+    was_there h kept = record {
+      newer = written ∷ [];
+      older = other ∷ made ∷ [];
+      parts = refl;
+      low = lit≤ tt;
+      high = lit≤ tt;
+      found = kept;
+    }
+
     began : (h : ℕ) → h < 2 → OldOk 3 some_entries 2 h (object_at good.start h)
-    began zero l = tt
-    began (suc zero) l = tt
+    began zero l = was_there 0 refl
+    began (suc zero) l = was_there 1 refl
     began (suc (suc h)) l = absurd (omega (arith, l))
 
 told : Told some_entries good
@@ -135,6 +168,8 @@ told = record {
       (good_ok, tt) m.1.0 m.0 m.1.1) m.2;
   order = λ t u mt mu less.
       absurd (let a = number_is t mt in let b = number_is u mu in omega (arith, a, b, less));
+  found = λ f x. absurd (one_view (λ u. Has f u.finds → ⊥) (seat some_entries good) (λ none. none)
+      x.1.0 x.0 x.1.1 x.2);
 }
   where
     number_is : (t : Turn) → Made (seat some_entries good ∷ []) t → turn_number t ≡ 0
@@ -248,7 +283,41 @@ settled_later s = not_among_two s.newer s.older written s.parts s.short s.there 
 ended_before_its_write : TurnOk pair_of 3 some_entries (writer 2) → ⊥
 ended_before_its_write t =
     let z = t.wrote 1 4 (inr (inl (record { n = 1 }, 0, [], refl, refl, refl))) in
-    not_among_two z.1.newer z.1.older z.0 z.1.parts z.1.short z.1.there z.2 z.3
+    let by = settled_by_then some_entries 2 2 z.0 z.1 in
+    not_among_two by.newer by.older z.0 by.parts by.short by.there z.2 z.3
+
+-- nor does it tell what was settled before it began
+began_behind_its_write : TurnOk pair_of 3 some_entries record (writer 3) { since = 3 } → ⊥
+began_behind_its_write t = let z = t.wrote 1 4 (inr (inl (record { n = 1 }, 0, [], refl, refl, refl))) in
+    let low = z.1.low in let high = z.1.high in omega (arith, low, high)
+
+-- a turn that took a far state in which another number of objects was made than there were, or gave
+-- one
+took_fewer_made : TurnOk pair_of 3 some_entries record good { took = far 0 } → ⊥
+took_fewer_made t = let m = t.made_by in let none = m.are_not 0 (lit≤ tt) in
+    let e : 3 ≡ top m.older 0 = ap (λ (es : List Entry). top es 0) (same_older (written ∷ [])
+    (other ∷ made ∷ []) m.newer m.older m.parts (sym m.long)) in omega (arith, e, none)
+
+gave_more_made : TurnOk pair_of 3 some_entries record good { gave = record (far 1) { made = 3 } }
+    → ⊥
+gave_more_made t = let m = t.made_then in let some = m.are_made 2 (lit< tt) in
+    let e : 0 ≡ top m.older 2 = ap (λ (es : List Entry). top es 2) (same_older []
+    some_entries m.newer m.older m.parts (sym m.long)) in omega (arith, e, some)
+
+-- a view that found a version which was not written
+abbrev finder : View
+finder = record (blank pair_of) {
+  finds = record { handle = 1; version = 4; freed = false; at = 2 } ∷ [];
+}
+
+found_unwritten : AreTold 3 pair_of (finder ∷ []) → ⊥
+found_unwritten k = let f = k.found (record { handle = 1; version = 4; freed = false; at = 2 })
+    (finder, (0, refl), inl refl) in
+    let n = newest_entry f.older 1 (subst (λ (v : ℕ). 0 < v) (sym f.last) (lit< tt)) in
+    let w = k.written n.entry
+    (subst (Has n.entry) (sym f.parts) (has_more n.entry f.newer f.older n.there)) in
+    one_view (λ u. Has n.entry (u.fresh ++ u.written) → ⊥) finder (λ none. none) w.1.0 w.0 w.1.1
+    w.2
 
 -- a turn whose view had an entry when it began that was settled later
 had_too_early : TurnOk pair_of 3 some_entries record good { had = written ∷ [] } → ⊥

@@ -23,12 +23,12 @@ use Rattle.cb_world.specs.Orders.{IsOrderKept, KeepsOrder}
 use Rattle.cb_rule.specs.declared.turn.Turn.{Turn}
 use Rattle.cb_rule.specs.declared.view.Seen.{Seen}
 use Rattle.cb_rule.specs.declared.view.View.{View}
-use Rattle.cb_rule.specs.Lists.{total, Each, Has}
+use Rattle.cb_rule.specs.Lists.{times, total, Each, Has}
 use Rattle.cb_rule.specs.Locking.{Stood, left_known, turn_number, turns_on}
 use Rattle.cb_rule.specs.LockSteps.{AddsTurn, HasGiven, HasTaken, IsFoundFreed, MayGive}
 use Rattle.cb_rule.specs.LockSteps.{ReadInTurn, ReadsTold, WritesTold, gave_lock, took, took_lock}
 use Rattle.cb_rule.specs.OneHistory.{HasTurnNumber, IsOneHistory, Made, TurnsStand}
-use Rattle.cb_rule.specs.Seats.{written_on}
+use Rattle.cb_rule.specs.History.{is_version}
 use Rattle.cb_rule.specs.Slot.{LockSlot, Sat}
 use Rattle.cb_rule.specs.Steps.{Knows, freed_seen, version_seen}
 use Rattle.cb_rule.proofs.Members.{each_has}
@@ -66,7 +66,14 @@ has_taken = record {
   made = λ h knows. absurd (none_known h knows);
   kept = tt;
   number = refl;
+  late = lit≤ tt;
 }
+
+-- the seat found something when the history had more entries
+takes_early : HasTaken (record (seat one_turn) { clock = 1 }, []) 2
+    (took_lock seen (far 1) 0 (record (seat one_turn) { clock = 1 }), in_hand (far 1)) → ⊥
+takes_early t = let late = t.late in
+    let e : 0 ≡ t.entries = ap (λ (m : Sat). m.0.since) t.taken in omega (arith, late, e)
 
 -- an object of which the record has an entry was not made
 abbrev knower : View
@@ -158,7 +165,30 @@ has_given = record {
   given = refl;
   written = (lit< tt, tt);
   seen = tt;
+  late = lit≤ tt;
+  lasted = lit≤ tt;
 }
+
+-- it ended when the history had fewer entries than when the seat found something, or than when it
+-- began; and the clock tells when it ended
+abbrev first_end : List Turn → ℕ
+first_end [] = 0
+first_end (t ∷ ts) = t.until
+
+gives_early : HasGiven Evict None None (far 2) [] (1 ∷ [])
+    (record at_work { clock = 1 }, in_hand (far 2))
+    (gave_lock Evict None None (far 2) 0 [] (1 ∷ []) (record at_work { clock = 1 }), []) → ⊥
+gives_early g = let late = g.late in
+    let e : 0 ≡ g.entries = ap (λ (m : Sat). first_end m.0.turns) g.given in omega (arith, late, e)
+
+gives_before_it_began : HasGiven Evict None None (far 2) [] (1 ∷ [])
+    (record at_work { since = 1 }, in_hand (far 2))
+    (gave_lock Evict None None (far 2) 0 [] (1 ∷ []) (record at_work { since = 1 }), []) → ⊥
+gives_before_it_began g = let low = g.lasted in
+    let e : 0 ≡ g.entries = ap (λ (m : Sat). first_end m.0.turns) g.given in omega (arith, low, e)
+
+clocks_the_end : (gave_lock Evict None None (far 2) 7 [] (1 ∷ []) at_work).clock ≡ 7
+clocks_the_end = refl
 
 -- the turn is not recorded, or what it wrote
 without_the_turn : HasGiven Evict None None (far 2) [] (1 ∷ []) (at_work, in_hand (far 2))
@@ -333,8 +363,8 @@ handle_made reply = 0
 
 told_as_written : WritesTold (Make (9 ∷ [])) (Some (MadeOf (record { n = 1 }) 3)) at_work
 told_as_written h n (inl (bytes, handle, asked, told, is)) =
-    subst (λ (k : ℕ). 0 < written_on k n at_work) (ap handle_made told ∙ is)
-    (subst (λ (m : ℕ). 0 < written_on 1 m at_work) (ap version_made told) (lit< tt))
+    subst (λ (k : ℕ). 0 < times (is_version k n) at_work.fresh) (ap handle_made told ∙ is)
+    (subst (λ (m : ℕ). 0 < times (is_version 1 m) at_work.fresh) (ap version_made told) (lit< tt))
 told_as_written h n (inr (inl x)) = absurd (let e = x.3 in cc)
 told_as_written h n (inr (inr x)) = absurd (let e = x.1 in cc)
 

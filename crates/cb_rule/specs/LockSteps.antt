@@ -1,6 +1,6 @@
 -- The steps on the far lock: what they do to the view of the seat that steps, and what they tell.
-use Rattle.std.specs.Prelude.{◌≡◌, ◌≢◌, ◌⊎◌, ℕ, ◌+◌, ◌*◌, ◌^◌, ◌<◌, true, false, List, [], ◌∷◌}
-use Rattle.std.specs.Prelude.{◌++◌, Option, Some}
+use Rattle.std.specs.Prelude.{◌≡◌, ◌≢◌, ◌⊎◌, ℕ, ◌+◌, ◌*◌, ◌^◌, ◌<◌, ◌≤◌, true, false, List, [], ◌∷◌}
+use Rattle.std.specs.Prelude.{◌++◌, max, Option, Some}
 use Rattle.atomic_table.specs.Table.{Step}
 use Rattle.cb_types.specs.declared.config.Config.{Config}
 use Rattle.cb_types.specs.declared.handle.Handle.{Handle}
@@ -21,12 +21,12 @@ use Rattle.cb_world.specs.Shown.{object_at}
 use Rattle.cb_rule.specs.declared.turn.Turn.{Turn}
 use Rattle.cb_rule.specs.declared.view.Seen.{Seen}
 use Rattle.cb_rule.specs.declared.view.View.{View}
-use Rattle.cb_rule.specs.Lists.{Each, Has}
+use Rattle.cb_rule.specs.History.{is_version}
+use Rattle.cb_rule.specs.Lists.{times, Each, Has}
 use Rattle.cb_rule.specs.Locking.{Deeds, Stood}
 use Rattle.cb_rule.specs.Own.{Make}
 use Rattle.cb_rule.specs.Records.{TellsWritten, ended_by, old_by}
 use Rattle.cb_rule.specs.Rule.{AreSized}
-use Rattle.cb_rule.specs.Seats.{written_on}
 use Rattle.cb_rule.specs.Slot.{LockSlot, Sat}
 use Rattle.cb_rule.specs.Steps.{Knows, freed_seen, nothing}
 
@@ -59,6 +59,8 @@ pub record HasTaken (m : Sat) (n : ℕ) (m' : Sat) : Type 0 where
   -- the order that its record keeps is kept by that far state
   pub kept : KeepsOrder known far m.0.order
   pub number : n ≡ 2 * far.counts.turns
+  -- the turn begins no earlier than what the seat found before
+  pub late : m.0.clock ≤ entries
 
 -- an exchange of the lock's word that takes the lock and the far state out of its slot, or finds
 -- another word
@@ -84,7 +86,7 @@ turn_of job reply keeps far n v = record {
   gave = far;
 }
 
--- The seat has given the lock back. Its turn stands in the record; so do the entries that it wrote,
+-- The seat has given the lock back, which its clock tells. Its turn stands in the record; so do the entries that it wrote,
 -- the freed ones that it found and the handles that it made. The rest of the turn is blank.
 abbrev pub gave_lock : Job → Option Reply → Option Kept → FarState → ℕ → List Seen → List ℕ → View
     → View
@@ -92,6 +94,7 @@ gave_lock job reply keeps far n freed made v = record v {
   written = v.fresh ++ v.written;
   fresh = [];
   seen = freed ++ v.seen;
+  clock = max v.clock n;
   own = made ++ v.own;
   holds = false;
   start = nothing;
@@ -131,9 +134,10 @@ ReadsTold job reply v = (handle : Handle) (version : ℕ) (bytes : List ℕ) →
     → reply ≡ Some (Bytes version bytes) → (s : Seen) × ReadInTurn v s × (s.handle ≡ handle.n)
     × (s.version ≡ version) × (s.freed ≡ false) × (bytes ≡ bytes_in s.words s.len)
 
--- the version that a job is answered to have written stands in the record
+-- the version that a job is answered to have written was written in the turn
 abbrev pub WritesTold : Job → Option Reply → View → Type 0
-WritesTold job reply v = (h n : ℕ) → TellsWritten job reply h n → 0 < written_on h n v
+WritesTold job reply v = (h n : ℕ) → TellsWritten job reply h n
+    → 0 < times (is_version h n) v.fresh
 
 -- The holder may give the lock back with this far state: what it knows is sound for it, and the turn
 -- did what its job says, told what was read and written, and made what is said to be its own.
@@ -161,6 +165,9 @@ pub record HasGiven (job : Job) (reply : Option Reply) (keeps : Option Kept) (fa
   pub given : m' ≡ (gave_lock job reply keeps far entries freed made m.0, [])
   pub written : Each (λ (e : Entry). e.handle < m.0.config.handles) (m.0.fresh ++ m.0.written)
   pub seen : Each (λ (s : Seen). s.handle < m.0.config.handles) freed
+  -- no earlier than what the seat found before, and than the turn began
+  pub late : m.0.clock ≤ entries
+  pub lasted : m.0.since ≤ entries
 
 -- a store of the lock's word that gives the lock back, and the far state that is in hand to its
 -- slot

@@ -1,5 +1,5 @@
 -- What a view says is true: of its pins and claims now, of its entries and its turns for good.
-use Rattle.std.specs.Prelude.{◌≡◌, ◌≢◌, ◌⊎◌, ℕ, ◌+◌, ◌≤◌, ◌<◌, true, false, List, [], ◌∷◌, ◌++◌}
+use Rattle.std.specs.Prelude.{◌≡◌, ◌≢◌, ◌⊎◌, ℕ, ◌+◌, ◌≤◌, ◌<◌, Bool, true, false, List, [], ◌∷◌, ◌++◌}
 use Rattle.std.specs.Prelude.{length, Option, Some, slice_index}
 use Rattle.cb_types.specs.declared.config.Config.{Config}
 use Rattle.cb_types.specs.declared.handle.Handle.{Handle}
@@ -18,6 +18,7 @@ use Rattle.cb_world.specs.declared.shown.Shown.{Shown}
 use Rattle.cb_world.specs.Memory.{bytes_in, words_for}
 use Rattle.cb_world.specs.Shown.{object_at}
 use Rattle.cb_rule.specs.declared.turn.Turn.{Turn}
+use Rattle.cb_rule.specs.declared.view.Find.{Find}
 use Rattle.cb_rule.specs.declared.view.Held.{Held}
 use Rattle.cb_rule.specs.declared.view.Look.{Look}
 use Rattle.cb_rule.specs.declared.view.Peeked.{Peeked}
@@ -26,7 +27,7 @@ use Rattle.cb_rule.specs.declared.view.Stand.{Stand}
 use Rattle.cb_rule.specs.declared.view.View.{View}
 use Rattle.cb_rule.specs.History.{Value, holding_words, no_value, top, newest, value_of, WasNow}
 use Rattle.cb_rule.specs.Lists.{Each, Has}
-use Rattle.cb_rule.specs.Words.{pointer, stamp, words_at}
+use Rattle.cb_rule.specs.Words.{is_gone, pointer, stamp, words_at}
 
 -- the pinned object lies there, and the pin has its newest entry
 pub record PinOk (c : Config) (known : Shown) (es : List Entry) (p : Stand) : Type 0 where
@@ -76,21 +77,34 @@ abbrev pub LookOk : List Entry → Look → Type 0
 LookOk es l = state_of l.word ≢ word.Empty → (e : Entry) × Has e es × (e.handle ≡ l.handle)
     × (e.freed ≡ false) × (e.len ≡ len_of l.word)
 
+-- when the history had at least since entries and at most until, the object was freed or was never
+-- made, or it had contents
+pub record WasFound (es : List Entry) (since until h : ℕ) (gone : Bool) : Type 0 where
+  pub newer : List Entry
+  pub older : List Entry
+  pub parts : es ≡ newer ++ older
+  pub low : since ≤ length older
+  pub high : length older ≤ until
+  pub found : (newest older h).freed ≡ gone
+
 -- what a claim told was the object's newest entry at some time of the turn, and its word was Here;
--- what a look found tells the length of an entry
+-- what a look found tells the length of an entry, and whether the object had contents at some time of
+-- the turn
 abbrev pub TellsOk : ℕ → List Entry → ℕ → ℕ → Access → Type 0
 TellsOk first es since until (Claimed h w v words) =
     (first ≤ v) × WasNow es since until h v (holding_words (len_of w) words)
     × (state_of w ≡ word.Here)
 TellsOk first es since until (Looked h w) = LookOk es (record { handle = h; word = w })
+    × WasFound es since until h (is_gone (state_of w))
 TellsOk first es since until _ = Unit {0}
 
--- so was, when the turn began, what was known of an object
+-- so was, when the turn began, what was known of an object; one that was known to lie in local memory
+-- had contents
 abbrev pub OldOk : ℕ → List Entry → ℕ → ℕ → Object → Type 0
 OldOk first es since h (is.Empty v) = WasNow es since since h v no_value
 OldOk first es since h (is.Far len v words) =
     (first ≤ v) × WasNow es since since h v (holding_words len words)
-OldOk first es since h (is.Here len place) = Unit {0}
+OldOk first es since h (is.Here len place) = WasFound es since since h false
 OldOk first es since h (is.Claimed len place v words) =
     (first ≤ v) × WasNow es since since h v (holding_words len words)
 
@@ -135,10 +149,27 @@ TellsWritten job reply h n =
     × (reply ≡ Some (Version n)) × (handle.n ≡ h))
     ⊎ ((handle : Handle) × (job ≡ Free handle) × (reply ≡ Some (Version n)) × (handle.n ≡ h)))
 
--- the entry that it wrote was settled before it ended
-abbrev pub WroteOk : List Entry → ℕ → Job → Option Reply → Type 0
-WroteOk es until job reply = (h n : ℕ) → TellsWritten job reply h n → (e : Entry)
-    × IsSettledBy es until e × (e.handle ≡ h) × (e.version ≡ n)
+-- the entry was settled when the history had at least since entries, and fewer than until
+pub record IsSettledIn (es : List Entry) (since until : ℕ) (e : Entry) : Type 0 where
+  pub newer : List Entry
+  pub older : List Entry
+  pub parts : es ≡ newer ++ e ∷ older
+  pub low : since ≤ length older
+  pub high : length older < until
+
+-- the entry that it wrote was settled while it ran
+abbrev pub WroteOk : List Entry → ℕ → ℕ → Job → Option Reply → Type 0
+WroteOk es since until job reply = (h n : ℕ) → TellsWritten job reply h n → (e : Entry)
+    × IsSettledIn es since until e × (e.handle ≡ h) × (e.version ≡ n)
+
+-- when the history had so many entries, so many objects were made: those of the lowest handles
+pub record MadeBy (es : List Entry) (at made : ℕ) : Type 0 where
+  pub newer : List Entry
+  pub older : List Entry
+  pub parts : es ≡ newer ++ older
+  pub long : length older ≡ at
+  pub are_made : (h : ℕ) → h < made → 0 < top older h
+  pub are_not : (h : ℕ) → made ≤ h → top older h ≡ 0
 
 -- the entry was settled when the history had so many entries, or more
 pub record IsSettledFrom (es : List Entry) (since : ℕ) (e : Entry) : Type 0 where
@@ -175,11 +206,22 @@ pub record TurnOk (c : Config) (first : ℕ) (es : List Entry) (t : Turn) : Type
   pub lasted : t.since ≤ t.until
   pub reached : t.until ≤ length es
   pub read : ReadOk es t.since t.until t.job t.reply
-  pub wrote : WroteOk es t.until t.job t.reply
+  pub wrote : WroteOk es t.since t.until t.job t.reply
+  pub made_by : MadeBy es t.since t.took.made
+  pub made_then : MadeBy es t.until t.gave.made
   pub had_by : Each (IsSettledBy es t.since) t.had
   pub had_later : Each (IsOldOrLater es t.old t.ended) t.had
   pub told : Each (TellsOk first es t.since t.until) t.acts
   pub began : (h : ℕ) → h < c.handles → OldOk first es t.since h (object_at t.start h)
+
+-- what was found of an object was so when the history had so many entries
+pub record FindOk (es : List Entry) (f : Find) : Type 0 where
+  pub newer : List Entry
+  pub older : List Entry
+  pub parts : es ≡ newer ++ older
+  pub long : length older ≡ f.at
+  pub last : top older f.handle ≡ f.version
+  pub gone : (newest older f.handle).freed ≡ f.freed
 
 -- what a view's record says for good
 pub record RecordOk (c : Config) (first : ℕ) (es : List Entry) (u : View) : Type 0 where
@@ -188,7 +230,13 @@ pub record RecordOk (c : Config) (first : ℕ) (es : List Entry) (u : View) : Ty
   pub seen : Each (SeenOk es) u.seen
   pub peeked : Each (PeekedOk es) u.peeked
   pub looks : Each (LookOk es) u.looks
+  -- no find is later than the clock
+  pub clocked : u.clock ≤ length es
+  pub finds : Each (FindOk es) u.finds
+  pub early : Each (λ (f : Find). f.at ≤ u.clock) u.finds
   pub reached : u.since ≤ length es
+  pub fresh_from : Each (IsSettledFrom es u.since) u.fresh
+  pub made_by : MadeBy es u.since u.took.made
   pub told : Each (TellsOk first es u.since (length es)) u.acts
   pub began : (h : ℕ) → h < c.handles → OldOk first es u.since h (object_at u.start h)
   -- what the holder of the lock read in its turn

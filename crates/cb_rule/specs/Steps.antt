@@ -1,6 +1,6 @@
 -- What each kind of step does to the view of the seat that steps, and what it tells.
-use Rattle.std.specs.Prelude.{◌≡◌, ◌≢◌, ◌⊎◌, ℕ, ◌+◌, ◌-◌, ◌*◌, ◌^◌, ◌≤◌, ◌<◌, true, false, List, []}
-use Rattle.std.specs.Prelude.{◌∷◌, ◌++◌, None, length, map, slice_index, slice_set}
+use Rattle.std.specs.Prelude.{◌≡◌, ◌≢◌, ◌⊎◌, ℕ, ◌+◌, ◌-◌, ◌*◌, ◌^◌, ◌≤◌, ◌<◌, Bool, true, false, List, []}
+use Rattle.std.specs.Prelude.{◌∷◌, ◌++◌, None, length, map, max, slice_index, slice_set}
 use Rattle.atomic_table.specs.Table.{Step}
 use Rattle.cb_types.specs.declared.config.Config.{Config}
 use Rattle.cb_ptr.specs.declared.word.State.TheVariants as word
@@ -25,7 +25,7 @@ use Rattle.cb_rule.specs.Own.{IsAlone}
 use Rattle.cb_rule.specs.Records.{seen_of}
 use Rattle.cb_rule.specs.Seats.{claims_it, pins_it, pins_on, written_on}
 use Rattle.cb_rule.specs.Slot.{LockSlot, Sat}
-use Rattle.cb_rule.specs.Words.{base, stamps}
+use Rattle.cb_rule.specs.Words.{base, is_gone, stamps}
 
 -- this version of the object is at least all that the record has of it; where no other view has the
 -- object it is one that the record wrote
@@ -128,6 +128,20 @@ settled st m n m' = (h : ℕ) → st.word ≡ 1 + h
 
 -- Any seat, also while another holds the lock.
 
+-- What a step found: this version of the object was its newest one when the history had so many
+-- entries, which is no earlier than what the seat found before.
+abbrev pub found : ℕ → ℕ → Bool → ℕ → View → View
+found h version freed at u = record u {
+  finds = record { handle = h; version = version; freed = freed; at = at } ∷ u.finds;
+  clock = max u.clock at;
+}
+
+-- the seat has the view u, and that find more
+pub record Finds (h version : ℕ) (freed : Bool) (u : View) (m m' : Sat) : Type 0 where
+  pub at : ℕ
+  pub late : m.0.clock ≤ at
+  pub noted : m' ≡ (found h version freed at u, m.1)
+
 abbrev pub look_at : ℕ → ℕ → Look
 look_at h w = record { handle = h; word = w }
 
@@ -160,8 +174,8 @@ with_freed_seen h v w u = record (with_look h w u) { seen = freed_seen h v ∷ u
 abbrev pub glanced : Step LockSlot → Sat → ℕ → Sat → Type 0
 glanced st m n m' = (h : ℕ) → st.word ≡ 1 + h
     → (state_of n ≡ word.Empty
-    → (v : ℕ) × (m' ≡ (with_freed_seen h v n m.0, m.1)) × IsNewest h v m.0)
-    × (state_of n ≢ word.Empty → m' ≡ (with_look h n m.0, m.1))
+    → (v : ℕ) × Finds h v true (with_freed_seen h v n m.0) m m' × IsNewest h v m.0)
+    × (state_of n ≢ word.Empty → (v : ℕ) × Finds h v false (with_look h n m.0) m m')
     × TellsPins h n m.0
 
 abbrev pub stand : ℕ → ℕ → ℕ → ℕ → List ℕ → Stand
@@ -199,8 +213,8 @@ pub record FindsVersion (h w version : ℕ) (words : List ℕ) (u : View) : Type
 abbrev pub pinned : Step LockSlot → Sat → ℕ → Sat → Type 0
 pinned st m n m' = (h : ℕ) → st.word ≡ 1 + h
     → (n ≡ st.first → (v : ℕ) × (words : List ℕ)
-    × (m' ≡ (with_pin h n v words m.0, m.1)) × FindsVersion h n v words m.0)
-    × (n ≢ st.first → m' ≡ (with_look h n m.0, m.1))
+    × Finds h v false (with_pin h n v words m.0) m m' × FindsVersion h n v words m.0)
+    × (n ≢ st.first → (v : ℕ) × Finds h v (is_gone (state_of n)) (with_look h n m.0) m m')
 
 abbrev pub unpinned : Step LockSlot → Sat → ℕ → Sat → Type 0
 unpinned st m n m' = (h : ℕ) → st.word ≡ 1 + h → m' ≡ (without_pin h m.0, m.1)
@@ -228,6 +242,12 @@ abbrev pub dated : Step LockSlot → Sat → ℕ → Sat → Type 0
 dated st m n m' = (m' ≡ m) × Each (TellsPin m.0.config st.word n) m.0.pins
     × Each (TellsHeld m.0.config st.word n) m.0.claims
     × Each (λ (p : Stand). IsNewest p.handle p.version m.0) m.0.pins
+
+-- a load of the version word of an object that the seat pins finds the pin's version
+abbrev pub dated_now : Step LockSlot → Sat → ℕ → Sat → Type 0
+dated_now st m n m' = (p : Stand) → Has p m.0.pins → st.word ≡ stamps m.0.config + p.handle
+    → (n ≡ p.version) × IsNewest p.handle p.version m.0
+    × Finds p.handle p.version false m.0 m m'
 
 -- a load of a memory word of an object that the seat claims
 abbrev pub LoadsHeld : Config → ℕ → ℕ → Held → Type 0
@@ -257,8 +277,8 @@ with_claim h w v words u = record (with_look h w u) { claims = held_at h w v wor
 abbrev pub claimed_here : Step LockSlot → Sat → ℕ → Sat → Type 0
 claimed_here st m n m' = (h : ℕ) → st.word ≡ 1 + h
     → (n ≡ st.first → (v : ℕ) × (words : List ℕ)
-    × (m' ≡ (with_claim h n v words m.0, m.1)) × FindsVersion h n v words m.0)
-    × (n ≢ st.first → m' ≡ (with_look h n m.0, m.1))
+    × Finds h v false (with_claim h n v words m.0) m m' × FindsVersion h n v words m.0)
+    × (n ≢ st.first → (v : ℕ) × Finds h v (is_gone (state_of n)) (with_look h n m.0) m m')
 
 -- the seat's claim of an object, changed
 abbrev pub with_held : ℕ → (Held → Held) → View → View
@@ -290,10 +310,15 @@ next_entry x = entry x.handle (x.version + 1) x.len x.old x.memory
 abbrev pub with_version : Held → View → View
 with_version x u = record (without_claim x.handle u) { written = next_entry x ∷ u.written }
 
+-- it finds the version that was claimed, and then the next one
+abbrev pub found_both : Held → ℕ → View → View
+found_both x at u = found x.handle (x.version + 1) false (at + 1)
+    (found x.handle x.version false at u)
+
 -- the word of a claimed object is settled with the version that it stored
 abbrev pub settled_here : Step LockSlot → Sat → ℕ → Sat → Type 0
 settled_here st m n m' = (x : Held) → Has x m.0.claims → st.word ≡ 1 + x.handle
-    → m' ≡ (with_version x m.0, m.1)
+    → (at : ℕ) × (m.0.clock ≤ at) × (m' ≡ (found_both x at (with_version x m.0), m.1))
 
 -- or as it was, with nothing stored; the version that was claimed stands as read
 abbrev pub with_back : Held → View → View
@@ -303,7 +328,7 @@ with_back x u = record (without_claim x.handle u) {
 
 abbrev pub put_back : Step LockSlot → Sat → ℕ → Sat → Type 0
 put_back st m n m' = (x : Held) → Has x m.0.claims → st.word ≡ 1 + x.handle
-    → m' ≡ (with_back x m.0, m.1)
+    → Finds x.handle x.version false (with_back x m.0) m m'
 
 -- Seats that are split and joined.
 
@@ -330,6 +355,8 @@ blank c = record {
   seen = [];
   peeked = [];
   looks = [];
+  clock = 0;
+  finds = [];
   base = [];
   own = [];
   holds = false;
@@ -354,12 +381,17 @@ opener c = record (blank c) { share = 64 }
 abbrev pub all_seen : View → List Seen
 all_seen v = map seen_of (v.fresh ++ v.written) ++ v.seen
 
--- the seat keeps all but the share that it hands out, and the new one has seen what it has
+-- the seat keeps all but the share that it hands out, and the new one has seen and found what it has
 abbrev pub left_of : ℕ → View → View
 left_of given v = record v { share = v.share - given; own = [] }
 
 abbrev pub right_of : ℕ → View → View
-right_of given v = record (blank v.config) { share = given; seen = all_seen v }
+right_of given v = record (blank v.config) {
+  share = given;
+  seen = all_seen v;
+  clock = v.clock;
+  finds = v.finds;
+}
 
 -- the view of a seat that takes another in, whose lists stand in front
 abbrev pub joined : View → View → View
@@ -373,6 +405,8 @@ joined v w = record v {
   seen = w.seen ++ v.seen;
   peeked = w.peeked ++ v.peeked;
   looks = w.looks ++ v.looks;
+  clock = max w.clock v.clock;
+  finds = w.finds ++ v.finds;
   base = w.written ++ v.written;
   own = [];
   turns = w.turns ++ v.turns;

@@ -7,4 +7,4 @@ mod turn;
 mod view;
 
 pub use turn::Turn;
-pub use view::{Held, Look, Peeked, Seen, Stand, View};
+pub use view::{Find, Held, Look, Peeked, Seen, Stand, View};

@@ -11,6 +11,7 @@ ghost use Rattle.cb_world.specs.contracts.far.Far as far;
 ghost use Rattle.cb_world.specs.FarState.{FarState};
 ghost use Rattle.cb_rule.specs.contracts.turn.Turn as turn;
 ghost use Rattle.cb_rule.specs.declared.turn.Turn.{Turn};
+ghost use Rattle.cb_rule.specs.declared.view.Find.{Find};
 ghost use Rattle.cb_rule.specs.declared.view.Held.{Held};
 ghost use Rattle.cb_rule.specs.declared.view.Look.{Look};
 ghost use Rattle.cb_rule.specs.declared.view.Peeked.{Peeked};
@@ -65,6 +66,15 @@ pub struct Look {
     pub word: u64,
 }
 
+/// What a step found of an object: its newest version when the history had so many entries, and
+/// whether it was freed then. One that was never made has version 0.
+pub struct Find {
+    pub handle: u32,
+    pub version: u64,
+    pub freed: bool,
+    pub at: u64,
+}
+
 /// What a seat knows: the record of a pass. No value of it is made. Its parts are lists and records
 /// of contracts, and no types of the code: a function that names a seat then names none of those.
 pub struct View {
@@ -85,6 +95,10 @@ pub struct View {
     pub ghost peeked: { List Peeked },
     /// Outside of a turn; those of a turn are its events.
     pub ghost looks: { List Look },
+    /// How many entries the history had at the seat's last step that tells so, and what its steps
+    /// found outside of turns.
+    pub ghost clock: { ℕ },
+    pub ghost finds: { List Find },
     /// The entries that it had as written when it last took another view in.
     pub ghost base: { List Entry },
     /// The handles that it made, and that no other pass knows.

@@ -1,5 +1,5 @@
 -- What a turn leaves of the record of its pass.
-use Rattle.std.proofs.Common.{◌≡◌, ℕ, ◌+◌, ◌<◌, ◌≤◌, List, [], ◌∷◌, ◌++◌, ◌&&◌, Bool, length}
+use Rattle.std.proofs.Common.{◌≡◌, ℕ, ◌+◌, ◌<◌, ◌≤◌, max, List, [], ◌∷◌, ◌++◌, ◌&&◌, Bool, length}
 use Rattle.std.proofs.Common.{Option, None, Some, Result, Ok, Err, false, refl, sym, ap, ◌∙◌, subst}
 use Rattle.std.proofs.Common.{inl, inr, arith, eqb, eq-eqb}
 use Rattle.std.proofs.lemmas.Option.{same_Some}
@@ -149,7 +149,7 @@ read_bytes handle es version bytes v d (inr x) = let f = x.finds in
     let s = version_seen handle.n version (len_of f.word) f.words in (
       s,
       subst (λ (e : Part). Has s e.seen) (sym x.part)
-          (subst (λ (e : Part). Has s (e.seen ++ x.before.seen)) (sym f.part) (inl refl)),
+          (subst (λ (e : Part). Has s (e.seen ++ x.before.seen)) (sym f.part.3) (inl refl)),
       (refl, refl, refl, f.bytes_are),
     )
 
@@ -230,7 +230,7 @@ ends_work c job r keeps took gave p q b w =
           (sym b.idle)
           (subst (λ (f : FarState). DidBy c job v.order reply keeps v.known es f gave) (sym b.took)
           w.did))));
-      reads = told_read job es r v w.within (record_at q) (w.reads v (refl, refl, refl, refl, refl))
+      reads = told_read job es r v w.within (record_at q) (w.reads v (refl, refl, refl, refl, refl, refl))
           (ap (λ (x : View). x.seen) m ∙ ap (λ (l : List Seen). w.within.seen ++ l)
           (sym b.had_seen ∙ sym (ap (λ (x : View). x.had_seen) m)));
       writes = told_written job r w.more (record_at q) w.wrote
@@ -421,6 +421,7 @@ turned_by c job r keeps far p m q rest t w tells =
       job_is = refl;
       reply_is = refl;
       before = refl;
+      since = t.late;
       keeps_is = refl;
       agree = subst (λ (s : Shown). Rattle.cb_world.specs.Played.Agree s es) known w.agree;
       did = subst (λ (s : Shown). DidBy c job v.order reply keeps s es far w.gave) known
@@ -445,6 +446,7 @@ turned_by c job r keeps far p m q rest t w tells =
         sym (ap (λ (x : View). x.seen) at),
         sym (ap (λ (x : View). x.share) at),
         sym (ap (λ (x : View). x.own) at),
+        sym (ap (λ (x : View). x.clock) at),
       );
       tells = tells;
       left = left ∙ gave_is c job r keeps far v t.known t.entries w.entries es w.gave d w.more made rest fresh
@@ -467,6 +469,9 @@ turned_by c job r keeps far p m q rest t w tells =
           peeked = d.peeked ++ v.peeked;
           ever = (let e : v.ever + d.ever ≡ v.ever + (d.ever + 0) = omega arith in e) i;
           looks = d.looks ++ v.looks;
+          clock = (let e : max (max v.clock d.clock) until
+              ≡ max v.clock (max (max d.clock until) 0) = omega arith in e) i;
+          finds = d.finds ++ v.finds;
           own = made ++ v.own;
           holds = sym o.0 i;
           start = sym o.1 i;

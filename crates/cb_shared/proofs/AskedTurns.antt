@@ -53,8 +53,8 @@ brings_idly h j r brings =
 abbrev pub OwnOrLack : Config → Job → ℕ → Reply → View → Part → Type 0
 OwnOrLack c j h r v d = TurnEnds c j r v d ⊎ AnswersBy c (Brings h) r v d
 
-own_or : (c : Config) (may : Job → Type 0) (own : Job) (h : ℕ) (r : Reply) (v : View) (d : Part)
-    → ((j : Job) → may j → (j ≡ own) ⊎ Brings h j) → AsksFor c may r h v d → OwnOrLack c own h r v d
+own_or : {since : ℕ} (c : Config) (may : Job → Type 0) (own : Job) (h : ℕ) (r : Reply) (v : View) (d : Part)
+    → ((j : Job) → may j → (j ≡ own) ⊎ Brings h j) → AsksFor c may r h since v d → OwnOrLack c own h r v d
 own_or c may own h r v d which x = by (which x.turned.job x.turned.of)
   where
     by : (x.turned.job ≡ own) ⊎ Brings h x.turned.job → OwnOrLack c own h r v d
@@ -62,8 +62,8 @@ own_or c may own h r v d which x = by (which x.turned.job x.turned.of)
     by (inr of) = inr (record { job = x.turned.job; of = of; ends = x.turned.ends })
 
 -- so of a read
-pub read_own : (c : Config) (h : ℕ) (r : Reply) (v : View) (d : Part)
-    → AsksFor c (IsReadJob h) r h v d → OwnOrLack c (job.Read (the_handle h)) h r v d
+pub read_own : {since : ℕ} (c : Config) (h : ℕ) (r : Reply) (v : View) (d : Part)
+    → AsksFor c (IsReadJob h) r h since v d → OwnOrLack c (job.Read (the_handle h)) h r v d
 read_own c h r v d x = own_or c (IsReadJob h) (job.Read (the_handle h)) h r v d which x
   where
     which : (j : Job) → IsReadJob h j → (j ≡ job.Read (the_handle h)) ⊎ Brings h j
@@ -71,8 +71,8 @@ read_own c h r v d x = own_or c (IsReadJob h) (job.Read (the_handle h)) h r v d 
     which j (inr is) = inl is
 
 -- and of a write
-pub write_own : (c : Config) (h at : ℕ) (bytes : List ℕ) (r : Reply) (v : View) (d : Part)
-    → AsksFor c (IsWriteJob h at bytes) r h v d
+pub write_own : {since : ℕ} (c : Config) (h at : ℕ) (bytes : List ℕ) (r : Reply) (v : View) (d : Part)
+    → AsksFor c (IsWriteJob h at bytes) r h since v d
     → OwnOrLack c (job.Write (the_handle h) at bytes) h r v d
 write_own c h at bytes r v d x =
     own_or c (IsWriteJob h at bytes) (job.Write (the_handle h) at bytes) h r v d which x
@@ -83,8 +83,8 @@ write_own c h at bytes r v d x =
     which j (inr brings) = inr (inr brings)
 
 -- whichever it is, its reply answers the write
-pub write_told : (c : Config) (h at : ℕ) (bytes : List ℕ) (r : Reply) (v : View) (d : Part)
-    → AsksFor c (IsWriteJob h at bytes) r h v d → IsAnswer (again_in d.turns) r
+pub write_told : {since : ℕ} (c : Config) (h at : ℕ) (bytes : List ℕ) (r : Reply) (v : View) (d : Part)
+    → AsksFor c (IsWriteJob h at bytes) r h since v d → IsAnswer (again_in d.turns) r
 write_told c h at bytes r v d x = by (write_own c h at bytes r v d x)
   where
     by : OwnOrLack c (job.Write (the_handle h) at bytes) h r v d → IsAnswer (again_in d.turns) r
@@ -98,10 +98,10 @@ module _ (c : Config) (h : ℕ) (r : Reply) (v : View) (d : Part)
   by_own own (inl ends) = ends
   by_own own (inr lack) = absurd (told (again_in d.turns) (brings_lack c h r v d lack))
 
-  pub by_read : AsksFor c (IsReadJob h) r h v d → TurnEnds c (job.Read (the_handle h)) r v d
+  pub by_read : {since : ℕ} → AsksFor c (IsReadJob h) r h since v d → TurnEnds c (job.Read (the_handle h)) r v d
   by_read x = by_own (job.Read (the_handle h)) (read_own c h r v d x)
 
-  pub by_write : (at : ℕ) (bytes : List ℕ) → AsksFor c (IsWriteJob h at bytes) r h v d
+  pub by_write : {since : ℕ} (at : ℕ) (bytes : List ℕ) → AsksFor c (IsWriteJob h at bytes) r h since v d
       → TurnEnds c (job.Write (the_handle h) at bytes) r v d
   by_write at bytes x =
       by_own (job.Write (the_handle h) at bytes) (write_own c h at bytes r v d x)

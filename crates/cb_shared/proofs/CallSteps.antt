@@ -1,7 +1,7 @@
 -- Tries of a call, one after another.
-use Rattle.std.proofs.Common.{◌≡◌, ℕ, List, [], ◌∷◌, ◌++◌, None, Some}
+use Rattle.std.proofs.Common.{◌≡◌, ℕ, ◌≤◌, max, List, [], ◌∷◌, ◌++◌, None, Some}
 use Rattle.std.proofs.Common.{Bool, Option, Result, Ok, Err, sym, refl, ap, ◌∙◌, ◌⊎◌, ⊎_elim, subst}
-use Rattle.std.proofs.Common.{inl, inr}
+use Rattle.std.proofs.Common.{inl, inr, arith}
 use Rattle.std.specs.Result.{OnErr}
 use Rattle.cb_member.specs.declared.no_memory.NoMemory.{NoMemory}
 use Rattle.cb_types.specs.declared.config.Config.{Config}
@@ -17,23 +17,25 @@ use Rattle.cb_world.specs.declared.entry.Entry.{Entry}
 use Rattle.cb_world.specs.declared.access.Access.{Access}
 use Rattle.cb_mutate.specs.JobWrites.{FreeWrites, MakeWrites, WriteWrites}
 use Rattle.cb_rule.specs.declared.turn.Turn.{Turn}
+use Rattle.cb_rule.specs.declared.view.Find.{Find}
 use Rattle.cb_rule.specs.declared.view.Look.{Look}
 use Rattle.cb_rule.specs.declared.view.View.{View}
 use Rattle.cb_rule.specs.Lists.{Each, Has}
 use Rattle.cb_rule.specs.Steps.{Knows, look_at}
 use Rattle.cb_rule.specs.TriesAgain.{tries_again}
-use Rattle.cb_shared.specs.Calls.{AtNone, AtThis, Brings, EndsAtLast, IsAnswer, IsAnswerTo}
+use Rattle.cb_shared.specs.Calls.{AsksFor, AtNone, AtThis, Brings, EndsAtLast, IsAnswer, IsAnswerTo}
 use Rattle.cb_shared.specs.Calls.{IsCalled, IsInVain, IsLack, IsReadJob, IsUnanswered, LooksOf}
 use Rattle.cb_shared.specs.Calls.{OfThis, ReadCallEnds, ReadGives, ReadStops, ReadTries}
 use Rattle.cb_shared.specs.Calls.{ReadsInPlace, StopsBy, TellsWhatIs, TriesInVain, TurnEnds}
 use Rattle.cb_shared.specs.Calls.{TurnGives, TurnLacks, TurnStops, TurnTries, again_in}
 use Rattle.cb_record.specs.Deeds.{happening}
+use Rattle.cb_record.specs.Finding.{MayFindIn, finding}
 use Rattle.cb_record.specs.Parts.{Part, Grows, grown, keeps_after, nothing_more, sum}
 use Rattle.cb_shared.specs.OrdersKept.{KeepInTurn}
 use Rattle.cb_shared.specs.declared.reading.ReadAnswer.{ReadAnswer}
 use Rattle.cb_shared.specs.declared.reading.ReadAnswer.TheVariants as found
 use Rattle.cb_shared.specs.Making.{MakesNew, TriesNew}
-use Rattle.cb_shared.specs.Reading.{ReadFinds, looked}
+use Rattle.cb_shared.specs.Reading.{LooksAtHere, ReadFinds, looked}
 use Rattle.cb_shared.specs.Turning.{FindsAtLast, FindsFreedAfter, JobReads, KnowsIt}
 use Rattle.cb_shared.specs.Turning.{TurnAdds, TurnBy, answer_of, freed_of, made_by_turn, made_in}
 use Rattle.cb_shared.specs.Turning.{object_of, turn_part, with_own}
@@ -63,13 +65,25 @@ kept_more (u ∷ us) ts o x y = (x.0 ∙ keeps_more us ts o, kept_more us ts o x
 
 module _ (on : ℕ → Type 0) (vain : Turn → Type 0) where
   pub vain_none : {o : Option Kept} → IsInVain o on vain nothing_more
-  vain_none = record { looks = []; turns = []; at = tt; of = tt; idle = tt; kept = tt; part = refl }
+  vain_none = record {
+    looks = [];
+    turns = [];
+    clock = 0;
+    finds = [];
+    at = tt;
+    of = tt;
+    idle = tt;
+    kept = tt;
+    part = refl;
+  }
 
   pub vain_sum : (o : Option Kept) (d e : Part) → IsInVain o on vain d
       → IsInVain (keeps_after d.turns o) on vain e → IsInVain o on vain (sum d e)
   vain_sum o d e x y = record {
     looks = y.looks ++ x.looks;
     turns = y.turns ++ x.turns;
+    clock = max x.clock y.clock;
+    finds = y.finds ++ x.finds;
     at = each_both (λ (l : Look). on l.handle) y.looks x.looks y.at x.at;
     of = each_both vain y.turns x.turns y.of x.of;
     idle = each_both _ y.turns x.turns y.idle x.idle;
@@ -114,6 +128,22 @@ module _ (on : ℕ → Type 0) (vain : Turn → Type 0) where
   ends_first P v w e last grew =
       ends_after P (λ (z : View). z) v v w nothing_more e vain_none (grown_nothing v) last grew
 
+  -- what ends so ends in a wider way
+  pub ends_as : (P Q : View → Part → Type 0) → ((z : View) (e : Part) → P z e → Q z e) → (v : View)
+      (d : Part) → EndsAtLast on vain P v d → EndsAtLast on vain Q v d
+  ends_as P Q f v d x = record {
+    before = x.before;
+    last = x.last;
+    in_vain = x.in_vain;
+    ends_so = f (grown x.before v) x.last x.ends_so;
+    part = x.part;
+  }
+
+  -- the clock does not go back
+  pub vain_clock : (v w : View) → TriesInVain on vain v w → v.clock ≤ w.clock
+  vain_clock v w (d, x, grew) =
+      let e : w.clock ≡ max v.clock d.clock = ap (λ (z : View). z.clock) grew in omega (arith, e)
+
   -- no try yet
   pub so_far : (v : View) → TriesInVain on vain v v
   so_far v = (nothing_more, vain_none, grown_nothing v)
@@ -148,6 +178,8 @@ pub vain_wider : (o : Option Kept) (on all : ℕ → Type 0) (vain wide : Turn �
 vain_wider o on all vain wide looks turns d x = record {
   looks = x.looks;
   turns = x.turns;
+  clock = x.clock;
+  finds = x.finds;
   at = each_map (λ (l : Look). on l.handle) (λ (l : Look). all l.handle) (λ l. looks l.handle)
       x.looks x.at;
   of = each_map vain wide turns x.turns x.of;
@@ -167,11 +199,13 @@ pub unanswered_wider : (may all : Job → Type 0) → ((job : Job) → may job �
     → IsUnanswered may t → IsUnanswered all t
 unanswered_wider may all wider t x = (wider t.job x.0, x.1)
 
-pub vain_look : {o : Option Kept} (h word : ℕ) (vain : Turn → Type 0)
-    → IsInVain o (AtThis h) vain (looked h word)
-vain_look h word vain = record {
+pub vain_look : {o : Option Kept} (h word n : ℕ) (fs : List Find) (vain : Turn → Type 0)
+    → IsInVain o (AtThis h) vain (finding n fs (looked h word))
+vain_look h word n fs vain = record {
   looks = look_at h word ∷ [];
   turns = [];
+  clock = n;
+  finds = fs;
   at = (refl, tt);
   of = tt;
   idle = tt;
@@ -211,13 +245,14 @@ made_none : (r : Reply) → ((h : Handle) (v : ℕ) → r ≡ answer.Made h v �
 made_none (answer.Made h v) off = absurd (off h v refl)
 made_none r off = refl
 
--- looks at such objects, and nothing else
+-- looks at such objects and what they found, and nothing else
 abbrev LooksAlone : (ℕ → Type 0) → Part → Type 0
 LooksAlone on d = (looks : List Look) × Each (λ (l : Look). on l.handle) looks
-    × (d ≡ record nothing_more { looks = looks })
+    × (n : ℕ) × (fs : List Find)
+    × (d ≡ record nothing_more { looks = looks; clock = n; finds = fs })
 
 no_looks : (on : ℕ → Type 0) (d : Part) → d ≡ nothing_more → LooksAlone on d
-no_looks on d is = ([], tt, is)
+no_looks on d is = ([], tt, 0, [], is)
 
 -- a turn that wrote, read and made nothing
 module _ (c : Config) (job : Job) (vain : Turn → Type 0) (r : Result Reply NoMemory) (v : View)
@@ -227,11 +262,13 @@ module _ (c : Config) (job : Job) (vain : Turn → Type 0) (r : Result Reply NoM
   vain_turn more within later idle is = record {
     looks = within.0;
     turns = x.turn ∷ [];
+    clock = max (max within.2 x.turn.until) 0;
+    finds = within.3;
     at = within.1;
     of = (is, tt);
     idle = ((λ i. happening (x.job_is i) (x.reply_is i)) ∙ idle, tt);
     kept = (x.before, tt);
-    part = x.part ∙ (λ i. turn_part x.turn (more i) (within.2 i) (later i));
+    part = x.part ∙ (λ i. turn_part x.turn (more i) (within.4 i) (later i));
   }
 
 -- the looks of tries under a pin, the last of which left looks alone
@@ -241,7 +278,9 @@ last_looks : (h : ℕ) (a : ReadAnswer) (v : View) (d : Part) → FindsAtLast h 
 last_looks h a v d x f = let y = f (grown x.before v) x.last x.finds in (
   y.0 ++ x.lost.looks,
   each_both (λ (l : Look). AtThis h l.handle) y.0 x.lost.looks y.1 x.lost.on,
-  x.part ∙ (λ i. sum (x.lost.part i) (y.2 i)),
+  max x.lost.clock y.2,
+  y.3 ++ x.lost.finds,
+  x.part ∙ (λ i. sum (x.lost.part i) (y.4 i)),
 )
 
 -- what is looked at in a turn Read that answers nothing
@@ -252,9 +291,9 @@ read_looks again handle es r v d off (inl x) = no_looks (AtThis handle.n) d x.0
 read_looks again handle es (answer.Bytes version bytes) v d off (inr x) = absurd (off (inl tt))
 read_looks again handle es answer.Freed v d off (inr x) = absurd (off (inl tt))
 read_looks again handle es answer.Moving v d off (inr x) = last_looks handle.n found.Moving v d x
-    (λ w e f. (look_at handle.n f.0 ∷ [], (refl, tt), f.2))
+    (λ w e f. (look_at handle.n f.0 ∷ [], (refl, tt), f.3.0, f.3.1, f.3.3))
 read_looks again handle es answer.Crowded v d off (inr x) = last_looks handle.n found.Crowded v d x
-    (λ w e f. (look_at handle.n f.0 ∷ [], (refl, tt), f.2))
+    (λ w e f. (look_at handle.n f.0 ∷ [], (refl, tt), f.3.0, f.3.1, f.3.3))
 read_looks again handle es other v d off (inr x) = absurd x
 
 -- a turn that does not answer its call
@@ -435,7 +474,7 @@ within_looks : (job : Job) (es : List Access) (e : NoMemory) (v : View) (d : Par
     → JobReads job es (Err e) v d → LooksAlone (λ h. Unit {0}) d
 within_looks (jobs.Read h) es e v d (inl x) = no_looks (λ k. Unit {0}) d x.0
 within_looks (jobs.Read h) es e v d (inr x) =
-    (x.looks, all_looks h.n x.looks x.on, x.part)
+    (x.looks, all_looks h.n x.looks x.on, x.clock, x.finds, x.part)
 within_looks job es e v d x = no_looks (λ k. Unit {0}) d x
 
 -- tries of any kind that came to nothing
@@ -449,11 +488,13 @@ turn_idle c job v w (e, (d, x, is)) =
       record {
         looks = z.0;
         turns = x.turn ∷ [];
+        clock = max (max z.2 x.turn.until) 0;
+        finds = z.3;
         at = z.1;
         of = (tt, tt);
         idle = ((λ i. happening (x.job_is i) (x.reply_is i)) ∙ none_happened job, tt);
         kept = (x.before, tt);
-        part = x.part ∙ (λ i. turn_part x.turn (x.wrote i) (z.2 i) (x.finds i));
+        part = x.part ∙ (λ i. turn_part x.turn (x.wrote i) (z.4 i) (x.finds i));
       },
       grows_own (made_by_turn job None) v w d (none_made job) is,
     )
@@ -472,18 +513,18 @@ stops_idle c on may v w x = behind x.lacks
         (turn_idle c job x.between w lacks)
 
 -- ---- a look that found the object far, and then a turn
-one_look : (h word : ℕ) (vain : Turn → Type 0) (v w : View) (d : Part) → Grows v d w
-    → d ≡ looked h word → TriesInVain (AtThis h) vain v w
-one_look h word vain v w d grew is =
-    (d, subst (IsInVain v.order (AtThis h) vain) (sym is) (vain_look h word vain), grew)
+pub one_look : (h word : ℕ) (vain : Turn → Type 0) (v w : View) (d : Part) → Grows v d w
+    → MayFindIn (looked h word) d → TriesInVain (AtThis h) vain v w
+one_look h word vain v w d grew (n, fs, is) =
+    (d, subst (IsInVain v.order (AtThis h) vain) (sym is) (vain_look h word n fs vain), grew)
 
-pub look_tries : (h word : ℕ) (vain : Turn → Type 0) (v w u : View) (d : Part) → d ≡ looked h word
-    → Grows v d w → TriesInVain (AtThis h) vain w u → TriesInVain (AtThis h) vain v u
+pub look_tries : (h word : ℕ) (vain : Turn → Type 0) (v w u : View) (d : Part)
+    → MayFindIn (looked h word) d → Grows v d w → TriesInVain (AtThis h) vain w u → TriesInVain (AtThis h) vain v u
 look_tries h word vain v w u d is grew x =
     tries_then (AtThis h) vain v w u (one_look h word vain v w d grew is) x
 
 pub look_stops : (c : Config) (h word : ℕ) (may : Job → Type 0) (v w u : View) (d : Part)
-    → d ≡ looked h word → Grows v d w → StopsBy c (AtThis h) may w u
+    → MayFindIn (looked h word) d → Grows v d w → StopsBy c (AtThis h) may w u
     → StopsBy c (AtThis h) may v u
 look_stops c h word may v w u d is grew x = stops_then c (AtThis h) may v w u
     (one_look h word (IsUnanswered may) v w d grew is) x
@@ -522,13 +563,13 @@ pub found_bytes : (c : Config) (h version : ℕ) (bytes : List ℕ) (a : ReadAns
     → ReadTries c h (Some (answer.Bytes version bytes)) v w
 found_bytes c h version bytes a v w is (d, grew, f) =
     ends_first (AtThis h) (IsUnanswered (IsReadJob h))
-    (ReadCallEnds c h (answer.Bytes version bytes)) v w d
+    (ReadCallEnds c h (answer.Bytes version bytes) v.clock) v w d
     (inl (subst (λ (z : ReadAnswer). ReadFinds h z v d) is f)) grew
 
 pub found_freed : (c : Config) (h : ℕ) (a : ReadAnswer) (v w : View) → a ≡ found.Freed
     → Found h a v w → ReadTries c h (Some answer.Freed) v w
 found_freed c h a v w is (d, grew, f) =
-    ends_first (AtThis h) (IsUnanswered (IsReadJob h)) (ReadCallEnds c h answer.Freed) v w d
+    ends_first (AtThis h) (IsUnanswered (IsReadJob h)) (ReadCallEnds c h answer.Freed v.clock) v w d
     (inl (subst (λ (z : ReadAnswer). ReadFinds h z v d) is f)) grew
 
 -- one of three answers, the last one with two words, has what each of them has
@@ -556,26 +597,30 @@ pub found_hindered : (h : ℕ) (vain : Turn → Type 0) (a : ReadAnswer) (v w : 
 found_hindered h vain (found.Bytes version bytes) v w is x = absurd is
 found_hindered h vain found.Freed v w is x = absurd is
 found_hindered h vain found.NotHere v w is x = absurd is
-found_hindered h vain found.Moving v w is (d, grew, f) = one_look h f.0 vain v w d grew f.2
-found_hindered h vain found.Crowded v w is (d, grew, f) = one_look h f.0 vain v w d grew f.2
+found_hindered h vain found.Moving v w is (d, grew, f) =
+    one_look h f.0 vain v w d grew (f.3.0, f.3.1, f.3.3)
+found_hindered h vain found.Crowded v w is (d, grew, f) =
+    one_look h f.0 vain v w d grew (f.3.0, f.3.1, f.3.3)
 found_hindered h vain (found.Raced saw other) v w is (d, grew, f) = (
   d,
   record {
     looks = look_at h other ∷ look_at h saw ∷ [];
     turns = [];
+    clock = f.1.0;
+    finds = f.1.1;
     at = (refl, (refl, tt));
     of = tt;
     idle = tt;
     kept = tt;
-    part = f.1;
+    part = f.1.2;
   },
   grew,
 )
 
 pub lacks_room : (c : Config) (h : ℕ) (v w : View)
-    → (word : ℕ) × (state_of word ≡ state.Here) × Grows v (looked h word) w → ReadStops c h v w
-lacks_room c h v w (word, here, grew) = stops_here c (AtThis h) (IsReadJob h) v w
-    (one_look h word (IsUnanswered (IsReadJob h)) v w (looked h word) grew refl)
+    → LooksAtHere h v w → ReadStops c h v w
+lacks_room c h v w (word, here, d, may, grew) = stops_here c (AtThis h) (IsReadJob h) v w
+    (one_look h word (IsUnanswered (IsReadJob h)) v w d grew may)
 
 -- ---- what the record knows
 has_behind : {A : Type 0} (x : A) (xs ys : List A) → Has x ys → Has x (xs ++ ys)
@@ -608,15 +653,15 @@ read_asked : (h : ℕ) (again : Bool) (job : Job) (r : Reply) → IsReadJob h jo
 read_asked h again job r (inl is) x = inr (brings_lacks h again job r is x)
 read_asked h again job r (inr is) x = subst (λ (j : Job). IsAnswerTo again j r) is x
 
-read_tells : (c : Config) (h : ℕ) (r : Reply) (v : View) (d : Part) → ReadCallEnds c h r v d
-    → TellsWhatIs r ⊎ IsLack (again_in d.turns) r
+read_tells : {since : ℕ} (c : Config) (h : ℕ) (r : Reply) (v : View) (d : Part)
+    → ReadCallEnds c h r since v d → TellsWhatIs r ⊎ IsLack (again_in d.turns) r
 read_tells c h r v d (inl x) = inl (in_place_tells h r v d x)
 read_tells c h r v d (inr x) = let y = x.turned in
     read_asked h (again_in d.turns) y.job r y.of y.ends.0
 
 -- where that tells nothing of its object, it tells why it can't be brought in
-pub read_lacks : (c : Config) (h : ℕ) (r : Reply) (v : View) (d : Part) → (TellsWhatIs r → ⊥)
-    → ReadCallEnds c h r v d → IsLack (again_in d.turns) r
+pub read_lacks : {since : ℕ} (c : Config) (h : ℕ) (r : Reply) (v : View) (d : Part)
+    → (TellsWhatIs r → ⊥) → ReadCallEnds c h r since v d → IsLack (again_in d.turns) r
 read_lacks c h r v d off x = ⊎_elim (λ (t : TellsWhatIs r). absurd (off t))
     (λ (l : IsLack (again_in d.turns) r). l) (read_tells c h r v d x)
 
@@ -649,11 +694,44 @@ pub read_again : (c : Config) (h : ℕ) (o : Option Reply) (v w u : View) → o 
 read_again c h o v w u is x y = tries_then (AtThis h) (IsUnanswered (IsReadJob h)) v w u x
     (subst (λ (z : Option Reply). ReadTries c h z w u) is y)
 
+-- what a call found since some time it found since earlier ones
+pub asks_earlier : (c : Config) (may : Job → Type 0) (r : Reply) (h since earlier : ℕ) (v : View)
+    (d : Part) → earlier ≤ since → AsksFor c may r h since v d → AsksFor c may r h earlier v d
+asks_earlier c may r h since earlier v d le x = record {
+  away = x.away;
+  version = x.version;
+  there = (
+    x.there.0,
+    (let low = x.there.1 in let z : earlier ≤ x.there.0 = omega (arith, le, low) in z),
+    x.there.2,
+    x.there.3,
+  );
+  turned = x.turned;
+}
+
+read_since : (c : Config) (h : ℕ) (r : Reply) (since earlier : ℕ) (v : View) (d : Part)
+    → earlier ≤ since → ReadCallEnds c h r since v d → ReadCallEnds c h r earlier v d
+read_since c h r since earlier v d le (inl x) = inl x
+read_since c h r since earlier v d le (inr x) =
+    inr (asks_earlier c (IsReadJob h) r h since earlier v d le x)
+
+-- a read that began later began since too
+read_earlier : (c : Config) (h : ℕ) (r : Reply) (v w u : View) → v.clock ≤ w.clock
+    → ReadGives c h r w u → (d : Part) × EndsAtLast (AtThis h) (IsUnanswered (IsReadJob h))
+    (ReadCallEnds c h r v.clock) w d × Grows w d u
+read_earlier c h r v w u le (d, ends, grew) = (
+  d,
+  ends_as (AtThis h) (IsUnanswered (IsReadJob h)) (ReadCallEnds c h r w.clock)
+      (ReadCallEnds c h r v.clock) (λ z e x. read_since c h r w.clock v.clock z e le x) w d ends,
+  grew,
+)
+
 pub read_at_last : (c : Config) (h : ℕ) (o : Option Reply) (r : Reply) (v w u : View) → o ≡ Some r
     → ReadTries c h None v w → ReadTries c h o w u → ReadGives c h r v u
 read_at_last c h o r v w u is x y = ends_then (AtThis h) (IsUnanswered (IsReadJob h))
-    (ReadCallEnds c h r) (λ (q : View). q) v w u x
-    (subst (λ (q : Option Reply). ReadTries c h q w u) is y)
+    (ReadCallEnds c h r v.clock) (λ (q : View). q) v w u x
+    (read_earlier c h r v w u (vain_clock (AtThis h) (IsUnanswered (IsReadJob h)) v w x)
+    (subst (λ (q : Option Reply). ReadTries c h q w u) is y))
 
 pub turn_again : (c : Config) (job : Job) (o : Option Reply) (v w u : View) → o ≡ None
     → TurnTries c job None v w → TurnTries c job o w u → TurnTries c job None v u

@@ -1,6 +1,6 @@
 -- Turns of a call whose object is far, one after another.
-use Rattle.std.proofs.Common.{◌≡◌, ℕ, ◌||◌, Bool, false, List, [], ◌∷◌, ◌++◌, Option, None, Some}
-use Rattle.std.proofs.Common.{Result, Ok, Err, sym, refl, ap, ◌∙◌, subst, inl, inr}
+use Rattle.std.proofs.Common.{◌≡◌, ℕ, ◌≤◌, max, ◌||◌, Bool, false, List, [], ◌∷◌, ◌++◌, Option, None}
+use Rattle.std.proofs.Common.{Some, Result, Ok, Err, sym, refl, ap, ◌∙◌, subst, inl, inr, arith}
 use Rattle.std.specs.Prelude.{IfOk, OnErr}
 use Rattle.std.proofs.lemmas.Result.{IfOk-weaker, on_err_weaker}
 use Rattle.cb_member.specs.declared.no_memory.NoMemory.{NoMemory}
@@ -20,10 +20,12 @@ use Rattle.cb_swapin.specs.declared.fetching.Fetching.{Fetching}
 use Rattle.cb_swapin.specs.declared.fetching.Fetching.TheVariants as fetching
 use Rattle.cb_orders.specs.Done.{DecodeDoneState}
 use Rattle.cb_rule.specs.declared.turn.Turn.{Turn}
+use Rattle.cb_rule.specs.declared.view.Find.{Find}
 use Rattle.cb_rule.specs.declared.view.Look.{Look}
 use Rattle.cb_rule.specs.declared.view.View.{View}
-use Rattle.cb_rule.specs.Lists.{Each}
+use Rattle.cb_rule.specs.Lists.{Each, Has}
 use Rattle.cb_rule.specs.Steps.{Knows}
+use Rattle.cb_record.specs.Finding.{FindsIn, IsFoundBy, find_of, finding}
 use Rattle.cb_record.specs.Parts.{Part, Grows, grown, nothing_more}
 use Rattle.cb_shared.specs.declared.answers.WriteAnswer.{WriteAnswer}
 use Rattle.cb_shared.specs.declared.answers.WriteAnswer.TheVariants as place
@@ -46,10 +48,11 @@ use Rattle.cb_shared.specs.Turning.{TurnBy, made_by_turn}
 use Rattle.cb_shared.specs.Ways.{HasWay, IsFound, IsLandedBy, IsLandingOf, IsLandingTold, IsWayBy}
 use Rattle.cb_shared.specs.Ways.{IsWayOf, IsWayTold, LandingLacks, landing_told, way_told}
 use Rattle.cb_shared.specs.Writing.{WriteGives}
+use Rattle.cb_record.proofs.Laws.{find_behind, find_front}
 use Rattle.cb_shared.proofs.CallSteps.{Found, ends_after, ends_then, grows_own, known_still}
 use Rattle.cb_shared.proofs.CallSteps.{look_stops, look_tries, stops_then, stops_wider, tries_then, tries_wider}
 use Rattle.cb_shared.proofs.CallSteps.{turn_ends, turn_in_vain, turn_without, unanswered_wider}
-use Rattle.cb_shared.proofs.CallSteps.{vain_look, vain_none, vain_wider}
+use Rattle.cb_shared.proofs.CallSteps.{one_look, vain_none, vain_wider}
 use Rattle.cb_shared.proofs.ReadParts.{grown_nothing}
 use Rattle.cb_shared.proofs.ReadSteps.{look_part}
 
@@ -164,7 +167,8 @@ module _ (c : Config) (h at : ℕ) (bytes : List ℕ) (told : Option Reply) (job
 
 -- ---- such turns behind a look that found the object far
 abbrev pub LooksFar : ℕ → View → View → Type 0
-LooksFar h v w = (word : ℕ) × (state_of word ≡ state.Far) × Grows v (looked h word) w
+LooksFar h v w = (word : ℕ) × (state_of word ≡ state.Far) × (version : ℕ) × (d : Part)
+    × FindsIn h version false v (looked h word) d × Grows v d w
 
 none_looked : (o : Option Kept) (vain : Turn → Type 0) (d : Part) → IsInVain o AtNone vain d
     → d.looks ≡ []
@@ -174,15 +178,31 @@ none_looked o vain d x = ap (λ (p : Part). p.looks) x.part ∙ none x.looks x.a
     none [] each = refl
     none (l ∷ ls) each = absurd each.0
 
+-- what that look found stands there behind more of them
+far_found : (h word version : ℕ) (v w : View) (d b : Part)
+    → FindsIn h version false v (looked h word) d → Grows v d w
+    → IsFoundBy h version false v.clock (grown b w).clock (grown b w).finds
+far_found h word version v w d b (n, fs, (at, low, high, has), is) grew =
+    let all = grew ∙ ap (λ (p : Part). grown p v) is in
+    let e : w.clock ≡ max v.clock n = ap (λ (z : View). z.clock) all in
+    let l : w.finds ≡ fs ++ v.finds = ap (λ (z : View). z.finds) all in (
+      at,
+      low,
+      (let z : at ≤ max w.clock b.clock = omega (arith, high, e) in z),
+      find_behind (find_of h version false at) b.finds w.finds
+          (subst (Has (find_of h version false at)) (sym l)
+          (find_front (find_of h version false at) fs v.finds has)),
+    )
+
 -- no look stands between, so it is the newest one at the last turn
-pub far_at_last : (c : Config) (h : ℕ) (may : Job → Type 0) (r : Reply)
-    (P : View → Part → Type 0) → ((z : View) (d : Part) → AsksFor c may r h z d → P z d)
-    → (v w u : View) → LooksFar h v w
+pub far_at_last : (c : Config) (h : ℕ) (may : Job → Type 0) (r : Reply) (v : View)
+    (P : View → Part → Type 0) → ((z : View) (d : Part) → AsksFor c may r h v.clock z d → P z d)
+    → (w u : View) → LooksFar h v w
     → (e : Part) × EndsAtLast AtNone (IsUnanswered may) (AnswersBy c may r) w e × Grows w e u
     → (x : Part) × EndsAtLast (AtThis h) (IsUnanswered may) P v x × Grows v x u
-far_at_last c h may r P ends v w u (word, far, grew) (e, x, next) =
+far_at_last c h may r v P ends w u (word, far, version, d, f, grew) (e, x, next) =
     ends_then (AtThis h) (IsUnanswered may) P (λ (z : View). z) v w u
-    (looked h word, vain_look h word (IsUnanswered may), grew) (
+    (one_look h word (IsUnanswered may) v w d grew (f.0, f.1, f.3)) (
       e,
       record {
         before = x.before;
@@ -193,7 +213,9 @@ far_at_last c h may r P ends v w u (word, far, grew) (e, x, next) =
           away = subst (FoundFar h)
               (sym (ap (λ (ls : List Look). ls ++ w.looks)
               (none_looked w.order (IsUnanswered may) x.before x.in_vain)
-              ∙ ap (λ (z : View). z.looks) grew)) (refl, far);
+              ∙ ap (λ (z : View). z.looks) (grew ∙ ap (λ (p : Part). grown p v) f.3))) (refl, far);
+          version = version;
+          there = far_found h word version v w d x.before f grew;
           turned = x.ends_so;
         });
         part = x.part;
@@ -204,37 +226,44 @@ far_at_last c h may r P ends v w u (word, far, grew) (e, x, next) =
 pub found_far : (h : ℕ) (a : ReadAnswer) (v w : View) → a ≡ found.NotHere → Found h a v w
     → LooksFar h v w
 found_far h a v w is (d, grew, f) = let y = subst (λ (z : ReadAnswer). ReadFinds h z v d) is f in
-    (y.0, y.1, grew ∙ ap (λ (z : Part). grown z v) y.2)
+    (y.0, y.1, y.2, d, y.3, grew)
 
 pub wrote_far : (h at : ℕ) (bytes : List ℕ) (a : WriteAnswer) (v w : View) → a ≡ place.NotHere
     → WriteGives h at bytes a v w → LooksFar h v w
 wrote_far h at bytes a v w is x =
     let y = subst (λ (z : WriteAnswer). WriteGives h at bytes z v w) is x in
-    (y.0, y.1, y.2 ∙ look_part h y.0 v)
+    let f = y.3 in (
+      y.0,
+      y.1,
+      y.2,
+      finding f.0 f.1 (looked h y.0),
+      (f.0, f.1, f.2, refl),
+      f.3 ∙ look_part h y.0 f.0 f.1 v,
+    )
 
 pub far_stops : (c : Config) (h : ℕ) (may : Job → Type 0) (v w u : View) → LooksFar h v w
     → StopsBy c (AtThis h) may w u → StopsBy c (AtThis h) may v u
-far_stops c h may v w u (word, far, grew) x =
-    look_stops c h word may v w u (looked h word) refl grew x
+far_stops c h may v w u (word, far, version, d, f, grew) x =
+    look_stops c h word may v w u d (f.0, f.1, f.3) grew x
 
 pub far_tries : (h : ℕ) (may : Job → Type 0) (v w u : View) → LooksFar h v w
     → TriesInVain (AtThis h) (IsUnanswered may) w u
     → TriesInVain (AtThis h) (IsUnanswered may) v u
-far_tries h may v w u (word, far, grew) x =
-    look_tries h word (IsUnanswered may) v w u (looked h word) refl grew x
+far_tries h may v w u (word, far, version, d, f, grew) x =
+    look_tries h word (IsUnanswered may) v w u d (f.0, f.1, f.3) grew x
 
 pub far_read : (c : Config) (h : ℕ) (o : Option Reply) (v w u : View) → LooksFar h v w
     → TriesBy c (AtThis h) (IsReadJob h) o w u → ReadTries c h o v u
 far_read c h None v w u far x = far_tries h (IsReadJob h) v w u far x
 far_read c h (Some r) v w u far x =
-    far_at_last c h (IsReadJob h) r (ReadCallEnds c h r) (λ z d y. inr y) v w u far x
+    far_at_last c h (IsReadJob h) r v (ReadCallEnds c h r v.clock) (λ z d y. inr y) w u far x
 
 pub far_write : (c : Config) (h at : ℕ) (bytes : List ℕ) (o : Option Reply) (v w u : View)
     → LooksFar h v w → TriesBy c (AtThis h) (IsWriteJob h at bytes) o w u
     → WriteTries c h at bytes o v u
 far_write c h at bytes None v w u far x = far_tries h (IsWriteJob h at bytes) v w u far x
-far_write c h at bytes (Some r) v w u far x = far_at_last c h (IsWriteJob h at bytes) r
-    (WriteCallEnds c h at bytes r) (λ z d y. inr y) v w u far x
+far_write c h at bytes (Some r) v w u far x = far_at_last c h (IsWriteJob h at bytes) r v
+    (WriteCallEnds c h at bytes r v.clock) (λ z d y. inr y) w u far x
 
 -- an order that was run is the one that is kept
 pub order_kept : (r : Result DecodeDoneState DecodeOrder) (done : DecodeDoneState) (order : DecodeOrder)

@@ -6,8 +6,6 @@ use Rattle.cb_types.specs.declared.config.Config.{Config}
 use Rattle.cb_types.specs.declared.job.Job.{Job}
 use Rattle.cb_types.specs.declared.job.Job.TheVariants as jobs
 use Rattle.cb_types.specs.declared.reply.Reply.{Reply}
-use Rattle.cb_ptr.specs.declared.word.State.TheVariants as state
-use Rattle.cb_ptr.specs.Word.{state_of}
 use Rattle.cb_rule.specs.declared.turn.Turn.{Turn}
 use Rattle.cb_rule.specs.declared.view.View.{View}
 use Rattle.cb_record.specs.Parts.{Part, Grows}
@@ -22,7 +20,7 @@ use Rattle.cb_shared.specs.Fetching.{AreBringingTo, AreDone, AreFetches, AreFetc
 use Rattle.cb_shared.specs.Fetching.{GetsTurns, IsOneAtMost, IsOneMore, IsOneOf, TriesOnward}
 use Rattle.cb_shared.specs.Fetching.{TriesOnwardTo, brings, brought_in_by}
 use Rattle.cb_shared.specs.Fetching.{job_behind_turn, job_onward, job_to_fetch}
-use Rattle.cb_shared.specs.Reading.{ReadFinds, looked}
+use Rattle.cb_shared.specs.Reading.{LooksAtHere, ReadFinds}
 use Rattle.cb_shared.specs.Turning.{TurnBy}
 use Rattle.cb_shared.specs.Ways.{IsFound, IsLandedBy, IsLandingTold, IsWayTold}
 use Rattle.cb_shared.proofs.InOrder.{IsTurnTo, asked_by, behind_more, done_more, in_order_more}
@@ -78,12 +76,12 @@ no_fetches h b v w same = ([], same, tt)
 
 -- ---- a read under a pin makes none
 found_no_turn : (h : ℕ) (a : ReadAnswer) (v : View) (d : Part) → ReadFinds h a v d → d.turns ≡ []
-found_no_turn h (found.Bytes version bytes) v d f = ap (λ (e : Part). e.turns) f.part
-found_no_turn h found.Freed v d f = ap (λ (e : Part). e.turns) f.4
-found_no_turn h found.NotHere v d f = ap (λ (e : Part). e.turns) f.2
-found_no_turn h found.Moving v d f = ap (λ (e : Part). e.turns) f.2
-found_no_turn h found.Crowded v d f = ap (λ (e : Part). e.turns) f.2
-found_no_turn h (found.Raced saw other) v d f = ap (λ (e : Part). e.turns) f.1
+found_no_turn h (found.Bytes version bytes) v d f = ap (λ (e : Part). e.turns) f.part.3
+found_no_turn h found.Freed v d f = ap (λ (e : Part). e.turns) f.4.3
+found_no_turn h found.NotHere v d f = ap (λ (e : Part). e.turns) f.3.3
+found_no_turn h found.Moving v d f = ap (λ (e : Part). e.turns) f.3.3
+found_no_turn h found.Crowded v d f = ap (λ (e : Part). e.turns) f.3.3
+found_no_turn h (found.Raced saw other) v d f = ap (λ (e : Part). e.turns) f.1.2
 
 pub found_same : (h : ℕ) (a : ReadAnswer) (v w : View)
     → (d : Part) × Grows v d w × ReadFinds h a v d → w.turns ≡ v.turns
@@ -91,8 +89,9 @@ found_same h a v w (d, grew, f) = ap (λ (z : View). z.turns) grew
     ∙ ap (λ (ts : List Turn). ts ++ v.turns) (found_no_turn h a v d f)
 
 pub lacks_same : (h : ℕ) (v w : View)
-    → (word : ℕ) × (state_of word ≡ state.Here) × Grows v (looked h word) w → w.turns ≡ v.turns
-lacks_same h v w (word, here, grew) = ap (λ (z : View). z.turns) grew
+    → LooksAtHere h v w → w.turns ≡ v.turns
+lacks_same h v w (word, here, d, may, grew) = ap (λ (z : View). z.turns) grew
+    ∙ ap (λ (e : Part). e.turns ++ v.turns) may.2
 
 -- ---- a turn is one
 pub one_of : (c : Config) (job : Job) (r : Result Reply NoMemory) (v w : View) → TurnBy c job r v w

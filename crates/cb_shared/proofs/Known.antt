@@ -81,33 +81,33 @@ seen_is v w e = ap (λ (x : View). x.seen) e
 
 -- ---- by the answer of a pin and of a write in place
 pub pin_keeps : (h : ℕ) (a : PinAnswer) (v w : View) → PinGives h a v w → Keeps v w
-pin_keeps h (pins.Pinned p) v w g = reads_more v w _ (written_is w _ g.left) (seen_is w _ g.left)
+pin_keeps h (pins.Pinned p) v w g = reads_more v w _ (written_is w _ g.left.3) (seen_is w _ g.left.3)
 pin_keeps h pins.ScopeFull v w g = looks_more v w (written_is w _ g.1) (seen_is w _ g.1)
-pin_keeps h pins.Freed v w g = reads_more v w _ (written_is w _ g.4) (seen_is w _ g.4)
-pin_keeps h pins.NotHere v w g = looks_more v w (written_is w _ g.2) (seen_is w _ g.2)
-pin_keeps h pins.Moving v w g = looks_more v w (written_is w _ g.2) (seen_is w _ g.2)
-pin_keeps h pins.Crowded v w g = looks_more v w (written_is w _ g.2) (seen_is w _ g.2)
+pin_keeps h pins.Freed v w g = reads_more v w _ (written_is w _ g.4.3) (seen_is w _ g.4.3)
+pin_keeps h pins.NotHere v w g = looks_more v w (written_is w _ g.3.3) (seen_is w _ g.3.3)
+pin_keeps h pins.Moving v w g = looks_more v w (written_is w _ g.3.3) (seen_is w _ g.3.3)
+pin_keeps h pins.Crowded v w g = looks_more v w (written_is w _ g.3.3) (seen_is w _ g.3.3)
 pin_keeps h (pins.Raced saw found) v w g =
-    looks_more v w (written_is w _ g.1) (seen_is w _ g.1)
+    looks_more v w (written_is w _ g.1.2) (seen_is w _ g.1.2)
 
 pub write_keeps : (h at : ℕ) (bytes : List ℕ) (a : WriteAnswer) (v w : View)
     → WriteGives h at bytes a v w → Keeps v w
 write_keeps h at bytes (writes.Ok version) v w g =
-    writes_more v w _ (written_is w _ g.left) (seen_is w _ g.left)
+    writes_more v w _ (written_is w _ g.left.3) (seen_is w _ g.left.3)
 write_keeps h at bytes writes.Freed v w g =
-    reads_more v w _ (written_is w _ g.4) (seen_is w _ g.4)
+    reads_more v w _ (written_is w _ g.4.3) (seen_is w _ g.4.3)
 write_keeps h at bytes writes.NotHere v w g =
-    looks_more v w (written_is w _ g.2) (seen_is w _ g.2)
+    looks_more v w (written_is w _ g.3.3) (seen_is w _ g.3.3)
 write_keeps h at bytes writes.Moving v w g =
-    looks_more v w (written_is w _ g.2) (seen_is w _ g.2)
+    looks_more v w (written_is w _ g.3.3) (seen_is w _ g.3.3)
 write_keeps h at bytes (writes.Range len) v w g =
-    looks_more v w (written_is w _ g.2) (seen_is w _ g.2)
+    looks_more v w (written_is w _ g.3.3) (seen_is w _ g.3.3)
 write_keeps h at bytes (writes.Pinned count) v w g =
-    looks_more v w (written_is w _ g.2) (seen_is w _ g.2)
+    looks_more v w (written_is w _ g.3.3) (seen_is w _ g.3.3)
 write_keeps h at bytes writes.Worn v w g =
-    reads_more v w _ (written_is w _ g.left) (seen_is w _ g.left)
+    reads_more v w _ (written_is w _ g.left.3) (seen_is w _ g.left.3)
 write_keeps h at bytes (writes.Raced saw found) v w g =
-    looks_more v w (written_is w _ g.1) (seen_is w _ g.1)
+    looks_more v w (written_is w _ g.1.2) (seen_is w _ g.1.2)
 
 -- ---- a pin of the pass behind a peek, and what a peek and an unpin leave
 pub peek_has : (p : Pin) (h n j x : ℕ) (v w : View) → w ≡ with_peek h n j x v → IsPinOf p v

@@ -5,6 +5,7 @@ pub use Rattle.cb_shared.proofs.AskedTurns.{by_read, by_write, each_brings, of_r
 pub use Rattle.cb_shared.proofs.AskedTurns.{read_own, write_own, write_told}
 pub use Rattle.cb_shared.proofs.CallSteps.{GoesIdly, brings_lacks, ends_then, known_grown}
 pub use Rattle.cb_shared.proofs.CallSteps.{known_still, look_stops, look_tries, one_of_three}
+pub use Rattle.cb_shared.proofs.CallSteps.{asks_earlier, one_look, vain_clock}
 pub use Rattle.cb_shared.proofs.CallSteps.{part_again, read_lacks, so_far, stops_at_once}
 pub use Rattle.cb_shared.proofs.CallSteps.{stops_by_turn, stops_here, stops_idle, stops_then}
 pub use Rattle.cb_shared.proofs.CallSteps.{stops_wider, tries_then, tries_wider, turn_ends}

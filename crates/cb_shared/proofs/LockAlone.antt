@@ -137,6 +137,7 @@ takes_far c word far p m q key (table, id, t) out slot =
           (subst (λ (x : Config). Stood x t.known t.far) key t.stood);
       made = λ h knows. subst (λ (f : FarState). h < f.made) same (t.made h knows);
       kept = subst (λ (f : FarState). KeepsOrder t.known f (record_at p).order) same t.kept;
+      late = t.late;
     }
 
 -- a seat that is not moved, twice
@@ -161,6 +162,7 @@ takes_from c far p m q same t = record {
   stood = t.stood;
   made = λ h knows. t.made h (subst (λ (x : Sat). Knows h x.0) (sym same.2) knows);
   kept = subst (λ (x : Sat). KeepsOrder t.known far x.0.order) same.2 t.kept;
+  late = subst (λ (x : Sat). x.0.clock ≤ t.entries) same.2 t.late;
 }
 
 -- so where the far state was put into the slot before

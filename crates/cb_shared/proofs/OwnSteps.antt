@@ -1,28 +1,32 @@
 -- What the steps of a seat on the one object that it claims come to.
-use Rattle.std.proofs.Common.{◌≡◌, ◌+◌, ℕ, ◌^◌, ◌<◌, ◌≤◌, List, [], ◌∷◌, get_or, refl, sym, ap}
-use Rattle.std.proofs.Common.{subst, ◌∙◌, inl}
+use Rattle.std.proofs.Common.{◌≡◌, ◌+◌, ℕ, ◌^◌, ◌<◌, ◌≤◌, max, true, false, List, [], ◌∷◌, get_or}
+use Rattle.std.proofs.Common.{refl, sym, ap, subst, ◌∙◌, inl, inr, arith}
 use mathlib.Core.Option.{none}
 use Rattle.atomic_table.specs.Seated.{TableId}
 use Rattle.atomic_table.specs.Table.{step, Allows}
 use Rattle.cb_types.specs.declared.config.Config.{Config}
 use Rattle.cb_ptr.specs.Word.{len_of}
 use Rattle.cb_world.specs.Memory.{words_for}
+use Rattle.cb_rule.specs.declared.view.Find.{Find}
 use Rattle.cb_rule.specs.declared.view.Held.{Held}
+use Rattle.cb_rule.specs.declared.view.View.{View}
 use Rattle.cb_rule.specs.Lists.{Each}
 use Rattle.cb_rule.specs.Locking.{Locked}
 use Rattle.cb_rule.specs.Ruled.{Ruled}
 use Rattle.cb_rule.specs.Slot.{Sat}
 use Rattle.cb_rule.specs.Steps.{IsInside, LoadsHeld, TellsHeld, claimed_here, dated, held_at}
 use Rattle.cb_rule.specs.Steps.{next_entry, put_back, read_held, settled_here, stamped_here}
-use Rattle.cb_rule.specs.Steps.{stored_here, version_seen, with_claim, with_claim_word, with_look}
+use Rattle.cb_rule.specs.Steps.{stored_here, version_seen, with_back, with_claim, with_claim_word, with_look}
 use Rattle.cb_rule.specs.Steps.{with_stamp}
 use Rattle.cb_rule.specs.Words.{base, stamps}
 use Rattle.cb_shared.specs.declared.setup.Setup.{Setup}
 use Rattle.cb_shared.specs.Claims.{ClaimsHere, HoldsOnly, IsAsClaimed, IsNextOf, back_only}
 use Rattle.cb_shared.specs.Claims.{with_only, written_only}
-use Rattle.cb_shared.specs.Seats.{IsOf, Moves, SeatAt, record_at}
+use Rattle.cb_record.specs.Finding.{find_of, with_finds}
+use Rattle.cb_shared.specs.Seats.{FindsMoves, FindsNextMoves, IsOf, MayMove, Moves, SeatAt, record_at}
 use Rattle.cb_shared.specs.Turning.{Did}
 use Rattle.cb_shared.proofs.Only.{edited_only, has_only, removed_only}
+use Rattle.cb_shared.proofs.Resting.{may_move, one_found}
 use Rattle.cb_shared.proofs.OwnAlone.{puts_back_at, settles_here_at, stamps_here_at, stores_here_at}
 
 -- ---- a seat that claims an object and no other may make the steps on it
@@ -91,7 +95,8 @@ module _ (c : Config) (slots : ℕ) (p q : SeatAt) (config : (record_at p).confi
   pub claims_only : (h saw new n : ℕ) → (record_at p).claims ≡ []
       → claimed_here (step slots (1 + h) saw new none) p.me n q.me → ClaimsHere c h saw n p q
   claims_only h saw new n alone done = let z = done h refl in record {
-    won = λ e. let y = z.0 e in let v = y.0 in let words = y.1 in let f = y.3 in (
+    won = λ e. let y = z.0 e in let v = y.0 in let words = y.1 in let f = y.3 in
+        let fs : List Find = find_of h v false y.2.at ∷ [] in (
       v,
       words,
       f.above,
@@ -100,18 +105,29 @@ module _ (c : Config) (slots : ℕ) (p q : SeatAt) (config : (record_at p).confi
       subst (λ (w : ℕ). w < 2 ^ 53) e f.below,
       f.long ∙ ap (λ (w : ℕ). words_for (len_of w)) e,
       (
-        table,
-        id,
-        y.2 ∙ ap (λ (w : ℕ). let m : Sat = (with_claim h w v words (record_at p), p.me.1) in m) e
-            ∙ ap (λ (l : List Held).
-            let m : Sat = (
-              record (with_look h saw (record_at p)) { claims = held_at h saw v words ∷ l },
-              p.me.1,
-            ) in
-            m) alone,
+        y.2.at,
+        fs,
+        (
+          table,
+          id,
+          y.2.noted ∙ ap (λ (w : ℕ).
+              let m : Sat = (
+                with_finds y.2.at fs (with_claim h w v words (record_at p)),
+                p.me.1,
+              ) in
+              m) e
+              ∙ ap (λ (l : List Held).
+              let m : Sat = (
+                with_finds y.2.at fs
+                    (record (with_look h saw (record_at p)) { claims = held_at h saw v words ∷ l }),
+                p.me.1,
+              ) in
+              m) alone,
+        ),
       ),
     );
-    lost = λ ne. (table, id, z.1 ne);
+    lost = λ ne. let f = z.1 ne in may_move h f.0 _ p q (with_look h n (record_at p))
+        (one_found h f.0 _ p q (with_look h n (record_at p)) table id f.1);
   }
 
   module _ (x : Held) (h : ℕ) (ho : HoldsOnly x h p) where
@@ -138,32 +154,63 @@ module _ (c : Config) (slots : ℕ) (p q : SeatAt) (config : (record_at p).confi
     )
 
     pub settles_only : (w : ℕ) → settled_here (step slots (1 + h) w 0 none) p.me w q.me
-        → Moves p q (written_only x (record_at p))
-    settles_only w done = (
-      table,
-      id,
-      done x (has_only x (record_at p).claims ho.0) (ap (λ (g : ℕ). 1 + g) (sym ho.1))
-          ∙ ap (λ (l : List Held).
-          let m : Sat = (
-            record (record_at p) { claims = l; written = next_entry x ∷ (record_at p).written },
-            p.me.1,
-          ) in
-          m) (removed_only x x.handle (record_at p).claims ho.0 refl),
-    )
+        → FindsNextMoves x.handle x.version p q (written_only x (record_at p))
+    settles_only w done =
+        let f = done x (has_only x (record_at p).claims ho.0) (ap (λ (g : ℕ). 1 + g) (sym ho.1)) in
+        let before : Find = find_of x.handle x.version false f.0 in
+        let next : Find = find_of x.handle (x.version + 1) false (f.0 + 1) in
+        let n : max (max (record_at p).clock f.0) (f.0 + 1) ≡ max (record_at p).clock (f.0 + 1) =
+        omega arith in (
+          f.0 + 1,
+          next ∷ before ∷ [],
+          (f.0, f.1, (let z : f.0 + 1 ≤ f.0 + 1 = omega arith in z), inr (inl refl), inl refl),
+          (
+            table,
+            id,
+            f.2 ∙ ap (λ (l : List Held).
+                let m : Sat = (
+                  record (record_at p) {
+                    claims = l;
+                    written = next_entry x ∷ (record_at p).written;
+                    clock = max (max (record_at p).clock f.0) (f.0 + 1);
+                    finds = next ∷ before ∷ (record_at p).finds;
+                  },
+                  p.me.1,
+                ) in
+                m) (removed_only x x.handle (record_at p).claims ho.0 refl)
+                ∙ ap (λ (k : ℕ).
+                let m : Sat = (
+                  record (record_at p) {
+                    claims = [];
+                    written = next_entry x ∷ (record_at p).written;
+                    clock = k;
+                    finds = next ∷ before ∷ (record_at p).finds;
+                  },
+                  p.me.1,
+                ) in
+                m) n,
+          ),
+        )
 
     pub puts_only : (w : ℕ) → put_back (step slots (1 + h) w 0 none) p.me w q.me
-        → Moves p q (back_only x (record_at p))
-    puts_only w done = (
-      table,
-      id,
-      done x (has_only x (record_at p).claims ho.0) (ap (λ (g : ℕ). 1 + g) (sym ho.1))
-          ∙ ap (λ (l : List Held).
-          let m : Sat = (
-            record (record_at p) {
-              claims = l;
-              seen = version_seen x.handle x.version x.len x.old ∷ (record_at p).seen;
-            },
-            p.me.1,
-          ) in
-          m) (removed_only x x.handle (record_at p).claims ho.0 refl),
-    )
+        → FindsMoves x.handle x.version false p q (back_only x (record_at p))
+    puts_only w done =
+        let f = done x (has_only x (record_at p).claims ho.0) (ap (λ (g : ℕ). 1 + g) (sym ho.1)) in
+        let m = one_found x.handle x.version false p q (with_back x (record_at p)) table id f in (
+          m.0,
+          m.1,
+          m.2,
+          (
+            table,
+            id,
+            m.3.2 ∙ ap (λ (l : List Held).
+                let m : Sat = (
+                  with_finds f.at (find_of x.handle x.version false f.at ∷ []) (record (record_at p) {
+                    claims = l;
+                    seen = version_seen x.handle x.version x.len x.old ∷ (record_at p).seen;
+                  }),
+                  p.me.1,
+                ) in
+                m) (removed_only x x.handle (record_at p).claims ho.0 refl),
+          ),
+        )

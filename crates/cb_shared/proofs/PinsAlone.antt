@@ -16,9 +16,9 @@ use Rattle.cb_rule.specs.Ruled.{Ruled}
 use Rattle.cb_rule.specs.Seats.{pins_on}
 use Rattle.cb_rule.specs.Slot.{Sat}
 use Rattle.cb_rule.specs.AnyGlance.{glanced_any}
-use Rattle.cb_rule.specs.Steps.{Knows, glanced, pinned, unpinned, peeked, dated}
-use Rattle.cb_rule.specs.Words.{base}
-use Rattle.cb_rule.proofs.Laws.{dates, gives_pins, glances, glances_any, locked_steady, peeks, takes_pin}
+use Rattle.cb_rule.specs.Steps.{Knows, glanced, pinned, unpinned, peeked, dated, dated_now}
+use Rattle.cb_rule.specs.Words.{base, stamps}
+use Rattle.cb_rule.proofs.Laws.{dates, dates_now, gives_pins, glances, glances_any, locked_steady, peeks, takes_pin}
 use Rattle.cb_shared.specs.Turning.{Did}
 use Rattle.cb_shared.specs.PinLoads.{read_pin}
 use Rattle.cb_shared.proofs.Alone.{at_key}
@@ -68,6 +68,13 @@ module _ (first : ℕ) (c k : Config) (key : k ≡ c) (slots id : ℕ) (me : Sat
       (dated (step slots i 0 0 none) me)
   dates_at i = at_key first c k slots id me i (λ n. n) (dated (step slots i 0 0 none) me) key
       (dates (Locked Did) (locked_steady Did) first c slots id me i)
+
+  pub dates_now_at : me.0.config ≡ c → (p : Stand) → Has p me.0.pins
+      → Allows (Ruled (Locked Did) first k) slots id me (stamps c + p.handle) (λ n. n)
+      (dated_now (step slots (stamps c + p.handle) 0 0 none) me)
+  dates_now_at same p there = at_key first c k slots id me (stamps c + p.handle) (λ n. n)
+      (dated_now (step slots (stamps c + p.handle) 0 0 none) me) key
+      (dates_now (Locked Did) (locked_steady Did) first c slots id me live same p there)
 
   -- a load tells what a peek tells, and leaves the record as a look at a version word does
   pub reads_pin_at : me.0.config ≡ c → (i : ℕ) → Allows (Ruled (Locked Did) first k) slots id me i (λ n. n)

@@ -4,8 +4,6 @@ use Rattle.std.proofs.Common.{subst}
 use Rattle.std.specs.Result.{IfOk, OnErr}
 use Rattle.cb_member.specs.declared.no_memory.NoMemory.{NoMemory}
 use Rattle.cb_types.specs.declared.config.Config.{Config}
-use Rattle.cb_ptr.specs.declared.word.State.TheVariants as state
-use Rattle.cb_ptr.specs.Word.{state_of}
 use Rattle.cb_world.specs.declared.entry.Entry.{Entry}
 use Rattle.cb_rule.specs.declared.turn.Turn.{Turn}
 use Rattle.cb_rule.specs.declared.view.Seen.{Seen}
@@ -18,7 +16,7 @@ use Rattle.cb_shared.specs.declared.reading.ReadAnswer.TheVariants.{Crowded, Rac
 use Rattle.cb_record.specs.Parts.{Part, grown, keeps_after}
 use Rattle.cb_shared.specs.OrdersKept.{AreOfPasses}
 use Rattle.cb_shared.specs.Passes.{IsAtRest}
-use Rattle.cb_shared.specs.Reading.{ReadFinds, ReadMoves, looked}
+use Rattle.cb_shared.specs.Reading.{LooksHere, ReadFinds, ReadMoves}
 use Rattle.cb_shared.specs.Seats.{Moves, SeatAt, record_at}
 use Rattle.cb_shared.specs.Trying.{newest_tries, tries_of}
 
@@ -34,13 +32,13 @@ reading_as c d e is x = subst (IsReadPart c) (sym is) x
 finds_reading : (c : Config) (h : ℕ) (a : ReadAnswer) (v : View) (d : Part) → h < c.handles
     → ReadFinds h a v d → IsReadPart c d
 finds_reading c h (Bytes version bytes) v d l x =
-    reading_as c d _ x.part (record { wrote = refl; turns = refl; seen = (l, tt) })
-finds_reading c h Freed v d l x = reading_as c d _ x.4 (record { wrote = refl; turns = refl; seen = (l, tt) })
-finds_reading c h NotHere v d l x = reading_as c d _ x.2 (record { wrote = refl; turns = refl; seen = tt })
-finds_reading c h Moving v d l x = reading_as c d _ x.2 (record { wrote = refl; turns = refl; seen = tt })
-finds_reading c h Crowded v d l x = reading_as c d _ x.2 (record { wrote = refl; turns = refl; seen = tt })
+    reading_as c d _ x.part.3 (record { wrote = refl; turns = refl; seen = (l, tt) })
+finds_reading c h Freed v d l x = reading_as c d _ x.4.3 (record { wrote = refl; turns = refl; seen = (l, tt) })
+finds_reading c h NotHere v d l x = reading_as c d _ x.3.3 (record { wrote = refl; turns = refl; seen = tt })
+finds_reading c h Moving v d l x = reading_as c d _ x.3.3 (record { wrote = refl; turns = refl; seen = tt })
+finds_reading c h Crowded v d l x = reading_as c d _ x.3.3 (record { wrote = refl; turns = refl; seen = tt })
 finds_reading c h (Raced saw found) v d l x =
-    reading_as c d _ x.1 (record { wrote = refl; turns = refl; seen = tt })
+    reading_as c d _ x.1.2 (record { wrote = refl; turns = refl; seen = tt })
 
 -- what stands of the seat afterwards
 pub record IsSeatKept (c : Config) (p q : SeatAt) : Type 0 where
@@ -85,9 +83,9 @@ kept_part c p q d rest m x = record {
 
 pub kept_read : (c : Config) (h : ℕ) (p q : SeatAt) (r : Result ReadAnswer NoMemory)
     → IsAtRest c (record_at p) → h < c.handles → IfOk r (λ a. ReadMoves h a p q)
-    → OnErr r ((word : ℕ) × (state_of word ≡ state.Here)
-    × Moves p q (grown (looked h word) (record_at p))) → IsSeatKept c p q
+    → OnErr r (LooksHere h p q) → IsSeatKept c p q
 kept_read c h p q (Ok a) rest l ok err =
     kept_part c p q ok.0 rest ok.1 (finds_reading c h a (record_at p) ok.0 l ok.2)
 kept_read c h p q (Err e) rest l ok err =
-    kept_part c p q (looked h err.0) rest err.2 (record { wrote = refl; turns = refl; seen = tt })
+    kept_part c p q err.2 rest err.4
+    (reading_as c err.2 _ err.3.2 (record { wrote = refl; turns = refl; seen = tt }))

@@ -1,10 +1,9 @@
 -- The parts of reads under a pin.
-use Rattle.std.proofs.Common.{◌≡◌, ℕ, ◌+◌, ◌<◌, ◌≤◌, List, [], ◌∷◌, ◌++◌, length, Result, Ok, Err}
-use Rattle.std.proofs.Common.{inl, inr, ⊎_elim, sym, refl, ap, ◌∙◌, subst, arith}
+use Rattle.std.proofs.Common.{◌≡◌, ℕ, ◌+◌, ◌<◌, ◌≤◌, max, Bool, true, false, List, [], ◌∷◌, ◌++◌}
+use Rattle.std.proofs.Common.{length, Result, Ok, Err, inl, inr, ⊎_elim, sym, refl, ap, ◌∙◌, subst}
+use Rattle.std.proofs.Common.{arith}
 use Rattle.std.specs.Prelude.{IfOk, OnErr}
 use Rattle.atomic_table.specs.Seated.{TableId}
-use Rattle.cb_ptr.specs.declared.word.State.TheVariants as state
-use Rattle.cb_ptr.specs.Word.{state_of}
 use Rattle.cb_member.specs.declared.no_memory.NoMemory.{NoMemory}
 use Rattle.cb_types.specs.declared.config.Config.{Config}
 use Rattle.cb_types.specs.declared.reply.Reply.{Reply}
@@ -19,18 +18,18 @@ use Rattle.cb_rule.specs.Steps.{IsNewest, Knows, look_at, with_look}
 use Rattle.cb_shared.specs.declared.reading.ReadAnswer.{ReadAnswer}
 use Rattle.cb_shared.specs.declared.reading.ReadAnswer.TheVariants as found
 use Rattle.cb_shared.specs.declared.setup.Setup.{Setup}
+use Rattle.cb_record.specs.Finding.{FindsIn, IsFoundBy, MayFindIn}
 use Rattle.cb_record.specs.Parts.{Part, grown, nothing_more, sum}
-use Rattle.cb_shared.specs.Reading.{ReadFinds, ReadMoves, looked}
+use Rattle.cb_shared.specs.Reading.{FindsWord, LooksHere, ReadFinds, ReadMoves, looked}
 use Rattle.cb_shared.specs.Seats.{IsOf, Moves, SeatAt, record_at}
 use Rattle.cb_shared.specs.Turning.{AreLooksAt, FindsAtLast, Tries}
 use Rattle.cb_shared.specs.UnderLock.{HasSame, IsQuiet, IsReplyTo, IsTriedAgain, LooksFor}
 use Rattle.cb_shared.specs.UnderLock.{ReadsBelow, TriesOn}
-use Rattle.cb_record.proofs.Laws.{grown-sum}
+use Rattle.cb_record.proofs.Laws.{grown-nothing_more, grown-sum}
 use Rattle.cb_shared.proofs.AfterTurn.{of_moved}
 
 pub grown_nothing : (v : View) → v ≡ grown nothing_more v
-grown_nothing v = let e : v.ever ≡ v.ever + 0 = omega arith in
-    ap (λ (n : ℕ). let z : View = record v { ever = n } in z) e
+grown_nothing v = sym (grown-nothing_more v)
 
 -- one part after another is one part
 pub grown_sum : (d e : Part) (v : View) → grown e (grown d v) ≡ grown (sum d e) v
@@ -43,12 +42,12 @@ part_quiet : (d e : Part) → d ≡ e → IsQuiet e → IsQuiet d
 part_quiet d e is q = subst IsQuiet (sym is) q
 
 finds_quiet : (h : ℕ) (a : ReadAnswer) (v : View) (d : Part) → ReadFinds h a v d → IsQuiet d
-finds_quiet h (found.Bytes version bytes) v d x = part_quiet d _ x.part (refl, refl)
-finds_quiet h found.Freed v d x = part_quiet d _ x.4 (refl, refl)
-finds_quiet h found.NotHere v d x = part_quiet d _ x.2 (refl, refl)
-finds_quiet h found.Moving v d x = part_quiet d _ x.2 (refl, refl)
-finds_quiet h found.Crowded v d x = part_quiet d _ x.2 (refl, refl)
-finds_quiet h (found.Raced saw other) v d x = part_quiet d _ x.1 (refl, refl)
+finds_quiet h (found.Bytes version bytes) v d x = part_quiet d _ x.part.3 (refl, refl)
+finds_quiet h found.Freed v d x = part_quiet d _ x.4.3 (refl, refl)
+finds_quiet h found.NotHere v d x = part_quiet d _ x.3.3 (refl, refl)
+finds_quiet h found.Moving v d x = part_quiet d _ x.3.3 (refl, refl)
+finds_quiet h found.Crowded v d x = part_quiet d _ x.3.3 (refl, refl)
+finds_quiet h (found.Raced saw other) v d x = part_quiet d _ x.1.2 (refl, refl)
 
 each_both : {A : Type 0} (P : A → Type 0) (xs ys : List A) → Each P xs → Each P ys
     → Each P (xs ++ ys)
@@ -57,12 +56,12 @@ each_both P (x ∷ xs) ys a b = (a.0, each_both P xs ys a.1 b)
 
 finds_below : (c : Config) (h : ℕ) (a : ReadAnswer) (v : View) (d : Part) → h < c.handles
     → ReadFinds h a v d → ReadsBelow c d
-finds_below c h (found.Bytes version bytes) v d l x = subst (ReadsBelow c) (sym x.part) (l, tt)
-finds_below c h found.Freed v d l x = subst (ReadsBelow c) (sym x.4) (l, tt)
-finds_below c h found.NotHere v d l x = subst (ReadsBelow c) (sym x.2) tt
-finds_below c h found.Moving v d l x = subst (ReadsBelow c) (sym x.2) tt
-finds_below c h found.Crowded v d l x = subst (ReadsBelow c) (sym x.2) tt
-finds_below c h (found.Raced saw other) v d l x = subst (ReadsBelow c) (sym x.1) tt
+finds_below c h (found.Bytes version bytes) v d l x = subst (ReadsBelow c) (sym x.part.3) (l, tt)
+finds_below c h found.Freed v d l x = subst (ReadsBelow c) (sym x.4.3) (l, tt)
+finds_below c h found.NotHere v d l x = subst (ReadsBelow c) (sym x.3.3) tt
+finds_below c h found.Moving v d l x = subst (ReadsBelow c) (sym x.3.3) tt
+finds_below c h found.Crowded v d l x = subst (ReadsBelow c) (sym x.3.3) tt
+finds_below c h (found.Raced saw other) v d l x = subst (ReadsBelow c) (sym x.1.2) tt
 
 pub looks_below : (c : Config) (h : ℕ) (d : Part) → AreLooksAt h d → ReadsBelow c d
 looks_below c h d x = subst (ReadsBelow c) (sym x.part) tt
@@ -81,7 +80,7 @@ last_below c h a v d l x = subst (ReadsBelow c) (sym x.part)
 -- ---- what is found depends on the entries of the record alone
 newest_same : (h version : ℕ) (u v : View) → HasSame u v → IsNewest h version v
     → IsNewest h version u
-newest_same h version u v (fresh, written, seen, share, own) n = record {
+newest_same h version u v (fresh, written, seen, share, own, clock) n = record {
   written = subst (Each (λ (x : Entry). x.handle ≡ h → x.version ≤ version))
       (λ i. sym fresh i ++ sym written i) n.written;
   seen = subst (Each (λ (x : Seen). x.handle ≡ h → x.version ≤ version)) (sym seen) n.seen;
@@ -91,6 +90,21 @@ newest_same h version u v (fresh, written, seen, share, own) n = record {
       (λ (has : Has h u.own). inr (subst (Has h) own has)) is));
 }
 
+-- and on its clock
+in_same : (h version : ℕ) (freed : Bool) (u v : View) (e d : Part) → HasSame u v
+    → FindsIn h version freed v e d → FindsIn h version freed u e d
+in_same h version freed u v e d same (n, fs, found, is) = (
+  n,
+  fs,
+  subst (λ (since : ℕ). IsFoundBy h version freed since n fs) (sym same.5) found,
+  is,
+)
+
+word_same : (h : ℕ) (P : ℕ → Type 0) (u v : View) (d : Part) → HasSame u v → FindsWord h P v d
+    → FindsWord h P u d
+word_same h P u v d same (word, has, version, f) =
+    (word, has, version, in_same h version false u v (looked h word) d same f)
+
 finds_same : (h : ℕ) (a : ReadAnswer) (u v : View) (d : Part) → HasSame u v → ReadFinds h a v d
     → ReadFinds h a u d
 finds_same h (found.Bytes version bytes) u v d same x = record {
@@ -99,22 +113,28 @@ finds_same h (found.Bytes version bytes) u v d same x = record {
   here = x.here;
   newest = newest_same h version (with_look h x.word u) (with_look h x.word v) same x.newest;
   bytes_are = x.bytes_are;
-  part = x.part;
+  part = in_same h version false u v _ d same x.part;
 }
-finds_same h found.Freed u v d same (word, version, empty, newest, is) =
-    (word, version, empty, newest_same h version u v same newest, is)
-finds_same h found.NotHere u v d same x = x
-finds_same h found.Moving u v d same x = x
-finds_same h found.Crowded u v d same x = x
+finds_same h found.Freed u v d same (word, version, empty, newest, is) = (
+  word,
+  version,
+  empty,
+  newest_same h version u v same newest,
+  in_same h version true u v _ d same is,
+)
+finds_same h found.NotHere u v d same x = word_same h _ u v d same x
+finds_same h found.Moving u v d same x = word_same h _ u v d same x
+finds_same h found.Crowded u v d same x = word_same h _ u v d same x
 finds_same h (found.Raced saw other) u v d same x = x
 
 grown_same : (d : Part) (u v : View) → HasSame u v → HasSame (grown d u) (grown d v)
-grown_same d u v (fresh, written, seen, share, own) = (
+grown_same d u v (fresh, written, seen, share, own, clock) = (
   fresh,
   ap (λ (l : List Entry). d.written ++ l) written,
   ap (λ (l : List Seen). d.seen ++ l) seen,
   share,
   own,
+  ap (λ (n : ℕ). max n d.clock) clock,
 )
 
 pub last_same : (h : ℕ) (a : ReadAnswer) (u v : View) (d : Part) → HasSame u v
@@ -130,14 +150,22 @@ last_same h a u v d same x = record {
 
 -- ---- looks, and then more of them
 pub no_looks : (h : ℕ) → AreLooksAt h nothing_more
-no_looks h = record { looks = []; on = tt; part = refl }
+no_looks h = record { looks = []; clock = 0; finds = []; on = tt; part = refl }
 
-one_look : (h word : ℕ) (d : Part) → d ≡ looked h word → AreLooksAt h d
-one_look h word d is = record { looks = look_at h word ∷ []; on = (refl, tt); part = is }
+pub one_look : (h word : ℕ) (d : Part) → MayFindIn (looked h word) d → AreLooksAt h d
+one_look h word d (n, fs, is) = record {
+  looks = look_at h word ∷ [];
+  clock = n;
+  finds = fs;
+  on = (refl, tt);
+  part = is;
+}
 
 pub more_looks : (h : ℕ) (d e : Part) → AreLooksAt h d → AreLooksAt h e → AreLooksAt h (sum d e)
 more_looks h d e x y = record {
   looks = y.looks ++ x.looks;
+  clock = max x.clock y.clock;
+  finds = y.finds ++ x.finds;
   on = each_both (λ (l : Look). l.handle ≡ h) y.looks x.looks y.on x.on;
   part = λ i. sum (x.part i) (y.part i);
 }
@@ -146,17 +174,16 @@ tried_again : (h : ℕ) (a : ReadAnswer) (v : View) (d : Part) → ReadFinds h a
     → IsTriedAgain (Ok a) → AreLooksAt h d
 tried_again h (found.Bytes version bytes) v d x again = absurd again
 tried_again h found.Freed v d x again = absurd again
-tried_again h found.NotHere v d (word, far, is) again = one_look h word d is
+tried_again h found.NotHere v d (word, far, version, f) again = one_look h word d (f.0, f.1, f.3)
 tried_again h found.Moving v d x again = absurd again
 tried_again h found.Crowded v d x again = absurd again
 tried_again h (found.Raced saw other) v d x again = record {
   looks = look_at h other ∷ look_at h saw ∷ [];
+  clock = x.1.0;
+  finds = x.1.1;
   on = (refl, (refl, tt));
-  part = x.1;
+  part = x.1.2;
 }
-
-pub here_look : (h word : ℕ) → AreLooksAt h (looked h word)
-here_look h word = one_look h word (looked h word) refl
 
 pub found_last : (h : ℕ) (a : ReadAnswer) (v : View) (d e : Part) → AreLooksAt h d
     → ReadFinds h a (grown d v) e → FindsAtLast h a v (sum d e)
@@ -248,17 +275,16 @@ try_done c h a reply p q r d l lost m (e, n, finds) is =
 pub try_ends : (c : Config) (h : ℕ) (a : Result ReadAnswer NoMemory) (reply : Result Reply NoMemory)
     (p q r : SeatAt) (d : Part) → h < c.handles → AreLooksAt h d → Moves p q (grown d (record_at p))
     → IfOk a (λ x. ReadMoves h x q r)
-    → OnErr a ((word : ℕ) × (state_of word ≡ state.Here)
-    × Moves q r (grown (looked h word) (record_at q)))
+    → OnErr a (LooksHere h q r)
     → IsReplyTo a reply → TriesOn c h reply p r
 try_ends c h (Ok a) reply p q r d l lost m read err is = try_done c h a reply p q r d l lost m read is
-try_ends c h (Err e) reply p q r d l lost m read (word, here, n) is =
-    let more = more_looks h d (looked h word) lost (here_look h word) in
+try_ends c h (Err e) reply p q r d l lost m read (word, here, b, may, n) is =
+    let more = more_looks h d b lost (one_look h word b may) in
     subst (λ (x : Result Reply NoMemory). TriesOn c h x p r) (sym is) (
-      sum d (looked h word),
-      grown_moves p q r d (looked h word) m n,
-      looks_quiet h (sum d (looked h word)) more,
-      looks_below c h (sum d (looked h word)) more,
+      sum d b,
+      grown_moves p q r d b m n,
+      looks_quiet h (sum d b) more,
+      looks_below c h (sum d b) more,
       λ u same. more,
     )
 

@@ -12,6 +12,7 @@ use Rattle.cb_core.specs.Jobs.{IsJob}
 use Rattle.cb_rule.specs.Slot.{Sat}
 use Rattle.cb_rule.specs.Steps.{Knows, with_freed_seen, with_look}
 use Rattle.cb_rule.proofs.Laws.{knows_or}
+use Rattle.cb_record.specs.Finding.{finding, with_finds}
 use Rattle.cb_record.specs.Parts.{Part, grown, sum}
 use Rattle.cb_shared.specs.declared.reading.ReadAnswer.TheVariants as found
 use Rattle.cb_shared.specs.Passes.{IsAtRest}
@@ -21,7 +22,7 @@ use Rattle.cb_shared.specs.Seeking.{GlancesAny, KnownMoves, swapped_of}
 use Rattle.cb_shared.specs.Turning.{AreLooksAt}
 use Rattle.cb_shared.specs.UnderLock.{IsBelow}
 use Rattle.cb_shared.proofs.ReadKept.{IsSeatKept, kept_part}
-use Rattle.cb_shared.proofs.ReadParts.{grown_moves, here_look, look_found, looks_below, looks_know, looks_quiet, more_looks}
+use Rattle.cb_shared.proofs.ReadParts.{grown_moves, look_found, looks_below, looks_know, looks_quiet, more_looks, one_look}
 use Rattle.cb_shared.proofs.ReadSteps.{freed_part, look_part, moves_as}
 
 -- looks leave what the seat knows
@@ -35,12 +36,13 @@ pub known_again : (h word : ℕ) (p q r : SeatAt) (d : Part) → AreLooksAt h d
     → Moves p q (grown d (record_at p)) → GlancesAny h word q r
     → (state_of word ≡ state.Empty → Knows h (record_at q) → ⊥)
     → (e : Part) × AreLooksAt h e × Moves p r (grown e (record_at p))
-known_again h word p q r d lost m g off = (
-  sum d (looked h word),
-  more_looks h d (looked h word) lost (here_look h word),
-  grown_moves p q r d (looked h word) m (moves_as q r (with_look h word (record_at q))
-      (grown (looked h word) (record_at q)) (g.other off) (look_part h word (record_at q))),
-)
+known_again h word p q r d lost m g off = let f = (g.other off).1 in
+    let e : Part = finding f.0 f.1 (looked h word) in (
+      sum d e,
+      more_looks h d e lost (one_look h word e (f.0, f.1, refl)),
+      grown_moves p q r d e m (moves_as q r (with_finds f.0 f.1 (with_look h word (record_at q)))
+          (grown e (record_at q)) f.3 (look_part h word f.0 f.1 (record_at q))),
+    )
 
 -- a look found the object freed
 pub known_found : (c : Config) (h word : ℕ) (p q r : SeatAt) (d : Part) → h < c.handles
@@ -49,12 +51,13 @@ pub known_found : (c : Config) (h word : ℕ) (p q r : SeatAt) (d : Part) → h 
 known_found c h word p q r d l lost m g empty = ⊎_elim
     (λ (knows : Knows h (record_at p)).
     let f = g.freed empty (looks_know h p q d lost m knows) in
-    let finds : ReadFinds h found.Freed (record_at q) (looked_freed h f.0 word) =
-    (word, f.0, empty, f.1, refl) in
+    let e : Part = finding f.2.0 f.2.1 (looked_freed h f.0 word) in
+    let finds : ReadFinds h found.Freed (record_at q) e =
+    (word, f.0, empty, f.1, (f.2.0, f.2.1, f.2.2, refl)) in
     let x = look_found c h p q r d l lost m (
-      looked_freed h f.0 word,
-      moves_as q r (with_freed_seen h f.0 word (record_at q))
-          (grown (looked_freed h f.0 word) (record_at q)) f.2 (freed_part h f.0 word (record_at q)),
+      e,
+      moves_as q r (with_finds f.2.0 f.2.1 (with_freed_seen h f.0 word (record_at q)))
+          (grown e (record_at q)) f.2.3 (freed_part h f.0 word f.2.0 f.2.1 (record_at q)),
       finds,
     ) in (x.0, x.1, x.2, x.3, ((λ _. x.4), λ off. absurd (off knows))))
     (λ (off : Knows h (record_at p) → ⊥).

@@ -1,5 +1,5 @@
 -- A turn as it stands in the record of its pass at its end.
-use Rattle.std.proofs.Common.{◌≡◌, ℕ, suc, ◌+◌, ◌<◌, ◌≤◌, List, [], ◌∷◌, ◌++◌, length, Option, None}
+use Rattle.std.proofs.Common.{◌≡◌, ℕ, suc, ◌+◌, ◌<◌, ◌≤◌, max, List, [], ◌∷◌, ◌++◌, length, Option, None}
 use Rattle.std.proofs.Common.{Some, Result, Ok, refl, sym, ap, ◌∙◌, subst, arith, inl, inr}
 use Rattle.std.proofs.Common.{append_assoc}
 use Rattle.cb_member.specs.declared.no_memory.NoMemory.{NoMemory}
@@ -74,6 +74,9 @@ part_more turn more within later made v quiet = λ i. record v {
   ever = (let e : v.ever + (within.ever + 0) + later.ever ≡ v.ever + (within.ever + later.ever)
       = omega arith in e) i;
   looks = sym (append_assoc later.looks within.looks v.looks) i;
+  clock = (let e : max (max v.clock (max (max within.clock turn.until) 0)) later.clock
+      ≡ max v.clock (max (max within.clock turn.until) later.clock) = omega arith in e) i;
+  finds = sym (append_assoc later.finds within.finds v.finds) i;
   own = made ++ v.own;
   turns = ap (λ (l : List Turn). l ++ (turn ∷ v.turns)) quiet.1 i;
   order = ap (λ (l : List Turn). keeps_after l turn.keeps) quiet.1 i;
@@ -137,6 +140,7 @@ module _ (c : Config) (job : Job) (r : Result Reply NoMemory) (keeps : Option Ke
       job_is = t.job_is;
       reply_is = t.reply_is;
       before = t.before;
+      since = t.since;
       agree = t.agree;
       did = t.did;
       next = t.next;

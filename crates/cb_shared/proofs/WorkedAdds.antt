@@ -1,7 +1,7 @@
 -- Worked parts that tries, calls and turns add: what breaks one of their parts alone.
 use Rattle.std.proofs.Common.{◌≡◌, ℕ, Bool, ◌+◌, ◌<◌, ◌≤◌, List, [], ◌∷◌, ◌++◌, length, length-append}
 use Rattle.std.proofs.Common.{get_or, None, Some, Ok, Err, refl, sym, ap, ◌∙◌, subst, inl, inr, lit<}
-use Rattle.std.proofs.Common.{arith, suc}
+use Rattle.std.proofs.Common.{arith, suc, true, false, lit≤}
 use Rattle.std.proofs.lemmas.Bool.{eqb-false}
 use Rattle.cb_member.specs.declared.names.Loss.{Loss}
 use Rattle.cb_member.specs.declared.no_memory.NoMemory.{NoMemory}
@@ -40,7 +40,9 @@ use Rattle.cb_shared.specs.Reading.{FindsGone, IsReadHere, looked, looked_freed,
 use Rattle.cb_shared.specs.Seats.{SeatAt}
 use Rattle.cb_shared.specs.Turning.{Did, JobReads, Tries, TurnAdds, TurnBy, turn_part}
 use Rattle.cb_shared.specs.UnderLock.{HasSame, IsEnding, IsQuiet, ReadsBelow}
-use Rattle.cb_shared.proofs.WorkedGround.{a_stand, away, calm, made, moving, newest_made, owner}
+use Rattle.cb_shared.proofs.ReadParts.{no_looks}
+use Rattle.cb_shared.proofs.WorkedGround.{a_stand, as_found_in, away, calm, found_in, made, moving}
+use Rattle.cb_shared.proofs.WorkedGround.{newest_made, next_in, owner}
 use Rattle.cb_shared.proofs.WorkedGround.{part, pinned, two, whole, word_in, words_in}
 use Rattle.cb_shared.proofs.WorkedReads.{eight_bytes}
 use Rattle.cb_shared.proofs.WorkedSeat.{tells}
@@ -60,14 +62,14 @@ turned_in_vain t work x = absurd (let e = sym work
 -- ---- a read that found the object freed at last: with an entry of no try, or with a pin beside it
 abbrev ReadsFreed : Part → Type 0
 ReadsFreed d =
-    EndsAtLast (AtThis 1) (IsUnanswered (IsReadJob 1)) (ReadCallEnds two 1 answer.Freed) part d
+    EndsAtLast (AtThis 1) (IsUnanswered (IsReadJob 1)) (ReadCallEnds two 1 answer.Freed 0) part d
 
 -- it was a look, where the part has no turn
 in_place : (d : Part) (x : ReadsFreed d) → length d.turns ≡ 0
     → FindsGone 1 (grown x.before part) x.last
 in_place d x none = by x.ends_so
   where
-    by : ReadCallEnds two 1 answer.Freed (grown x.before part) x.last
+    by : ReadCallEnds two 1 answer.Freed 0 (grown x.before part) x.last
         → FindsGone 1 (grown x.before part) x.last
     by (inl gone) = gone
     by (inr a) =
@@ -76,28 +78,29 @@ in_place d x none = by x.ends_so
         let one = asks_turns two (IsReadJob 1) answer.Freed 1 _ x.last a in
         absurd (omega (arith, none, turns, one, length-append x.last.turns x.before.turns))
 
-reads_and_writes : ReadsFreed record (looked_freed 1 3 0) { written = made ∷ [] } → ⊥
+reads_and_writes : ReadsFreed (found_in 3 true (record (looked_freed 1 3 0) { written = made ∷ [] }))
+    → ⊥
 reads_and_writes x =
     let all : 1 ≡ length (x.last.written ++ x.before.written) =
     ap (λ (d : Part). length d.written) x.part in
     let first : length x.before.written ≡ 0 = ap (λ (d : Part). length d.written) x.in_vain.part in
-    let behind : length x.last.written ≡ 0 = ap (λ (d : Part). length d.written) (in_place _ x refl).4
+    let behind : length x.last.written ≡ 0 = ap (λ (d : Part). length d.written) (in_place _ x refl).4.3
     in omega (arith, all, first, behind, length-append x.last.written x.before.written)
 
-reads_and_pins : ReadsFreed record (looked_freed 1 3 0) { ever = 1 } → ⊥
+reads_and_pins : ReadsFreed (found_in 3 true (record (looked_freed 1 3 0) { ever = 1 })) → ⊥
 reads_and_pins x =
     let all : 1 ≡ x.before.ever + x.last.ever = ap (λ (d : Part). d.ever) x.part in
     let first : x.before.ever ≡ 0 = ap (λ (d : Part). d.ever) x.in_vain.part in
-    let behind : x.last.ever ≡ 0 = ap (λ (d : Part). d.ever) (in_place _ x refl).4 in
+    let behind : x.last.ever ≡ 0 = ap (λ (d : Part). d.ever) (in_place _ x refl).4.3 in
     omega (arith, all, first, behind)
 
 -- a refusal is that of a turn
-reads_worn_without_a_turn : ReadCallEnds two 1 answer.Worn part (looked 1 calm) → ⊥
+reads_worn_without_a_turn : ReadCallEnds two 1 answer.Worn 0 part (looked 1 calm) → ⊥
 reads_worn_without_a_turn (inl x) = x
 reads_worn_without_a_turn (inr a) =
     eqb-false 0 1 refl (asks_turns two (IsReadJob 1) answer.Worn 1 part (looked 1 calm) a)
 
-asks_and_moves : (d : Part) → AsksFor two (Brings 1) answer.Moving 1 part d → ⊥
+asks_and_moves : (d : Part) → AsksFor two (Brings 1) answer.Moving 1 0 part d → ⊥
 asks_and_moves d a =
     brings_lacks 1 (again_in d.turns) a.turned.job answer.Moving a.turned.of a.turned.ends.0
 
@@ -105,21 +108,21 @@ asks_and_moves d a =
 abbrev Once : ℕ → Part → Type 0
 Once at d = IsWrittenOnce 1 at (12 ∷ []) 4 part d
 
-once_past_the_end : Once 8 (written_once 1 calm 4 (2826 ∷ []) (3082 ∷ [])) → ⊥
-once_past_the_end p = let e : calm ≡ p.word = ap (λ (d : Part). word_in d.looks) p.part in
+once_past_the_end : Once 8 (next_in 3 (written_once 1 calm 4 (2826 ∷ []) (3082 ∷ []))) → ⊥
+once_past_the_end p = let e : calm ≡ p.word = ap (λ (d : Part). word_in d.looks) p.part.3 in
     let z : 9 ≤ 8 = subst (λ (n : ℕ). 9 ≤ len_of n) (sym e) p.room.1 in omega (arith, z)
 
-once_while_moving : Once 1 (written_once 1 moving 4 (2826 ∷ []) (3082 ∷ [])) → ⊥
+once_while_moving : Once 1 (next_in 3 (written_once 1 moving 4 (2826 ∷ []) (3082 ∷ []))) → ⊥
 once_while_moving p = eqb-false 3 2 refl
-    (ap (λ (d : Part). state_number (state_of (word_in d.looks))) p.part ∙ ap state_number p.room.0)
+    (ap (λ (d : Part). state_number (state_of (word_in d.looks))) p.part.3 ∙ ap state_number p.room.0)
 
-once_while_pinned : Once 1 (written_once 1 pinned 4 (2826 ∷ []) (3082 ∷ [])) → ⊥
+once_while_pinned : Once 1 (next_in 3 (written_once 1 pinned 4 (2826 ∷ []) (3082 ∷ []))) → ⊥
 once_while_pinned p =
-    eqb-false 1 0 refl (ap (λ (d : Part). pins_of (word_in d.looks)) p.part ∙ p.bare)
+    eqb-false 1 0 refl (ap (λ (d : Part). pins_of (word_in d.looks)) p.part.3 ∙ p.bare)
 
-once_without_its_bytes : Once 1 (written_once 1 calm 4 (2826 ∷ []) (2826 ∷ [])) → ⊥
+once_without_its_bytes : Once 1 (next_in 3 (written_once 1 calm 4 (2826 ∷ []) (2826 ∷ []))) → ⊥
 once_without_its_bytes p = eqb-false 11 12 refl
-    (ap (λ (d : Part). memory_byte (words_in d.written) 1) p.part ∙ p.write.inside 0 (lit< tt))
+    (ap (λ (d : Part). memory_byte (words_in d.written) 1) p.part.3 ∙ p.write.inside 0 (lit< tt))
 
 -- ---- a read under a pin tells the bytes of its version
 abbrev other_bytes : List ℕ
@@ -129,9 +132,10 @@ abbrev words_of : List Seen → List ℕ
 words_of [] = []
 words_of (s ∷ ss) = s.words
 
-reads_other_bytes : IsReadHere 1 3 other_bytes part (read_once 1 calm 3 (2826 ∷ [])) → ⊥
-reads_other_bytes r = let word : calm ≡ r.word = ap (λ (d : Part). word_in d.looks) r.part in
-    let words : 2826 ∷ [] ≡ r.words = ap (λ (d : Part). words_of d.seen) r.part in
+reads_other_bytes : IsReadHere 1 3 other_bytes part
+    (found_in 3 false (read_once 1 calm 3 (2826 ∷ []))) → ⊥
+reads_other_bytes r = let word : calm ≡ r.word = ap (λ (d : Part). word_in d.looks) r.part.3 in
+    let words : 2826 ∷ [] ≡ r.words = ap (λ (d : Part). words_of d.seen) r.part.3 in
     eqb-false 11 10 refl (ap (λ (bs : List ℕ). get_or bs 0 0) (r.bytes_are
     ∙ (λ i. bytes_in (sym words i) (len_of (sym word i))) ∙ sym eight_bytes))
 
@@ -142,53 +146,65 @@ Reads r d = Tries 1 (Ok r) part d
 abbrev at_last : Part → Part
 at_last d = sum nothing_more d
 
-reads_freed : Reads answer.Freed (at_last (looked_freed 1 3 0))
+reads_freed : Reads answer.Freed (at_last (found_in 3 true (looked_freed 1 3 0)))
 reads_freed = record {
   before = nothing_more;
-  last = looked_freed 1 3 0;
-  lost = record { looks = []; on = tt; part = refl };
-  finds = (0, 3, refl, newest_made, refl);
+  last = found_in 3 true (looked_freed 1 3 0);
+  lost = no_looks 1;
+  finds = (
+    0,
+    3,
+    refl,
+    newest_made,
+    as_found_in 3 true (grown nothing_more part) (looked_freed 1 3 0) (lit≤ tt),
+  );
   part = refl;
 }
 
-reads_moving : Reads answer.Moving (at_last (looked 1 moving))
+reads_moving : Reads answer.Moving (at_last (found_in 3 false (looked 1 moving)))
 reads_moving = record {
   before = nothing_more;
-  last = looked 1 moving;
-  lost = record { looks = []; on = tt; part = refl };
-  finds = (moving, refl, refl);
+  last = found_in 3 false (looked 1 moving);
+  lost = no_looks 1;
+  finds = (
+    moving,
+    refl,
+    3,
+    as_found_in 3 false (grown nothing_more part) (looked 1 moving) (lit≤ tt),
+  );
   part = refl;
 }
 
-freed_unread : Reads answer.Freed (looked 1 0) → ⊥
+freed_unread : Reads answer.Freed (found_in 3 true (looked 1 0)) → ⊥
 freed_unread x = let all : 0 ≡ length (x.last.seen ++ x.before.seen) =
     ap (λ (d : Part). length d.seen) x.part in
-    let one : length x.last.seen ≡ 1 = ap (λ (d : Part). length d.seen) x.finds.4 in
+    let one : length x.last.seen ≡ 1 = ap (λ (d : Part). length d.seen) x.finds.4.3 in
     omega (arith, all, one, length-append x.last.seen x.before.seen)
 
 -- the tries before were looks alone
-freed_and_pinned : Reads answer.Freed record (looked_freed 1 3 0) { ever = 1 } → ⊥
+freed_and_pinned : Reads answer.Freed (found_in 3 true (record (looked_freed 1 3 0) { ever = 1 }))
+    → ⊥
 freed_and_pinned x = let all : 1 ≡ x.before.ever + x.last.ever = ap (λ (d : Part). d.ever) x.part in
     let first : x.before.ever ≡ 0 = ap (λ (d : Part). d.ever) x.lost.part in
-    let behind : x.last.ever ≡ 0 = ap (λ (d : Part). d.ever) x.finds.4 in
+    let behind : x.last.ever ≡ 0 = ap (λ (d : Part). d.ever) x.finds.4.3 in
     omega (arith, all, first, behind)
 
 abbrev state_seen : Part → ℕ
 state_seen d = state_number (state_of (word_in d.looks))
 
-moving_and_far : Reads answer.Moving (looked 1 away) → ⊥
+moving_and_far : Reads answer.Moving (found_in 3 false (looked 1 away)) → ⊥
 moving_and_far x = eqb-false 1 3 refl (ap state_seen x.part
-    ∙ ap (λ (d : Part). state_number (state_of (word_in (d.looks ++ x.before.looks)))) x.finds.2
+    ∙ ap (λ (d : Part). state_number (state_of (word_in (d.looks ++ x.before.looks)))) x.finds.3.3
     ∙ ap state_number x.finds.1)
 
-crowded_and_calm : Reads answer.Crowded (looked 1 calm) → ⊥
+crowded_and_calm : Reads answer.Crowded (found_in 3 false (looked 1 calm)) → ⊥
 crowded_and_calm x = eqb-false 0 1023 refl (ap (λ (d : Part). pins_of (word_in d.looks)) x.part
-    ∙ ap (λ (d : Part). pins_of (word_in (d.looks ++ x.before.looks))) x.finds.2 ∙ x.finds.1.1)
+    ∙ ap (λ (d : Part). pins_of (word_in (d.looks ++ x.before.looks))) x.finds.3.3 ∙ x.finds.1.1)
 
-bytes_and_no_pin : (bytes : List ℕ) → Reads (answer.Bytes 3 bytes) (looked 1 calm) → ⊥
+bytes_and_no_pin : (bytes : List ℕ) → Reads (answer.Bytes 3 bytes) (found_in 3 false (looked 1 calm)) → ⊥
 bytes_and_no_pin bytes x = let all : 0 ≡ x.before.ever + x.last.ever =
     ap (λ (d : Part). d.ever) x.part in
-    let one : x.last.ever ≡ 1 = ap (λ (d : Part). d.ever) x.finds.part in
+    let one : x.last.ever ≡ 1 = ap (λ (d : Part). d.ever) x.finds.part.3 in
     omega (arith, all, one)
 
 reads_worn : (d : Part) → Reads answer.Worn d → ⊥
@@ -254,7 +270,7 @@ adds_no_freed_entry t x =
     ap (λ (d : Part). length d.seen) x.part in
     let parts : length x.later.seen ≡ length (x.finds.last.seen ++ x.finds.before.seen) =
     ap (λ (d : Part). length d.seen) x.finds.part in
-    let one : length x.finds.last.seen ≡ 1 = ap (λ (d : Part). length d.seen) x.finds.finds.4 in
+    let one : length x.finds.last.seen ≡ 1 = ap (λ (d : Part). length d.seen) x.finds.finds.4.3 in
     omega (
       arith,
       all,
@@ -331,7 +347,7 @@ reads_the_bound r = let low = r.0 in omega (arith, low)
 
 -- ---- records with the same entries, share and own handles
 same : HasSame part record part { pins = a_stand ∷ [] }
-same = (refl, refl, refl, refl, refl)
+same = (refl, refl, refl, refl, refl, refl)
 
 other_fresh : HasSame record part { fresh = made ∷ [] } part → ⊥
 other_fresh s = eqb-false 1 0 refl (ap length s.0)
@@ -348,6 +364,9 @@ other_share s = eqb-false 64 40 refl s.3
 other_own : HasSame owner part → ⊥
 other_own s = eqb-false 1 0 refl (ap length s.4)
 
+other_clock : HasSame record part { clock = 1 } part → ⊥
+other_clock s = eqb-false 1 0 refl s.5
+
 -- ---- a pass of a configuration that is not accepted, and a seat with a slot in hand
 not_accepted : (s : Shared) (p : Pass) → s.config ≡ record two { k = 0 } → IsPassOf s p → ⊥
 not_accepted s p e i = let n : 1 ≤ 0 = (subst IsAccepted e i.accepted K).0 in omega (arith, n)
@@ -357,7 +376,8 @@ spare_with_a_slot : (z : TableId) (p : SeatAt) (x : ℕ × LockSlot) → p.me.1 
 spare_with_a_slot z p x e i = eqb-false 1 0 refl (ap length (sym e ∙ i.carries))
 
 -- ---- the last try of a write, and what it leaves
-ends_writing_moving : (v : View) (d : Part) → WriteCallEnds two 1 1 (12 ∷ []) answer.Moving v d → ⊥
+ends_writing_moving : {since : ℕ} (v : View) (d : Part)
+    → WriteCallEnds two 1 1 (12 ∷ []) answer.Moving since v d → ⊥
 ends_writing_moving v d (inl (place.Ok version, says, finds)) = absurd (let e = says in cc)
 ends_writing_moving v d (inl (place.Freed, says, finds)) = absurd (let e = says in cc)
 ends_writing_moving v d (inl (place.NotHere, says, finds)) = says
@@ -381,7 +401,7 @@ ends_writing_moving v d (inr asks) = asks_no_more asks
         let e : answer.Moving ≡ answer.Worn =
         subst (λ (k : Job). IsAnswerTo again k answer.Moving) is x in cc
 
-    asks_no_more : AsksFor two (IsWriteJob 1 1 (12 ∷ [])) answer.Moving 1 v d → ⊥
+    asks_no_more : {since : ℕ} → AsksFor two (IsWriteJob 1 1 (12 ∷ [])) answer.Moving 1 since v d → ⊥
     asks_no_more a = no_answer (again_in d.turns) a.turned.job a.turned.of a.turned.ends.0
 
 writes_moving : (v w : View) → WriteAnswers two 1 1 (12 ∷ []) answer.Moving v w → ⊥
@@ -396,7 +416,7 @@ reads_no_bytes : (bytes : List ℕ)
 reads_no_bytes bytes (inl (none, tells)) = tells
 reads_no_bytes bytes (inr x) = let all : 0 ≡ x.before.ever + x.last.ever =
     ap (λ (d : Part). d.ever) x.part in
-    let one : x.last.ever ≡ 1 = ap (λ (d : Part). d.ever) x.finds.part in
+    let one : x.last.ever ≡ 1 = ap (λ (d : Part). d.ever) x.finds.part.3 in
     omega (arith, all, one)
 
 evicts_under_a_pin : JobReads jobs.Evict [] (Ok answer.Worn) part record nothing_more { ever = 1 } → ⊥

@@ -1,7 +1,7 @@
 -- Worked examples of turns that hand an order out or take one.
 use Rattle.std.proofs.Common.{◌≡◌, ℕ, ◌<◌, true, false, List, [], ◌∷◌, ◌++◌, length, Option, None}
 use Rattle.std.proofs.Common.{Some, Ok, Err, refl, sym, ap, ◌∙◌, subst, inl, inr, lit<, lit≤, arith}
-use Rattle.std.proofs.Common.{length-append}
+use Rattle.std.proofs.Common.{length-append, max, ◌≤◌}
 use Rattle.std.proofs.lemmas.Bool.{eqb-false}
 use Rattle.std.specs.Borrow.{Bor}
 use Rattle.std.specs.FinMap as map
@@ -32,6 +32,7 @@ use Rattle.cb_core.specs.Turned.{counted}
 use Rattle.cb_core.specs.Unavailable.{IsInLost}
 use Rattle.cb_rule.specs.declared.view.View.{View}
 use Rattle.cb_rule.specs.Steps.{IsNewest, Knows, with_look}
+use Rattle.cb_record.specs.Finding.{find_of, finding}
 use Rattle.cb_record.specs.Parts.{Part, grown, nothing_more}
 use Rattle.cb_shared.specs.declared.asked.Asked.{Asked}
 use Rattle.cb_shared.specs.declared.asked.Asked.TheVariants as asks
@@ -387,7 +388,7 @@ fetched_by : TurnBy two (jobs.Fetch (the_handle 1)) (Ok answer.Worn) part fetche
 fetched_by = (
   worn_part (jobs.Fetch (the_handle 1)),
   adds_worn (jobs.Fetch (the_handle 1)) part refl refl knows_made
-      (record { had = refl; left = refl; old = refl; ended = refl }) refl,
+      (record { had = refl; left = refl; old = refl; ended = refl }) refl (lit≤ tt),
   refl,
 )
 
@@ -409,20 +410,36 @@ fetches_and_looks (m, (e, adds, is), (d, grows, finds)) = eqb-false 1 0 refl
     ∙ (λ i. length (((adds.finds i).looks ++ (adds.reads i).looks) ++ [])))
 
 -- behind Freed the freed entry of an object that the record knows is read
+abbrev seen_freed : ℕ → Part
+seen_freed n = finding n (find_of 1 3 true n ∷ []) (looked_freed 1 3 0)
+
 fetches_and_reads : (m : View) → TurnBy two (jobs.Fetch (the_handle 1)) (Ok answer.Freed) part m
-    → IsNewest 1 3 m → Fetches answer.Freed (grown (looked_freed 1 3 0) m)
+    → IsNewest 1 3 m → Fetches answer.Freed
+    (grown (seen_freed m.clock) m)
 fetches_and_reads m turned newest = (
   m,
   turned,
   (
-    looked_freed 1 3 0,
+    seen_freed m.clock,
     refl,
     (
       (λ knows. record {
         before = nothing_more;
-        last = looked_freed 1 3 0;
+        last = seen_freed m.clock;
         lost = no_looks 1;
-        finds = (0, 3, refl, subst (IsNewest 1 3) (grown_nothing m) newest, refl);
+        finds = (
+          0,
+          3,
+          refl,
+          subst (IsNewest 1 3) (grown_nothing m) newest,
+          (
+            m.clock,
+            find_of 1 3 true m.clock ∷ [],
+            (m.clock, (let z : max m.clock 0 ≤ m.clock = omega arith in z),
+                (let z : m.clock ≤ m.clock = omega arith in z), inl refl),
+            refl,
+          ),
+        );
         part = refl;
       }),
       (λ off. absurd (off (knows_still turned.0 m turned.2))),
@@ -438,7 +455,7 @@ fetches_unread w none (m, (e, adds, is), (d, grows, finds)) =
     ap length (sym none ∙ ap (λ (v : View). v.seen) grows) in
     let parts : length d.seen ≡ length (x.last.seen ++ x.before.seen) =
     ap (λ (p : Part). length p.seen) x.part in
-    let read : length x.last.seen ≡ 1 = ap (λ (p : Part). length p.seen) x.finds.4 in
+    let read : length x.last.seen ≡ 1 = ap (λ (p : Part). length p.seen) x.finds.4.3 in
     omega (
       arith,
       all,

@@ -1,5 +1,5 @@
 -- Worked parts of a read at a seat: what meets each definition, and what breaks one of its parts alone.
-use Rattle.std.proofs.Common.{◌≡◌, ℕ, ◌<◌, List, [], ◌∷◌, ◌++◌, length, None, Some, Ok, Err, refl}
+use Rattle.std.proofs.Common.{◌≡◌, ℕ, ◌<◌, true, List, [], ◌∷◌, ◌++◌, length, None, Some, Ok, Err, refl}
 use Rattle.std.proofs.Common.{sym, ap, ◌∙◌, subst, inl, inr, lit≤, lit<, arith}
 use Rattle.std.proofs.lemmas.Bool.{eqb-false}
 use Rattle.cb_member.specs.declared.no_memory.NoMemory.{NoMemory}
@@ -26,7 +26,8 @@ use Rattle.cb_shared.specs.Reading.{looked, looked_freed}
 use Rattle.cb_shared.specs.Seats.{Moves, SeatAt, record_at}
 use Rattle.cb_shared.specs.Turning.{FindsAtLast}
 use Rattle.cb_shared.specs.UnderLock.{BringAt, BroughtForRead, FreedMoves, LooksFor, TriesOn}
-use Rattle.cb_shared.proofs.WorkedGround.{calm, made, newest_made, part, two}
+use Rattle.cb_shared.proofs.ReadParts.{no_looks}
+use Rattle.cb_shared.proofs.WorkedGround.{as_found_in, calm, found_in, made, newest_made, part, two}
 use Rattle.cb_shared.proofs.WorkedSeat.{Has, refusing}
 use Rattle.cb_shared.proofs.WorkedUnder.{far, last, stood}
 
@@ -78,7 +79,7 @@ freed_is_read h v d x each =
     let below : Each (λ (s : Seen). s.handle < h) (x.last.seen ++ x.before.seen) =
     subst (λ (e : Part). Each (λ (s : Seen). s.handle < h) e.seen) x.part each in
     let first : h < h = (subst (λ (e : Part). Each (λ (s : Seen). s.handle < h) (e.seen ++ x.before.seen))
-    x.finds.4 below).0 in omega (arith, first)
+    x.finds.4.3 below).0 in omega (arith, first)
 
 -- ---- the tries of a read on a seat that found no memory: looks alone
 module _ (e : NoMemory) (p q : SeatAt) where
@@ -88,7 +89,13 @@ module _ (e : NoMemory) (p q : SeatAt) where
     moves,
     (refl, refl),
     tt,
-    λ u same. record { looks = look_at 1 calm ∷ []; on = (refl, tt); part = refl },
+    λ u same. record {
+      looks = look_at 1 calm ∷ [];
+      clock = 0;
+      finds = [];
+      on = (refl, tt);
+      part = refl;
+    },
   )
 
   tries_elsewhere : (q.table_id ≡ p.table_id → ⊥) → TriesOn two 1 (Err e) p q → ⊥
@@ -98,7 +105,7 @@ module _ (e : NoMemory) (p q : SeatAt) where
   tries_and_pins none is (d, moves, quiet, range, tries) =
       let one = sym is ∙ ap (λ (m : Sat). m.0.ever) moves.2 in
       let zero = ap (λ (x : Part). x.ever)
-      (tries (record_at p) (refl, refl, refl, refl, refl)).part in
+      (tries (record_at p) (refl, refl, refl, refl, refl, refl)).part in
       omega (arith, one, zero, none)
 
   tries_and_writes : (record_at p).written ≡ [] → (record_at q).written ≡ made ∷ []
@@ -116,24 +123,31 @@ module _ (e : NoMemory) (p q : SeatAt) where
   -- one that found an object freed that is out of range
   tries_out_of_range : TriesOn two 2 (Ok answer.Freed) p q → ⊥
   tries_out_of_range (d, moves, quiet, range, tries) =
-      freed_is_read 2 (record_at p) d (tries (record_at p) (refl, refl, refl, refl, refl)) range
+      freed_is_read 2 (record_at p) d (tries (record_at p) (refl, refl, refl, refl, refl, refl)) range
 
 -- ---- the freed entry of an object was looked for
 module _ (p q : SeatAt) where
   looks_for : record_at p ≡ part
-      → Moves p q (grown (sum nothing_more (looked_freed 1 3 0)) (record_at p))
+      → Moves p q (grown (sum nothing_more (found_in 3 true (looked_freed 1 3 0))) (record_at p))
       → LooksFor two 1 p q
   looks_for at moves = (
-    sum nothing_more (looked_freed 1 3 0),
+    sum nothing_more (found_in 3 true (looked_freed 1 3 0)),
     moves,
     (refl, refl),
     (lit< tt, tt),
-    subst (λ (v : View). FindsAtLast 1 found.Freed v (sum nothing_more (looked_freed 1 3 0))) (sym at)
+    subst (λ (v : View). FindsAtLast 1 found.Freed v
+        (sum nothing_more (found_in 3 true (looked_freed 1 3 0)))) (sym at)
         (record {
           before = nothing_more;
-          last = looked_freed 1 3 0;
-          lost = record { looks = []; on = tt; part = refl };
-          finds = (0, 3, refl, newest_made, refl);
+          last = found_in 3 true (looked_freed 1 3 0);
+          lost = no_looks 1;
+          finds = (
+            0,
+            3,
+            refl,
+            newest_made,
+            as_found_in 3 true (grown nothing_more part) (looked_freed 1 3 0) (lit≤ tt),
+          );
           part = refl;
         }),
   )

@@ -24,8 +24,9 @@ use Rattle.cb_record.specs.Deeds.{Deed, deed, happened, happening}
 use Rattle.cb_record.specs.Parts.{Part, grown, nothing_more, sum}
 use Rattle.cb_shared.specs.OrdersKept.{LeavesOrder}
 use Rattle.cb_shared.specs.Reading.{looked, looked_freed}
-use Rattle.cb_shared.proofs.CallSteps.{read_lacks}
-use Rattle.cb_shared.proofs.WorkedGround.{a_stand, away, calm, knows_made, made, moving}
+use Rattle.cb_shared.proofs.CallSteps.{read_lacks, vain_none}
+use Rattle.cb_shared.proofs.WorkedGround.{a_stand, as_found_in, as_next_in, away, calm, found_in}
+use Rattle.cb_shared.proofs.WorkedGround.{knows_made, made, moving, next_in}
 use Rattle.cb_shared.proofs.WorkedGround.{newest_made, not_second, part, pinned, two, version_in}
 use Rattle.cb_shared.proofs.WorkedTurns.{adds_worn, worn_part}
 use Rattle.cb_shared.proofs.WorkedWrites.{write_it}
@@ -92,6 +93,8 @@ pub in_vain : IsInVain None (AtThis 1) (IsUnanswered (IsReadJob 1)) (looked 1 mo
 in_vain = record {
   looks = look_at 1 moving ∷ [];
   turns = [];
+  clock = 0;
+  finds = [];
   at = (refl, tt);
   of = tt;
   idle = tt;
@@ -122,7 +125,8 @@ made_in_vain t work reply x =
     ((λ i. happening (sym work i) (sym reply i)) ∙ idle.0))
 
 -- ---- a write in place, by what it adds
-written_at_once : IsWrittenOnce 1 1 (12 ∷ []) 4 part (written_once 1 calm 4 (2826 ∷ []) (3082 ∷ []))
+written_at_once : IsWrittenOnce 1 1 (12 ∷ []) 4 part
+    (next_in 3 (written_once 1 calm 4 (2826 ∷ []) (3082 ∷ [])))
 written_at_once = record {
   word = calm;
   old = 2826 ∷ [];
@@ -134,30 +138,31 @@ written_at_once = record {
   newest = newest_made;
   next = refl;
   write = write_it;
-  part = refl;
+  part = as_next_in 3 part (written_once 1 calm 4 (2826 ∷ []) (3082 ∷ [])) (lit≤ tt);
 }
 
 -- but not under a pin of its own
 writes_what_it_pins : IsWrittenOnce 1 1 (12 ∷ []) 4 (record part { pins = a_stand ∷ [] })
-    (written_once 1 calm 4 (2826 ∷ []) (3082 ∷ [])) → ⊥
+    (next_in 3 (written_once 1 calm 4 (2826 ∷ []) (3082 ∷ []))) → ⊥
 writes_what_it_pins p = eqb-false 1 0 refl p.loose
 
 keeps_its_version : IsWrittenOnce 1 1 (12 ∷ []) 3 part
-    (written_once 1 calm 3 (2826 ∷ []) (3082 ∷ [])) → ⊥
+    (next_in 2 (written_once 1 calm 3 (2826 ∷ []) (3082 ∷ []))) → ⊥
 keeps_its_version p = let next = p.next in let e : p.last ≡ 2 = omega (arith, next) in
     not_second (subst (λ (n : ℕ). IsNewest 1 n part) e p.newest)
 
 writes_twice : IsWrittenOnce 1 1 (12 ∷ []) 4 part
-    (record (written_once 1 calm 4 (2826 ∷ []) (3082 ∷ [])) { written = made ∷ made ∷ [] }) → ⊥
-writes_twice p = eqb-false 2 1 refl (ap (λ (d : Part). length d.written) p.part)
+    (next_in 3 (record (written_once 1 calm 4 (2826 ∷ []) (3082 ∷ [])) { written = made ∷ made ∷ [] }))
+    → ⊥
+writes_twice p = eqb-false 2 1 refl (ap (λ (d : Part). length d.written) p.part.3)
 
 writes_none : IsWrittenOnce 1 1 (12 ∷ []) 4 part
-    (record (written_once 1 calm 4 (2826 ∷ []) (3082 ∷ [])) { written = [] }) → ⊥
-writes_none p = eqb-false 0 1 refl (ap (λ (d : Part). length d.written) p.part)
+    (next_in 3 (record (written_once 1 calm 4 (2826 ∷ []) (3082 ∷ [])) { written = [] })) → ⊥
+writes_none p = eqb-false 0 1 refl (ap (λ (d : Part). length d.written) p.part.3)
 
 another_version : IsWrittenOnce 1 1 (12 ∷ []) 5 part
-    (written_once 1 calm 4 (2826 ∷ []) (3082 ∷ [])) → ⊥
-another_version p = eqb-false 4 5 refl (ap (λ (d : Part). version_in d.written) p.part)
+    (next_in 4 (written_once 1 calm 4 (2826 ∷ []) (3082 ∷ []))) → ⊥
+another_version p = eqb-false 4 5 refl (ap (λ (d : Part). version_in d.written) p.part.3)
 
 -- ---- replies of a write in place
 says_version : SaysAs (place.Ok 4) (answer.Version 4)
@@ -168,23 +173,23 @@ says_nothing_of_a_race x = x
 
 -- ---- the last try
 reads_freed_at_last : EndsAtLast (AtThis 1) (IsUnanswered (IsReadJob 1))
-    (ReadCallEnds two 1 answer.Freed)
-    part (sum (looked 1 moving) (looked_freed 1 3 0))
+    (ReadCallEnds two 1 answer.Freed 0)
+    part (sum (looked 1 moving) (found_in 3 true (looked_freed 1 3 0)))
 reads_freed_at_last = record {
   before = looked 1 moving;
-  last = looked_freed 1 3 0;
+  last = found_in 3 true (looked_freed 1 3 0);
   in_vain = in_vain;
   ends_so = inl (
     0,
     3,
     refl,
     record { written = newest_made.written; seen = newest_made.seen; lone = newest_made.lone },
-    refl,
+    as_found_in 3 true (grown (looked 1 moving) part) (looked_freed 1 3 0) (lit≤ tt),
   );
   part = refl;
 }
 
-answers_moving : EndsAtLast (AtThis 1) (IsUnanswered (IsReadJob 1)) (ReadCallEnds two 1 answer.Moving)
+answers_moving : EndsAtLast (AtThis 1) (IsUnanswered (IsReadJob 1)) (ReadCallEnds two 1 answer.Moving 0)
     part (looked 1 moving) → ⊥
 answers_moving x = read_lacks two 1 answer.Moving _ x.last (λ t. t) x.ends_so
 
@@ -198,11 +203,11 @@ gives_worn = (
   record {
     before = nothing_more;
     last = worn_part (jobs.Make (10 ∷ []));
-    in_vain = record { looks = []; turns = []; at = tt; of = tt; idle = tt; kept = tt; part = refl };
+    in_vain = vain_none AtNone (IsUnanswered (OfThis (jobs.Make (10 ∷ []))));
     ends_so = (
       inr tt,
       adds_worn (jobs.Make (10 ∷ [])) part refl refl knows_made
-          (record { had = refl; left = refl; old = refl; ended = refl }) refl,
+          (record { had = refl; left = refl; old = refl; ended = refl }) refl (lit≤ tt),
     );
     part = refl;
   },
@@ -223,47 +228,56 @@ gives_moving (d, x, is) = moving_is_no_answer (again_in x.last.turns) x.ends_so.
 
 -- ---- a turn that was asked for where a look found the object far
 abbrev seen : ℕ → View
-seen word = grown (looked 1 word) part
+seen word = grown (found_in 3 false (looked 1 word)) part
 
-asks_for : AsksFor two (Brings 1) answer.Worn 1 (seen away) (worn_part (jobs.Swap (the_handle 1)))
+asks_for : AsksFor two (Brings 1) answer.Worn 1 0 (seen away) (worn_part (jobs.Swap (the_handle 1)))
 asks_for = record {
   away = (refl, refl);
+  version = 3;
+  there = (0, lit≤ tt, lit≤ tt, inl refl);
   turned = record {
     job = jobs.Swap (the_handle 1);
     of = inl refl;
     ends = (
       tt,
       adds_worn (jobs.Swap (the_handle 1)) (seen away) refl refl
-          knows_made (record { had = refl; left = refl; old = refl; ended = refl }) refl,
+          knows_made (record { had = refl; left = refl; old = refl; ended = refl }) refl (lit≤ tt),
     );
   };
 }
 
 -- the turn alone, without a look
-asks_blindly : (d : Part) → AsksFor two (Brings 1) answer.Worn 1 part d → ⊥
+asks_blindly : (d : Part) → AsksFor two (Brings 1) answer.Worn 1 0 part d → ⊥
 asks_blindly d a = a.away
 
 -- the look found it being moved
-asks_of_moving : (d : Part) → AsksFor two (Brings 1) answer.Worn 1 (seen moving) d → ⊥
+asks_of_moving : (d : Part) → AsksFor two (Brings 1) answer.Worn 1 0 (seen moving) d → ⊥
 asks_of_moving d a = eqb-false 3 1 refl (ap state_number a.away.1)
 
+-- a call that began later did not find it far itself
+asks_by_an_earlier_look : (d : Part) → AsksFor two (Brings 1) answer.Worn 1 1 (seen away) d → ⊥
+asks_by_an_earlier_look d a =
+    let low = a.there.1 in let high = a.there.2 in omega (arith, low, high)
+
 -- without a turn
-asks_nothing : AsksFor two (Brings 1) answer.Worn 1 (seen away) (looked 1 away) → ⊥
+asks_nothing : AsksFor two (Brings 1) answer.Worn 1 0 (seen away) (looked 1 away) → ⊥
 asks_nothing a = eqb-false 0 1 refl (ap (λ (d : Part). length d.turns) a.turned.ends.1.part)
 
 -- ---- a write in place after one try in vain
 abbrev written_late : Part
-written_late = sum (looked 1 moving) (written_once 1 calm 4 (2826 ∷ []) (3082 ∷ []))
+written_late = sum (looked 1 moving) (next_in 3 (written_once 1 calm 4 (2826 ∷ []) (3082 ∷ [])))
 
 writes_at_last : WriteAnswers two 1 1 (12 ∷ []) (answer.Version 4) part (grown written_late part)
 writes_at_last = (
   written_late,
   record {
     before = looked 1 moving;
-    last = written_once 1 calm 4 (2826 ∷ []) (3082 ∷ []);
+    last = next_in 3 (written_once 1 calm 4 (2826 ∷ []) (3082 ∷ []));
     in_vain = record {
       looks = look_at 1 moving ∷ [];
       turns = [];
+      clock = 0;
+      finds = [];
       at = (refl, tt);
       of = tt;
       idle = tt;
@@ -288,7 +302,8 @@ writes_at_last = (
         };
         next = refl;
         write = write_it;
-        part = refl;
+        part = as_next_in 3 (grown (looked 1 moving) part)
+            (written_once 1 calm 4 (2826 ∷ []) (3082 ∷ [])) (lit≤ tt);
       },
     );
     part = refl;

@@ -1,7 +1,8 @@
 -- Worked reads of a seat, and what a pass keeps: what meets each definition, and what breaks one of
 -- its parts alone.
 use Rattle.std.proofs.Common.{◌≡◌, ℕ, zero, suc, ◌+◌, ◌<◌, List, [], ◌∷◌, length, refl}
-use Rattle.std.proofs.Common.{sym, ap, ◌∙◌, subst, inl, inr, lit<, arith}
+use Rattle.std.proofs.Common.{true, false, true≢false, sym, ap, ◌∙◌, subst, inl, inr, lit<, lit≤, arith}
+use Rattle.std.proofs.Common.{◌≤◌}
 use Rattle.std.proofs.lemmas.Bool.{eqb-false}
 use Rattle.std.specs.Prelude.{slice_index}
 use Rattle.atomic_table.specs.Table.{Step}
@@ -29,8 +30,11 @@ use Rattle.cb_shared.specs.Reading.{FindsGone, FindsOther, FindsWord, IsReadAt, 
 use Rattle.cb_shared.specs.Reading.{IsUnderPin, ReadAt, ReadMoves, looked, looked_freed}
 use Rattle.cb_shared.specs.Reading.{looked_twice, with_read}
 use Rattle.cb_shared.specs.Sealing.{AnyWord, no_view, unsealed}
-use Rattle.cb_shared.specs.Seats.{Acts, Moves, SeatAt, record_at}
-use Rattle.cb_shared.proofs.WorkedGround.{a_pin, a_stand, away, calm, full, made, moving}
+use Rattle.cb_record.specs.Finding.{find_of}
+use Rattle.cb_rule.specs.declared.view.Find.{Find}
+use Rattle.cb_shared.specs.Seats.{Acts, FindsMoves, MayMove, Moves, SeatAt, record_at}
+use Rattle.cb_shared.proofs.WorkedGround.{a_pin, a_stand, as_found_in, away, calm, found_in, full}
+use Rattle.cb_shared.proofs.WorkedGround.{made, moving}
 use Rattle.cb_shared.proofs.WorkedGround.{newest_made, not_second, part, pinned, two, word_in}
 use Rattle.cb_shared.proofs.WorkedReads.{eight, eight_bytes}
 
@@ -64,40 +68,54 @@ read_no_refusal : IsReadRefusal calm (reads.Bytes 3 eight) → ⊥
 read_no_refusal g = g
 
 -- ---- what a look found
-finds_word : FindsWord 1 (λ w. state_of w ≡ state.Far) (looked 1 away)
-finds_word = (away, refl, refl)
+-- a freed object is none that was there
+finds_it_freed : FindsWord 1 (λ w. state_of w ≡ state.Far) part (found_in 3 true (looked 1 away)) → ⊥
+finds_it_freed (word, far, version, (n, fs, (at, low, high, there), is)) =
+    none fs (ap (λ (d : Part). d.finds) is) there
+  where
+    none : (xs : List Find) → find_of 1 3 true 0 ∷ [] ≡ xs → Has (find_of 1 version false at) xs → ⊥
+    none xs e has = go (subst (Has (find_of 1 version false at)) (sym e) has)
+      where
+        go : Has (find_of 1 version false at) (find_of 1 3 true 0 ∷ []) → ⊥
+        go (inl same) = true≢false (ap (λ (f : Find). f.freed) same)
+        go (inr nil) = nil
 
-finds_another : FindsWord 1 (λ w. state_of w ≡ state.Far) (looked 1 calm) → ⊥
-finds_another x = eqb-false 2 1 refl (ap state_looked x.2 ∙ ap state_number x.1)
+finds_word : FindsWord 1 (λ w. state_of w ≡ state.Far) part (found_in 3 false (looked 1 away))
+finds_word = (away, refl, 3, as_found_in 3 false part (looked 1 away) (lit≤ tt))
 
-finds_twice : FindsWord 1 (λ w. state_of w ≡ state.Far) (looked_twice 1 away away) → ⊥
-finds_twice x = eqb-false 2 1 refl (ap (λ (d : Part). length d.looks) x.2)
+finds_another : FindsWord 1 (λ w. state_of w ≡ state.Far) part (found_in 3 false (looked 1 calm)) → ⊥
+finds_another x = eqb-false 2 1 refl (ap state_looked x.3.3 ∙ ap state_number x.1)
+
+finds_twice : FindsWord 1 (λ w. state_of w ≡ state.Far) part
+    (found_in 3 false (looked_twice 1 away away)) → ⊥
+finds_twice x = eqb-false 2 1 refl (ap (λ (d : Part). length d.looks) x.3.3)
 
 abbrev version_in_seen : List Seen → ℕ
 version_in_seen [] = 0
 version_in_seen (s ∷ ss) = s.version
 
-finds_gone : FindsGone 1 part (looked_freed 1 3 0)
-finds_gone = (0, 3, refl, newest_made, refl)
+finds_gone : FindsGone 1 part (found_in 3 true (looked_freed 1 3 0))
+finds_gone =
+    (0, 3, refl, newest_made, as_found_in 3 true part (looked_freed 1 3 0) (lit≤ tt))
 
-gone_and_here : FindsGone 1 part (looked_freed 1 3 calm) → ⊥
-gone_and_here x = eqb-false 2 0 refl (ap state_looked x.4 ∙ ap state_number x.2)
+gone_and_here : FindsGone 1 part (found_in 3 true (looked_freed 1 3 calm)) → ⊥
+gone_and_here x = eqb-false 2 0 refl (ap state_looked x.4.3 ∙ ap state_number x.2)
 
-gone_before : FindsGone 1 part (looked_freed 1 2 0) → ⊥
+gone_before : FindsGone 1 part (found_in 2 true (looked_freed 1 2 0)) → ⊥
 gone_before x = not_second (subst (λ (n : ℕ). IsNewest 1 n part)
-    (sym (ap (λ (d : Part). version_in_seen d.seen) x.4)) x.3)
+    (sym (ap (λ (d : Part). version_in_seen d.seen) x.4.3)) x.3)
 
-gone_unread : FindsGone 1 part (looked 1 0) → ⊥
-gone_unread x = eqb-false 0 1 refl (ap (λ (d : Part). length d.seen) x.4)
+gone_unread : FindsGone 1 part (found_in 3 true (looked 1 0)) → ⊥
+gone_unread x = eqb-false 0 1 refl (ap (λ (d : Part). length d.seen) x.4.3)
 
 finds_other : FindsOther 1 calm pinned (looked_twice 1 calm pinned)
-finds_other = (eqb-false pinned calm refl, refl)
+finds_other = (eqb-false pinned calm refl, (0, [], refl))
 
 other_is_the_same : FindsOther 1 calm calm (looked_twice 1 calm calm) → ⊥
 other_is_the_same x = x.0 refl
 
 other_looked_once : FindsOther 1 calm pinned (looked 1 pinned) → ⊥
-other_looked_once x = eqb-false 1 2 refl (ap (λ (d : Part). length d.looks) x.1)
+other_looked_once x = eqb-false 1 2 refl (ap (λ (d : Part). length d.looks) x.1.2)
 
 -- ---- a read at the word that was seen
 read_record : with_read 1 calm 3 (2826 ∷ []) part ≡ record part {
@@ -112,7 +130,7 @@ words_in_seen [] = []
 words_in_seen (s ∷ ss) = s.words
 
 is_read_at : (p q : SeatAt) → record_at p ≡ part
-    → Moves p q (with_read 1 calm 3 (2826 ∷ []) (record_at p))
+    → FindsMoves 1 3 false p q (with_read 1 calm 3 (2826 ∷ []) (record_at p))
     → IsReadAt 1 calm 3 eight p q
 is_read_at p q e m = record {
   words = 2826 ∷ [];
@@ -125,23 +143,24 @@ read_before : (p q : SeatAt) → record_at p ≡ part → (bytes : List ℕ) →
     → ⊥
 read_before p q e bytes r = not_second (subst (λ (v : View). IsNewest 1 2 v) e r.newest)
 
-read_no_bytes : (p q : SeatAt) → record_at q ≡ with_read 1 calm 3 (2826 ∷ []) (record_at p)
+read_no_bytes : (p q : SeatAt)
+    → (record_at q).seen ≡ (with_read 1 calm 3 (2826 ∷ []) (record_at p)).seen
     → IsReadAt 1 calm 3 [] p q → ⊥
 read_no_bytes p q f r =
     let same : 2826 ∷ [] ≡ r.words =
-    ap (λ (v : View). words_in_seen v.seen) (sym f ∙ ap (λ (m : Sat). m.0) r.left.2) in
+    ap words_in_seen (sym f ∙ ap (λ (m : Sat). m.0.seen) r.left.3.2) in
     eqb-false 0 8 refl (ap (λ (xs : List ℕ). length xs)
     (r.bytes_are ∙ ap (λ (ws : List ℕ). bytes_in ws 8) (sym same) ∙ sym eight_bytes))
 
 read_unlooked : (p q : SeatAt) → record_at p ≡ part → record_at q ≡ part
     → IsReadAt 1 calm 3 eight p q → ⊥
-read_unlooked p q e f r = eqb-false 0 1 refl (ap looks_of (sym f ∙ ap (λ (m : Sat). m.0) r.left.2)
+read_unlooked p q e f r = eqb-false 0 1 refl (ap looks_of (sym f) ∙ ap (λ (m : Sat). looks_of m.0) r.left.3.2
     ∙ ap (λ (v : View). suc (looks_of v)) e)
 
 at_word : (p q : SeatAt) → IsReadAt 1 calm 3 eight p q → ReadAt 1 calm (reads.Bytes 3 eight) p q
 at_word p q r = r
 
-raced : (p q : SeatAt) → Moves p q (with_look 1 moving (record_at p))
+raced : (p q : SeatAt) → MayMove p q (with_look 1 moving (record_at p))
     → ReadAt 1 calm (reads.Raced calm moving) p q
 raced p q m = (refl, (λ e. eqb-false moving calm refl e), m)
 
@@ -153,7 +172,7 @@ raced_with_itself p q g = g.1 refl
 
 raced_unlooked : (p q : SeatAt) → record_at p ≡ part → record_at q ≡ part
     → ReadAt 1 calm (reads.Raced calm moving) p q → ⊥
-raced_unlooked p q e f g = eqb-false 0 1 refl (ap looks_of (sym f ∙ ap (λ (m : Sat). m.0) g.2.2)
+raced_unlooked p q e f g = eqb-false 0 1 refl (ap looks_of (sym f) ∙ ap (λ (m : Sat). looks_of m.0) g.2.2.2
     ∙ ap (λ (v : View). suc (looks_of v)) e)
 
 refused_at_word : (p q : SeatAt) → ReadAt 1 calm reads.Moving p q → ⊥
@@ -176,15 +195,21 @@ under_shorter_pin : (p : SeatAt) → IsUnderPin a_stand 5 7 p → ⊥
 under_shorter_pin p u = eqb-false 8 7 refl (u.2)
 
 -- ---- what a read leaves of a seat
-read_moves : (p q : SeatAt) → Moves p q (grown (looked 1 away) (record_at p))
+read_moves : (p q : SeatAt) → record_at p ≡ part
+    → Moves p q (grown (found_in 3 false (looked 1 away)) (record_at p))
     → ReadMoves 1 reads.NotHere p q
-read_moves p q m = (looked 1 away, m, (away, refl, refl))
+read_moves p q e m = (
+  found_in 3 false (looked 1 away),
+  m,
+  (away, refl, 3, as_found_in 3 false (record_at p) (looked 1 away)
+      (subst (λ (v : View). v.clock ≤ 0) (sym e) (lit≤ tt))),
+)
 
 read_moves_nothing : (p q : SeatAt) → record_at p ≡ part → record_at q ≡ part
     → ReadMoves 1 reads.NotHere p q → ⊥
 read_moves_nothing p q e f g = eqb-false 0 1 refl
     (ap looks_of (sym f ∙ ap (λ (m : Sat). m.0) g.1.2)
-    ∙ ap (λ (d : Part). looks_of (grown d (record_at p))) g.2.2
+    ∙ ap (λ (d : Part). looks_of (grown d (record_at p))) g.2.3.3
     ∙ ap (λ (v : View). suc (looks_of v)) e)
 
 read_moves_elsewhere : (p q : SeatAt) → (q.table_id ≡ p.table_id → ⊥)

@@ -1,6 +1,6 @@
 -- What the worked examples are about: an object, the words that it may have, and two records.
-use Rattle.std.proofs.Common.{◌≡◌, ℕ, ◌<◌, false, List, [], ◌∷◌, ◌++◌, refl, subst, inl, inr}
-use Rattle.std.proofs.Common.{⊎_elim, arith, ap, ◌∙◌, lit<, true≢false}
+use Rattle.std.proofs.Common.{◌≡◌, ℕ, ◌+◌, ◌<◌, ◌≤◌, Bool, false, List, [], ◌∷◌, ◌++◌, refl, subst}
+use Rattle.std.proofs.Common.{inl, inr, ⊎_elim, arith, ap, ◌∙◌, lit<, lit≤, true≢false}
 use Rattle.cb_types.specs.declared.config.Config.{Config}
 use Rattle.cb_ptr.specs.Word.{state_of, state_number}
 use Rattle.cb_world.specs.declared.entry.Entry.{Entry}
@@ -13,6 +13,9 @@ use Rattle.cb_rule.specs.Own.{IsAlone}
 use Rattle.cb_rule.specs.Lists.{times, Each, Has}
 use Rattle.cb_rule.specs.Steps.{FollowsLast, HasLast, IsNewVersion, IsNewest, Knows, blank, opener}
 use Rattle.cb_rule.specs.Steps.{stand}
+use Rattle.cb_record.specs.Finding.{FindsAs, FindsIn, FindsNextAs, FindsNextIn, find_of, finding}
+use Rattle.cb_record.specs.Finding.{with_finds}
+use Rattle.cb_record.specs.Parts.{Part}
 use Rattle.cb_shared.specs.declared.pass.Pin.{Pin}
 
 -- two objects at most
@@ -169,3 +172,48 @@ not_after words follows = let z = follows (inl refl) (inl (made, inl refl, refl)
     let four : z.0 ≡ 4 = omega (arith, e) in
     let some : 0 < 0 = subst (λ (n : ℕ). 0 < times (is_version 1 n) (made ∷ [])) four z.2 in
     omega (arith, some)
+
+-- ---- finds of object 1: at a version, freed or not, when the history had no entries
+abbrev pub found : ℕ → Bool → View → View
+found version freed v = with_finds 0 (find_of 1 version freed 0 ∷ []) v
+
+pub as_found : (version : ℕ) (freed : Bool) (v u : View) → v.clock ≤ 0
+    → FindsAs 1 version freed v u (found version freed u)
+as_found version freed v u low =
+    (0, find_of 1 version freed 0 ∷ [], (0, low, lit≤ tt, inl refl), refl)
+
+-- and then the next one, by an entry
+abbrev pub found_next : ℕ → View → View
+found_next version v =
+    with_finds 1 (find_of 1 (version + 1) false 1 ∷ find_of 1 version false 0 ∷ []) v
+
+pub as_next : (version : ℕ) (v u : View) → v.clock ≤ 0
+    → FindsNextAs 1 version v u (found_next version u)
+as_next version v u low = (
+  1,
+  find_of 1 (version + 1) false 1 ∷ find_of 1 version false 0 ∷ [],
+  (0, low, lit≤ tt, inr (inl refl), inl refl),
+  refl,
+)
+
+-- so in a part
+abbrev pub found_in : ℕ → Bool → Part → Part
+found_in version freed d = finding 0 (find_of 1 version freed 0 ∷ []) d
+
+pub as_found_in : (version : ℕ) (freed : Bool) (v : View) (d : Part) → v.clock ≤ 0
+    → FindsIn 1 version freed v d (found_in version freed d)
+as_found_in version freed v d low =
+    (0, find_of 1 version freed 0 ∷ [], (0, low, lit≤ tt, inl refl), refl)
+
+abbrev pub next_in : ℕ → Part → Part
+next_in version d =
+    finding 1 (find_of 1 (version + 1) false 1 ∷ find_of 1 version false 0 ∷ []) d
+
+pub as_next_in : (version : ℕ) (v : View) (d : Part) → v.clock ≤ 0
+    → FindsNextIn 1 version v d (next_in version d)
+as_next_in version v d low = (
+  1,
+  find_of 1 (version + 1) false 1 ∷ find_of 1 version false 0 ∷ [],
+  (0, low, lit≤ tt, inr (inl refl), inl refl),
+  refl,
+)

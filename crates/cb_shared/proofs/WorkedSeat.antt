@@ -1,6 +1,6 @@
 -- Worked seats that run events, and that take and give back the far lock: what meets each definition,
 -- and what breaks one of its parts alone.
-use Rattle.std.proofs.Common.{◌≡◌, ℕ, suc, ◌<◌, true, List, [], ◌∷◌, ◌++◌, length, None, Some, inl}
+use Rattle.std.proofs.Common.{◌≤◌, ◌≡◌, ℕ, suc, ◌<◌, true, List, [], ◌∷◌, ◌++◌, length, None, Some, inl}
 use Rattle.std.proofs.Common.{refl, sym, ap, ◌∙◌, subst, true≢false, lit<, lit≤, arith}
 use Rattle.std.proofs.lemmas.Bool.{eqb-false}
 use Rattle.cb_types.specs.declared.job.Job.TheVariants as job
@@ -166,6 +166,7 @@ module _ (p q : SeatAt) where
     stood = stood 1 (lit≤ tt);
     made = λ h knows. absurd (knows_nothing h (subst (λ (m : Sat). Knows h m.0) at knows));
     kept = subst (λ (m : Sat). KeepsOrder known (far 1) m.0.order) (sym at) tt;
+    late = subst (λ (m : Sat). m.0.clock ≤ 0) (sym at) (lit≤ tt);
   }
 
   -- it keeps an order whose number was never drawn

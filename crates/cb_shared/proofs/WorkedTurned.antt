@@ -52,6 +52,7 @@ turned = record {
   job_is = refl;
   reply_is = refl;
   before = refl;
+  since = lit≤ tt;
   keeps_is = refl;
   agree = tt;
   did = inl (worn refl refl refl (refl, tt), refl);

@@ -1,5 +1,5 @@
 -- Worked turns: what meets each definition, and what breaks one of its parts alone.
-use Rattle.std.proofs.Common.{◌≡◌, ℕ, ◌+◌, ◌^◌, ◌≤◌, true, false, List, [], ◌∷◌, ◌++◌, length}
+use Rattle.std.proofs.Common.{◌≡◌, ℕ, ◌+◌, ◌^◌, ◌≤◌, max, true, false, List, [], ◌∷◌, ◌++◌, length}
 use Rattle.std.proofs.Common.{replicate, Option, None, Some, Ok, Err, refl, sym, ap, ◌∙◌, subst}
 use Rattle.std.proofs.Common.{inl, inr, lit<, lit≤, arith}
 use Rattle.std.proofs.lemmas.Bool.{eqb-false}
@@ -167,7 +167,13 @@ freed_none = refl
 
 -- ---- looks at an object
 two_looks : AreLooksAt 1 record nothing_more { looks = look_at 1 2 ∷ look_at 1 6 ∷ [] }
-two_looks = record { looks = look_at 1 2 ∷ look_at 1 6 ∷ []; on = (refl, (refl, tt)); part = refl }
+two_looks = record {
+  looks = look_at 1 2 ∷ look_at 1 6 ∷ [];
+  clock = 0;
+  finds = [];
+  on = (refl, (refl, tt));
+  part = refl;
+}
 
 another_look : AreLooksAt 1 record nothing_more { looks = look_at 0 2 ∷ [] } → ⊥
 another_look a = go a.looks a.on (ap (λ (d : Part). d.looks) a.part)
@@ -320,6 +326,7 @@ adds_refused = record {
   job_is = refl;
   reply_is = refl;
   before = refl;
+  since = lit≤ tt;
   agree = tt;
   did = refused_did;
   next = inr (refl, refl);
@@ -429,6 +436,27 @@ adds_after_another_order a = no_order (sym a.before ∙ sym (ap (λ (t : Turn). 
     first [] = refused
     first (t ∷ ts) = t
 
+-- a turn that began before the clock of the record, and one whose end the part's clock does not tell
+adds_behind_its_clock : TurnAdds two job.Evict (Ok answer.Worn) (record part { clock = 5 }) added → ⊥
+adds_behind_its_clock a =
+    let e : 4 ≡ a.turn.since = ap (λ (d : Part). since_first d.turns) a.part in
+    omega (arith, e, a.since)
+  where
+    since_first : List Turn → ℕ
+    since_first [] = 0
+    since_first (t ∷ ts) = t.since
+
+adds_untimely : TurnAdds two job.Evict (Ok answer.Worn) part (record added { clock = 3 }) → ⊥
+adds_untimely a =
+    let e : 3 ≡ max (max a.within.clock a.turn.until) a.later.clock =
+    ap (λ (d : Part). d.clock) a.part in
+    let t : 4 ≡ a.turn.until = ap (λ (d : Part). until_first d.turns) a.part in
+    omega (arith, e, t)
+  where
+    until_first : List Turn → ℕ
+    until_first [] = 0
+    until_first (t ∷ ts) = t.until
+
 -- two turns
 adds_two : TurnAdds two job.Evict (Ok answer.Worn) part (record added { turns = refused ∷ refused ∷ [] })
     → ⊥
@@ -467,9 +495,9 @@ worn_part j = turn_part (worn_turn j) [] nothing_more nothing_more
 
 pub adds_worn : (j : Job) (v : View) → OutcomeWrites j (Ok answer.Worn) []
     → JobReads j [] (Ok answer.Worn) v nothing_more → ((h : ℕ) → Knows h v → 1 ≡ h)
-    → NotesWritten (worn_turn j) [] v → v.order ≡ None
+    → NotesWritten (worn_turn j) [] v → v.order ≡ None → v.clock ≤ 4
     → TurnAdds two j (Ok answer.Worn) v (worn_part j)
-adds_worn j v wrote reads knows notes none = record {
+adds_worn j v wrote reads knows notes none low = record {
   turn = worn_turn j;
   more = [];
   within = nothing_more;
@@ -477,6 +505,7 @@ adds_worn j v wrote reads knows notes none = record {
   job_is = refl;
   reply_is = refl;
   before = sym none;
+  since = low;
   agree = tt;
   did = inl (worn refl refl refl (refl, tt), refl);
   next = inr (refl, refl);
@@ -509,9 +538,9 @@ pub noted_lacking : NotesWritten lacking [] part
 noted_lacking = record { had = refl; left = refl; old = refl; ended = refl }
 
 pub adds_lacking : (e : NoMemory) (v : View) → Did two lacking → ((h : ℕ) → Knows h v → 1 ≡ h)
-    → NotesWritten lacking [] v → v.order ≡ None
+    → NotesWritten lacking [] v → v.order ≡ None → v.clock ≤ 4
     → TurnAdds two (job.Read one) (Err e) v lacking_part
-adds_lacking e v did knows notes kept = record {
+adds_lacking e v did knows notes kept low = record {
   turn = lacking;
   more = [];
   within = nothing_more;
@@ -519,6 +548,7 @@ adds_lacking e v did knows notes kept = record {
   job_is = refl;
   reply_is = refl;
   before = sym kept;
+  since = low;
   agree = tt;
   did = did;
   next = inl (lit< tt, refl);

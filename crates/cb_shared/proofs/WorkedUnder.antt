@@ -192,6 +192,7 @@ has_taken = record {
   stood = stood 1 (lit≤ tt);
   made = λ h knows. absurd (knows_nothing h knows);
   kept = tt;
+  late = lit≤ tt;
   number = refl;
 }
 

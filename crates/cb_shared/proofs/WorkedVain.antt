@@ -2,7 +2,7 @@
 -- parts alone.
 use Rattle.std.proofs.Common.{◌≡◌, ℕ, true, false, List, [], ◌∷◌, ◌++◌, length, None}
 use Rattle.std.proofs.Common.{Some, Option, Ok, refl, sym, ap, ◌∙◌, ◌⊎◌, ◌+◌, subst, inl, inr}
-use Rattle.std.proofs.Common.{arith}
+use Rattle.std.proofs.Common.{arith, lit≤}
 use Rattle.std.proofs.lemmas.Bool.{eqb-false}
 use Rattle.std.proofs.lemmas.Option.{none-some, same_Some}
 use Rattle.cb_ptr.specs.Word.{state_number}
@@ -33,7 +33,8 @@ use Rattle.cb_shared.specs.Turning.{Did, NotesWritten, TurnAdds}
 use Rattle.cb_shared.proofs.CallSteps.{brings_lacks, read_lacks, vain_none}
 use Rattle.cb_shared.proofs.DidAlone.{turn_alone}
 use Rattle.cb_shared.proofs.ReadParts.{grown_nothing}
-use Rattle.cb_shared.proofs.WorkedGround.{away, knows_made, moving, newest_made, part, two}
+use Rattle.cb_shared.proofs.WorkedGround.{as_found_in, away, found_in, knows_made, moving, newest_made}
+use Rattle.cb_shared.proofs.WorkedGround.{part, two}
 use Rattle.cb_shared.proofs.WorkedCalls.{in_vain}
 use Rattle.cb_shared.proofs.WorkedTurns.{adds_lacking, adds_worn, lacking, lacking_part}
 use Rattle.cb_shared.proofs.WorkedTurns.{noted_lacking, worn_part, worn_turn}
@@ -57,8 +58,8 @@ abbrev turned : Turn → Part
 turned t = record nothing_more { turns = t ∷ [] }
 
 -- a turn that was asked for stands in the part
-pub asks_turns : (c : Config) (may : Job → Type 0) (r : Reply) (h : ℕ) (v : View) (d : Part)
-    → AsksFor c may r h v d → length d.turns ≡ 1
+pub asks_turns : {since : ℕ} (c : Config) (may : Job → Type 0) (r : Reply) (h : ℕ) (v : View) (d : Part)
+    → AsksFor c may r h since v d → length d.turns ≡ 1
 asks_turns c may r h v d a = ap (λ (e : Part). length e.turns) a.turned.ends.1.part
 
 -- ---- what a read tells of its object
@@ -191,7 +192,7 @@ read_of_another (of, x) = another_object of
 -- that found none; such a look alone; and one that found none to make the row
 read_lacked : (e : NoMemory) → Did two lacking → TurnLacks two read part (grown lacking_part part)
 read_lacked e did =
-    (e, (lacking_part, adds_lacking e part did knows_made noted_lacking refl, refl))
+    (e, (lacking_part, adds_lacking e part did knows_made noted_lacking refl (lit≤ tt), refl))
 
 stops : (e : NoMemory) → Did two lacking → ReadStops two 1 part (grown lacking_part part)
 stops e did = record {
@@ -227,6 +228,8 @@ a_fetch : IsInVain None AtNone (IsUnanswered (Brings 1)) (turned fetched)
 a_fetch = record {
   looks = [];
   turns = fetched ∷ [];
+  clock = 0;
+  finds = [];
   at = tt;
   of = (
     (
@@ -307,6 +310,8 @@ a_direct_one : IsInVain None AtNone (IsUnanswered (Brings 1)) (turned direct)
 a_direct_one = record {
   looks = [];
   turns = direct ∷ [];
+  clock = 0;
+  finds = [];
   at = tt;
   of = (fetched_in_vain, tt);
   idle = (refl, tt);
@@ -379,19 +384,20 @@ stops_twice x is = two_turns x.lacks
         ∙ ap (λ (v : View). length (a.turn ∷ v.turns)) is)
 
 -- ---- a read in place
-reads_freed : ReadsInPlace 1 answer.Freed part (looked_freed 1 3 0)
-reads_freed = (0, 3, refl, newest_made, refl)
+reads_freed : ReadsInPlace 1 answer.Freed part (found_in 3 true (looked_freed 1 3 0))
+reads_freed =
+    (0, 3, refl, newest_made, as_found_in 3 true part (looked_freed 1 3 0) (lit≤ tt))
 
 reads_worn : ReadsInPlace 1 answer.Worn part (looked 1 away) → ⊥
 reads_worn x = x
 
 -- ---- the last try of a read: in place, by a turn that can't bring its object in, and by one of its own job
-ends_in_place : ReadCallEnds two 1 answer.Freed part (looked_freed 1 3 0)
+ends_in_place : ReadCallEnds two 1 answer.Freed 0 part (found_in 3 true (looked_freed 1 3 0))
 ends_in_place = inl reads_freed
 
 -- one after a look that found the object far: by its newest look
 abbrev seen_far : View
-seen_far = grown (looked 1 away) part
+seen_far = grown (found_in 3 false (looked 1 away)) part
 
 found_it_far : FoundFar 1 seen_far.looks
 found_it_far = (refl, refl)
@@ -407,7 +413,7 @@ never_looked x = x
 
 pub worn_swap : TurnAdds two swap (Ok answer.Worn) seen_far (worn_part swap)
 worn_swap = adds_worn swap seen_far refl refl knows_made
-    (record { had = refl; left = refl; old = refl; ended = refl }) refl
+    (record { had = refl; left = refl; old = refl; ended = refl }) refl (lit≤ tt)
 
 swap_answers : AnswersBy two (Brings 1) answer.Worn seen_far (worn_part swap)
 swap_answers = record { job = swap; of = inl refl; ends = (tt, worn_swap) }
@@ -426,33 +432,37 @@ answers_by_evict x = eqb-false 4 6 refl (ap job_index
 answers_moving : (d : Part) → AnswersBy two (Brings 1) answer.Moving seen_far d → ⊥
 answers_moving d x = brings_lacks 1 (again_in d.turns) x.job answer.Moving x.of x.ends.0
 
-ends_by_swap : ReadCallEnds two 1 answer.Worn seen_far (worn_part swap)
+ends_by_swap : ReadCallEnds two 1 answer.Worn 0 seen_far (worn_part swap)
 ends_by_swap = inr (record {
   away = found_it_far;
+  version = 3;
+  there = (0, lit≤ tt, lit≤ tt, inl refl);
   turned = record { job = swap; of = inl (inl refl); ends = (tt, worn_swap) };
 })
 
-ends_by_read : ReadCallEnds two 1 answer.Worn seen_far (worn_part read)
+ends_by_read : ReadCallEnds two 1 answer.Worn 0 seen_far (worn_part read)
 ends_by_read = inr (record {
   away = found_it_far;
+  version = 3;
+  there = (0, lit≤ tt, lit≤ tt, inl refl);
   turned = record {
     job = read;
     of = inr refl;
     ends = (
       inr tt,
       adds_worn read seen_far refl (inl (refl, tt)) knows_made
-          (record { had = refl; left = refl; old = refl; ended = refl }) refl,
+          (record { had = refl; left = refl; old = refl; ended = refl }) refl (lit≤ tt),
     );
   };
 })
 
 -- no look found it far
-ends_blindly : ReadCallEnds two 1 answer.Worn part (worn_part swap) → ⊥
+ends_blindly : ReadCallEnds two 1 answer.Worn 0 part (worn_part swap) → ⊥
 ends_blindly (inl x) = x
 ends_blindly (inr x) = x.away
 
 -- a reply that is no answer of a read
-ends_swapped : (v : View) (d : Part) → ReadCallEnds two 1 (answer.Swapped 0) v d → ⊥
+ends_swapped : (v : View) (d : Part) → ReadCallEnds two 1 (answer.Swapped 0) 0 v d → ⊥
 ends_swapped v d x = read_lacks two 1 (answer.Swapped 0) v d (λ t. t) x
 
 -- ---- turns of one bringing in: a fetch, and a swap-in that is answered
@@ -475,7 +485,7 @@ tries_by knows notes = (
     ends_so = record {
       job = swap;
       of = inl refl;
-      ends = (tt, adds_worn swap behind_fetch refl refl knows notes refl);
+      ends = (tt, adds_worn swap behind_fetch refl refl knows notes refl (lit≤ tt));
     };
     part = refl;
   },

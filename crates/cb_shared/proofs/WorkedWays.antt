@@ -33,7 +33,7 @@ use Rattle.cb_shared.specs.Ordering.{CanRun}
 use Rattle.cb_shared.specs.Ways.{HasWay, IsFound, IsLandedBy, IsLandingOf, IsLandingTold, IsWayBy}
 use Rattle.cb_shared.specs.Ways.{IsWayOf, IsWayTold, landing_told, way_told}
 use Rattle.cb_shared.specs.Writing.{FoundFarAs}
-use Rattle.cb_shared.proofs.WorkedGround.{away, calm, moving, part}
+use Rattle.cb_shared.proofs.WorkedGround.{as_found, away, calm, found, moving, part}
 use Rattle.cb_shared.proofs.WorkedVain.{fetch, read, swap, told}
 
 -- the row at the third position of the third set, of one data row and two parities
@@ -640,11 +640,11 @@ gets_no_turn (ls, is, (ts, got, none)) = eqb-false 2 0 refl
     (ap (λ (xs : List Turn). length xs) (got ∙ ap (λ (xs : List Turn). xs ++ []) none))
 
 -- ---- a look that found it far, with its word
-far_as : FoundFarAs 1 away part (with_look 1 away part)
-far_as = (refl, refl)
+far_as : FoundFarAs 1 away part (found 3 false (with_look 1 away part))
+far_as = (refl, 3, as_found 3 false part (with_look 1 away part) (lit≤ tt))
 
-far_as_moving : FoundFarAs 1 moving part (with_look 1 moving part) → ⊥
+far_as_moving : FoundFarAs 1 moving part (found 3 false (with_look 1 moving part)) → ⊥
 far_as_moving x = eqb-false 3 1 refl (ap state_number x.0)
 
-far_as_unseen : FoundFarAs 1 away part part → ⊥
-far_as_unseen x = eqb-false 0 1 refl (ap (λ (v : View). length v.looks) x.1)
+far_as_unseen : FoundFarAs 1 away part (found 3 false part) → ⊥
+far_as_unseen x = eqb-false 0 1 refl (ap (λ (v : View). length v.looks) x.2.3)

@@ -1,5 +1,6 @@
 -- Worked writes: what meets each definition, and what breaks one of its parts alone.
-use Rattle.std.proofs.Common.{◌≡◌, ◌⊎◌, ℕ, zero, suc, ◌+◌, ◌<◌, ◌≤◌, List, [], ◌∷◌, length, get_or}
+use Rattle.std.proofs.Common.{◌≡◌, ◌⊎◌, ℕ, zero, suc, ◌+◌, ◌-◌, ◌^◌, ◌<◌, ◌≤◌, true, false, List, []}
+use Rattle.std.proofs.Common.{◌∷◌, length, get_or}
 use Rattle.std.proofs.Common.{refl, sym, ap, ◌∙◌, subst, inl, inr, ⊎_elim, lit<, lit≤, arith}
 use Rattle.std.proofs.lemmas.Bool.{eqb-false}
 use Rattle.cb_ptr.specs.Word.{len_of, pins_of, state_number}
@@ -10,9 +11,11 @@ use Rattle.cb_rule.specs.declared.view.View.{View}
 use Rattle.cb_rule.specs.Steps.{HasLast, IsNewest, version_seen, with_freed_seen, with_look}
 use Rattle.cb_shared.specs.declared.answers.WriteAnswer.TheVariants.{Ok, Freed, NotHere, Moving}
 use Rattle.cb_shared.specs.declared.answers.WriteAnswer.TheVariants.{Range, Pinned, Worn, Raced}
+use Rattle.cb_record.specs.Finding.{with_finds}
 use Rattle.cb_shared.specs.Writing.{IsPastEnd, IsPinnedSo, IsWorn, IsWrittenHere, WriteGives}
 use Rattle.cb_shared.specs.Writing.{last_seen}
-use Rattle.cb_shared.proofs.WorkedGround.{a_stand, away, calm, freed_last, has_last, last_is_freed}
+use Rattle.cb_shared.proofs.WorkedGround.{a_stand, as_found, as_next, away, calm, found, found_next}
+use Rattle.cb_shared.proofs.WorkedGround.{freed_last, has_last, last_is_freed}
 use Rattle.cb_shared.proofs.WorkedGround.{last_look, last_state, made, moving, newest_later}
 use Rattle.cb_shared.proofs.WorkedGround.{newest_made, newest_whole, not_foreign, not_second, owner}
 use Rattle.cb_shared.proofs.WorkedGround.{part, pinned, shared_part, version_in, whole, words_in}
@@ -47,10 +50,14 @@ write_it = record { sized = refl; inside = inside; outside = outside }
         (arith, below))
 
 -- two looks at a word, and the entry of a version with these words
-abbrev changed : ℕ → ℕ → List ℕ → View → View
-changed w version new v = record (with_look 1 w (with_look 1 w v)) {
+abbrev wrote : ℕ → ℕ → List ℕ → View → View
+wrote w version new v = record (with_look 1 w (with_look 1 w v)) {
   written = entry 1 version 8 (2826 ∷ []) new ∷ v.written;
 }
+
+-- which comes after this one
+abbrev changed : ℕ → ℕ → List ℕ → View → View
+changed w version new v = found_next (version - 1) (wrote w version new v)
 
 is_written : IsWrittenHere 1 1 (12 ∷ []) 4 part (changed calm 4 (3082 ∷ []) part)
 is_written = record {
@@ -64,7 +71,7 @@ is_written = record {
   newest = newest_made;
   next = refl;
   write = write_it;
-  left = refl;
+  left = as_next 3 part (wrote calm 4 (3082 ∷ []) part) (lit≤ tt);
 }
 
 -- another one wrote version 4 between
@@ -80,7 +87,7 @@ is_written_later = record {
   newest = newest_later;
   next = refl;
   write = write_it;
-  left = refl;
+  left = as_next 4 part (wrote calm 5 (3082 ∷ []) part) (lit≤ tt);
 }
 
 -- with the whole share no one can have
@@ -98,11 +105,11 @@ no_next : IsWrittenHere 1 1 (12 ∷ []) 0 part (changed calm 0 (3082 ∷ []) par
 no_next p = let next = p.next in omega (arith, next)
 
 while_moving : IsWrittenHere 1 1 (12 ∷ []) 4 part (changed moving 4 (3082 ∷ []) part) → ⊥
-while_moving p = eqb-false 3 2 refl (ap last_state p.left ∙ ap state_number p.room.0)
+while_moving p = eqb-false 3 2 refl (ap last_state p.left.3 ∙ ap state_number p.room.0)
 
 while_pinned : IsWrittenHere 1 1 (12 ∷ []) 4 part (changed pinned 4 (3082 ∷ []) part) → ⊥
 while_pinned p =
-    eqb-false 1 0 refl (ap (λ (v : View). pins_of (last_look v)) p.left ∙ p.bare)
+    eqb-false 1 0 refl (ap (λ (v : View). pins_of (last_look v)) p.left.3 ∙ p.bare)
 
 -- under a pin that it has itself, and that the word does not count
 while_it_pins : IsWrittenHere 1 1 (12 ∷ []) 4 pinning (changed calm 4 (3082 ∷ []) pinning) → ⊥
@@ -110,23 +117,24 @@ while_it_pins p = eqb-false 1 0 refl p.loose
 
 past_the_end : IsWrittenHere 1 8 (12 ∷ []) 4 part (changed calm 4 (3082 ∷ []) part) → ⊥
 past_the_end p =
-    let e : calm ≡ p.word = ap last_look p.left in
+    let e : calm ≡ p.word = ap last_look p.left.3 in
     let z : 9 ≤ 8 = subst (λ (n : ℕ). 9 ≤ len_of n) (sym e) p.room.1 in omega (arith, z)
 
 not_the_bytes : IsWrittenHere 1 1 (12 ∷ []) 4 part (changed calm 4 (2826 ∷ []) part) → ⊥
 not_the_bytes p = eqb-false 11 12 refl
-    (ap (λ (v : View). memory_byte (words_in v.written) 1) p.left ∙ p.write.inside 0 (lit< tt))
+    (ap (λ (v : View). memory_byte (words_in v.written) 1) p.left.3 ∙ p.write.inside 0 (lit< tt))
 
-no_entry : IsWrittenHere 1 1 (12 ∷ []) 4 part (with_look 1 calm (with_look 1 calm part)) → ⊥
-no_entry p = eqb-false 1 2 refl (ap (λ (v : View). length v.written) p.left)
+no_entry : IsWrittenHere 1 1 (12 ∷ []) 4 part
+    (found_next 3 (with_look 1 calm (with_look 1 calm part))) → ⊥
+no_entry p = eqb-false 1 2 refl (ap (λ (v : View). length v.written) p.left.3)
 
 another_entry : IsWrittenHere 1 1 (12 ∷ []) 4 part (changed calm 5 (3082 ∷ []) part) → ⊥
-another_entry p = eqb-false 5 4 refl (ap (λ (v : View). version_in v.written) p.left)
+another_entry p = eqb-false 5 4 refl (ap (λ (v : View). version_in v.written) p.left.3)
 
 one_look : IsWrittenHere 1 1 (12 ∷ []) 4 part record (changed calm 4 (3082 ∷ []) part) {
   looks = (with_look 1 calm part).looks;
 } → ⊥
-one_look p = eqb-false 1 2 refl (ap looks_of p.left)
+one_look p = eqb-false 1 2 refl (ap looks_of p.left.3)
 
 -- ---- a version that has no next one
 abbrev last_made : View
@@ -137,8 +145,13 @@ last_is : last_seen 1 calm (2826 ∷ []) ≡ version_seen 1 18446744073709551615
 last_is = refl
 
 -- two looks at a word, at which it is read
+abbrev read_twice : ℕ → View → View
+read_twice w v =
+    record (with_look 1 w (with_look 1 w v)) { seen = last_seen 1 w (2826 ∷ []) ∷ v.seen }
+
+-- and found
 abbrev twice : ℕ → View → View
-twice w v = record (with_look 1 w (with_look 1 w v)) { seen = last_seen 1 w (2826 ∷ []) ∷ v.seen }
+twice w v = found 18446744073709551615 false (read_twice w v)
 
 is_worn : IsWorn 1 1 1 last_made (twice calm last_made)
 is_worn = record {
@@ -152,19 +165,19 @@ is_worn = record {
     seen = tt;
     lone = λ l. absurd (⊎_elim (λ (e : 40 ≡ 64). omega (arith, e)) (λ (n : ⊥). n) l);
   };
-  left = refl;
+  left = as_found 18446744073709551615 false last_made (read_twice calm last_made) (lit≤ tt);
 }
 
 worn_moving : IsWorn 1 1 1 last_made (twice moving last_made) → ⊥
-worn_moving p = eqb-false 3 2 refl (ap last_state p.left ∙ ap state_number p.room.0)
+worn_moving p = eqb-false 3 2 refl (ap last_state p.left.3 ∙ ap state_number p.room.0)
 
 worn_past_the_end : IsWorn 1 8 1 last_made (twice calm last_made) → ⊥
 worn_past_the_end p =
-    let e : calm ≡ p.word = ap last_look p.left in
+    let e : calm ≡ p.word = ap last_look p.left.3 in
     let z : 9 ≤ 8 = subst (λ (n : ℕ). 9 ≤ len_of n) (sym e) p.room.1 in omega (arith, z)
 
 worn_pinned : IsWorn 1 1 1 last_made (twice pinned last_made) → ⊥
-worn_pinned p = eqb-false 1 0 refl (ap (λ (v : View). pins_of (last_look v)) p.left ∙ p.bare)
+worn_pinned p = eqb-false 1 0 refl (ap (λ (v : View). pins_of (last_look v)) p.left.3 ∙ p.bare)
 
 worn_while_it_pins : IsWorn 1 1 1 pinning (twice calm pinning) → ⊥
 worn_while_it_pins p = eqb-false 1 0 refl p.loose
@@ -174,10 +187,11 @@ not_worn : IsWorn 1 1 1 whole (twice calm whole) → ⊥
 not_worn p = let e : 0 < 0 = p.newest.lone (inl refl) in omega (arith, e)
 
 worn_and_written : IsWorn 1 1 1 last_made (changed calm 4 (3082 ∷ []) last_made) → ⊥
-worn_and_written p = eqb-false 2 1 refl (ap (λ (v : View). length v.written) p.left)
+worn_and_written p = eqb-false 2 1 refl (ap (λ (v : View). length v.written) p.left.3)
 
-worn_unread : IsWorn 1 1 1 last_made (with_look 1 calm (with_look 1 calm last_made)) → ⊥
-worn_unread p = eqb-false 0 1 refl (ap (λ (v : View). length v.seen) p.left)
+worn_unread : IsWorn 1 1 1 last_made
+    (found 18446744073709551615 false (with_look 1 calm (with_look 1 calm last_made))) → ⊥
+worn_unread p = eqb-false 0 1 refl (ap (λ (v : View). length v.seen) p.left.3)
 
 -- ---- past the end
 ninth_byte : IsPastEnd 8 1 8 calm
@@ -226,39 +240,54 @@ fewer_than_its_own g = let e : 2 ≤ 1 = g.3 in omega (arith, e)
 by_write : WriteGives 1 1 (12 ∷ []) (Ok 4) part (changed calm 4 (3082 ∷ []) part)
 by_write = is_written
 
-by_freed : WriteGives 1 1 (12 ∷ []) Freed part (with_freed_seen 1 4 0 part)
-by_freed = (0, 4, refl, newest_later, refl)
+by_freed : WriteGives 1 1 (12 ∷ []) Freed part (found 4 true (with_freed_seen 1 4 0 part))
+by_freed =
+    (0, 4, refl, newest_later, as_found 4 true part (with_freed_seen 1 4 0 part) (lit≤ tt))
 
-by_place : WriteGives 1 1 (12 ∷ []) NotHere part (with_look 1 away part)
-by_place = (away, refl, refl)
+by_place : WriteGives 1 1 (12 ∷ []) NotHere part (found 3 false (with_look 1 away part))
+by_place = (away, refl, 3, as_found 3 false part (with_look 1 away part) (lit≤ tt))
 
-here_not_away : WriteGives 1 1 (12 ∷ []) NotHere part (with_look 1 calm part) → ⊥
-here_not_away g = eqb-false 2 1 refl (ap last_state g.2 ∙ ap state_number g.1)
+here_not_away : WriteGives 1 1 (12 ∷ []) NotHere part (found 3 false (with_look 1 calm part)) → ⊥
+here_not_away g = eqb-false 2 1 refl (ap last_state g.3.3 ∙ ap state_number g.1)
 
-by_move : WriteGives 1 1 (12 ∷ []) Moving part (with_look 1 moving part)
-by_move = (moving, refl, refl)
+by_move : WriteGives 1 1 (12 ∷ []) Moving part (found 3 false (with_look 1 moving part))
+by_move = (moving, refl, 3, as_found 3 false part (with_look 1 moving part) (lit≤ tt))
 
-away_not_moving : WriteGives 1 1 (12 ∷ []) Moving part (with_look 1 away part) → ⊥
-away_not_moving g = eqb-false 1 3 refl (ap last_state g.2 ∙ ap state_number g.1)
+away_not_moving : WriteGives 1 1 (12 ∷ []) Moving part (found 3 false (with_look 1 away part)) → ⊥
+away_not_moving g = eqb-false 1 3 refl (ap last_state g.3.3 ∙ ap state_number g.1)
 
-by_range : WriteGives 1 8 (12 ∷ []) (Range 8) part (with_look 1 calm part)
-by_range = (calm, (ninth_byte, λ l. absurd (shared_part 1 l)), refl)
+by_range : WriteGives 1 8 (12 ∷ []) (Range 8) part (found 3 false (with_look 1 calm part))
+by_range = (
+  calm,
+  (ninth_byte, λ l. absurd (shared_part 1 l)),
+  3,
+  as_found 3 false part (with_look 1 calm part) (lit≤ tt),
+)
 
-in_range : WriteGives 1 7 (12 ∷ []) (Range 8) part (with_look 1 calm part) → ⊥
+in_range : WriteGives 1 7 (12 ∷ []) (Range 8) part (found 3 false (with_look 1 calm part)) → ⊥
 in_range g = let e : 8 < 8 = g.1.0.2 in omega (arith, e)
 
 -- of one that no other pass has, the record wrote the last entry
-by_range_of_its_own : WriteGives 1 8 (12 ∷ []) (Range 8) whole (with_look 1 calm whole)
-by_range_of_its_own = (calm, (ninth_byte, λ _. has_last), refl)
+by_range_of_its_own : WriteGives 1 8 (12 ∷ []) (Range 8) whole (found 3 false (with_look 1 calm whole))
+by_range_of_its_own = (
+  calm,
+  (ninth_byte, λ _. has_last),
+  3,
+  as_found 3 false whole (with_look 1 calm whole) (lit≤ tt),
+)
 
-range_of_freed : WriteGives 1 8 (12 ∷ []) (Range 8) freed_last (with_look 1 calm freed_last) → ⊥
+range_of_freed : WriteGives 1 8 (12 ∷ []) (Range 8) freed_last (found 3 false (with_look 1 calm freed_last)) → ⊥
 range_of_freed g = last_is_freed [] (g.1.1 (inl refl))
 
-by_pins : WriteGives 1 1 (12 ∷ []) (Pinned 1) part (with_look 1 pinned part)
-by_pins =
-    (pinned, ((refl, lit≤ tt), pinned_by_another, λ l. absurd (shared_part 1 l)), refl)
+by_pins : WriteGives 1 1 (12 ∷ []) (Pinned 1) part (found 3 false (with_look 1 pinned part))
+by_pins = (
+  pinned,
+  ((refl, lit≤ tt), pinned_by_another, λ l. absurd (shared_part 1 l)),
+  3,
+  as_found 3 false part (with_look 1 pinned part) (lit≤ tt),
+)
 
-by_its_own_pin : WriteGives 1 1 (12 ∷ []) (Pinned 1) with_one (with_look 1 pinned with_one)
+by_its_own_pin : WriteGives 1 1 (12 ∷ []) (Pinned 1) with_one (found 3 false (with_look 1 pinned with_one))
 by_its_own_pin = (
   pinned,
   (
@@ -277,32 +306,33 @@ by_its_own_pin = (
       long = refl;
     },
   ),
-  refl,
+  3,
+  as_found 3 false with_one (with_look 1 pinned with_one) (lit≤ tt),
 )
 
 abbrev freed_and_pinned : View
 freed_and_pinned = record freed_last { pins = a_stand ∷ [] }
 
 pins_of_freed : WriteGives 1 1 (12 ∷ []) (Pinned 1) freed_and_pinned
-    (with_look 1 pinned freed_and_pinned) → ⊥
-pins_of_freed g = length_at g.0 (ap last_look g.2) (g.1.2 (inl refl))
+    (found 4 false (with_look 1 pinned freed_and_pinned)) → ⊥
+pins_of_freed g = length_at g.0 (ap last_look g.3.3) (g.1.2 (inl refl))
   where
     length_at : (n : ℕ) → pinned ≡ n → HasLast 1 (len_of n) freed_and_pinned → ⊥
     length_at n is x = last_is_freed (a_stand ∷ [])
         (subst (λ (k : ℕ). HasLast 1 (len_of k) freed_and_pinned) (sym is) x)
 
 -- the range is tested before the pins
-range_before_pins : WriteGives 1 8 (12 ∷ []) (Pinned 1) part (with_look 1 pinned part) → ⊥
+range_before_pins : WriteGives 1 8 (12 ∷ []) (Pinned 1) part (found 3 false (with_look 1 pinned part)) → ⊥
 range_before_pins g =
-    let e : pinned ≡ g.0 = ap last_look g.2 in
+    let e : pinned ≡ g.0 = ap last_look g.3.3 in
     let z : 9 ≤ 8 = subst (λ (n : ℕ). 9 ≤ len_of n) (sym e) g.1.0.1 in omega (arith, z)
 
-by_no_one : WriteGives 1 1 (12 ∷ []) (Pinned 1) whole (with_look 1 pinned whole) → ⊥
+by_no_one : WriteGives 1 1 (12 ∷ []) (Pinned 1) whole (found 3 false (with_look 1 pinned whole)) → ⊥
 by_no_one g = eqb-false 1 0 refl (g.1.1.2 (inl refl))
 
 by_wear : WriteGives 1 1 (12 ∷ []) Worn last_made (twice calm last_made)
 by_wear = is_worn
 
 by_race : WriteGives 1 1 (12 ∷ []) (Raced calm moving) part
-    (with_look 1 moving (with_look 1 calm part))
-by_race = ((λ e. eqb-false moving calm refl e), refl, refl)
+    (with_finds 0 [] (with_look 1 moving (with_look 1 calm part)))
+by_race = ((λ e. eqb-false moving calm refl e), (0, [], refl), refl)

@@ -181,7 +181,7 @@ module _ (h at : ℕ) (bytes : List ℕ) where
     all = ls ++ look_at h word ∷ []
 
     looks_then : u.looks ≡ all ++ v.looks
-    looks_then = looks ∙ ap (λ (z : View). ls ++ z.looks) found.1
+    looks_then = looks ∙ ap (λ (z : View). ls ++ z.looks) found.2.3
         ∙ sym (append_assoc ls (look_at h word ∷ []) v.looks)
 
     has_inside : at + length bytes ≤ len_of word → Inside all
@@ -200,14 +200,14 @@ module _ (h at : ℕ) (bytes : List ℕ) where
     pub far_writes : GetsTurns (GoAsWrite h own (at + length bytes ≤ len_of word)
         (len_of word < at + length bytes)) w u → GetsBoth (AreWrites h at bytes) v u
     far_writes (ts, got, x) =
-        (all, looks_then, (ts, got ∙ ap (λ (z : View). ts ++ z.turns) found.1, go_far ts x))
+        (all, looks_then, (ts, got ∙ ap (λ (z : View). ts ++ z.turns) found.2.3, go_far ts x))
 
     pub far_writes_on : GetsTurns (GoesOnAsWrite h own (at + length bytes ≤ len_of word)
         (len_of word < at + length bytes)) w u → GetsBoth (AreWritesOn h at bytes) v u
     far_writes_on (ts, got, (x, done)) = (
       all,
       looks_then,
-      (ts, got ∙ ap (λ (z : View). ts ++ z.turns) found.1, (go_far ts x, done)),
+      (ts, got ∙ ap (λ (z : View). ts ++ z.turns) found.2.3, (go_far ts x, done)),
     )
 
   -- none so far, and those of a try behind them
@@ -258,14 +258,14 @@ module _ (h at : ℕ) (bytes : List ℕ) where
 
   -- a write in place makes no turn
   wrote_no_turn : (a : WriteAnswer) (v : View) (d : Part) → WriteFinds h at bytes a v d → d.turns ≡ []
-  wrote_no_turn (place.Ok version) v d f = ap (λ (e : Part). e.turns) f.part
-  wrote_no_turn place.Freed v d f = ap (λ (e : Part). e.turns) f.4
-  wrote_no_turn place.NotHere v d f = ap (λ (e : Part). e.turns) f.2
-  wrote_no_turn place.Moving v d f = ap (λ (e : Part). e.turns) f.2
-  wrote_no_turn (place.Range len) v d f = ap (λ (e : Part). e.turns) f.2
-  wrote_no_turn (place.Pinned count) v d f = ap (λ (e : Part). e.turns) f.2
-  wrote_no_turn place.Worn v d f = ap (λ (e : Part). e.turns) f.part
-  wrote_no_turn (place.Raced saw found) v d f = ap (λ (e : Part). e.turns) f.1
+  wrote_no_turn (place.Ok version) v d f = ap (λ (e : Part). e.turns) f.part.3
+  wrote_no_turn place.Freed v d f = ap (λ (e : Part). e.turns) f.4.3
+  wrote_no_turn place.NotHere v d f = ap (λ (e : Part). e.turns) f.3.3
+  wrote_no_turn place.Moving v d f = ap (λ (e : Part). e.turns) f.3.3
+  wrote_no_turn (place.Range len) v d f = ap (λ (e : Part). e.turns) f.3.3
+  wrote_no_turn (place.Pinned count) v d f = ap (λ (e : Part). e.turns) f.3.3
+  wrote_no_turn place.Worn v d f = ap (λ (e : Part). e.turns) f.part.3
+  wrote_no_turn (place.Raced saw found) v d f = ap (λ (e : Part). e.turns) f.1.2
 
   pub wrote_writes : (a : WriteAnswer) (v w : View) → WriteGives h at bytes a v w
       → GetsBoth (AreWritesOn h at bytes) v w

@@ -14,6 +14,7 @@ use Rattle.cb_ptr.specs.Word.{state_of, len_of, pins_of}
 use Rattle.cb_world.specs.Write.{IsWrite}
 use Rattle.cb_world.specs.Written.{entry}
 use Rattle.cb_rule.specs.declared.turn.Turn.{Turn}
+use Rattle.cb_rule.specs.declared.view.Find.{Find}
 use Rattle.cb_rule.specs.declared.view.Look.{Look}
 use Rattle.cb_rule.specs.declared.view.View.{View}
 use Rattle.cb_rule.specs.Lists.{Each}
@@ -24,6 +25,7 @@ use Rattle.cb_shared.specs.declared.answers.WriteAnswer.{WriteAnswer}
 use Rattle.cb_shared.specs.declared.answers.WriteAnswer.TheVariants as place
 use Rattle.cb_shared.specs.Glances.{IsLastAlone}
 use Rattle.cb_record.specs.Deeds.{deed, happened}
+use Rattle.cb_record.specs.Finding.{FindsIn, FindsNextIn, IsFoundBy}
 use Rattle.cb_record.specs.Parts.{Part, Grows, grown, nothing_more, sum}
 use Rattle.cb_shared.specs.OrdersKept.{KeepInTurn, LeavesOrder}
 pub use Rattle.cb_shared.specs.Trying.{again_in, newest_tries}
@@ -115,11 +117,18 @@ pub record IsInVain (order : Option Kept) (on : ℕ → Type 0) (vain : Turn →
     : Type 0 where
   pub looks : List Look
   pub turns : List Turn
+  pub clock : ℕ
+  pub finds : List Find
   pub at : Each (λ (l : Look). on l.handle) looks
   pub of : Each vain turns
   pub idle : Each (λ (t : Turn). happened (deed t) ≡ []) turns
   pub kept : KeepInTurn order turns
-  pub part : d ≡ record nothing_more { looks = looks; turns = turns }
+  pub part : d ≡ record nothing_more {
+    looks = looks;
+    clock = clock;
+    finds = finds;
+    turns = turns;
+  }
 
 -- looks at this object, and at none
 abbrev pub AtThis : ℕ → ℕ → Type 0
@@ -173,10 +182,13 @@ abbrev pub FoundFar : ℕ → List Look → Type 0
 FoundFar h [] = ⊥
 FoundFar h (l ∷ older) = (l.handle ≡ h) × (state_of l.word ≡ state.Far)
 
--- such a turn, made where the newest look of the pass found the object far
-pub record AsksFor (c : Config) (may : Job → Type 0) (r : Reply) (h : ℕ) (v : View) (d : Part)
+-- Such a turn, made where the newest look of the pass found the object far. The call itself found it
+-- there: no earlier than this clock.
+pub record AsksFor (c : Config) (may : Job → Type 0) (r : Reply) (h since : ℕ) (v : View) (d : Part)
     : Type 0 where
   pub away : FoundFar h v.looks
+  pub version : ℕ
+  pub there : IsFoundBy h version false since v.clock v.finds
   pub turned : AnswersBy c may r v d
 
 -- a read under a pin of its own, or a look that finds the object freed
@@ -185,10 +197,10 @@ ReadsInPlace h (answer.Bytes version bytes) v d = IsReadHere h version bytes v d
 ReadsInPlace h answer.Freed v d = FindsGone h v d
 ReadsInPlace h r v d = ⊥
 
--- The last try of a read: in place, or by a turn where a look found the object far: one that can't
--- bring it in, or one of the read's own job.
-abbrev pub ReadCallEnds : Config → ℕ → Reply → View → Part → Type 0
-ReadCallEnds c h r v d = ReadsInPlace h r v d ⊎ AsksFor c (IsReadJob h) r h v d
+-- The last try of a read that began at this clock: in place, or by a turn where a look found the
+-- object far: one that can't bring it in, or one of the read's own job.
+abbrev pub ReadCallEnds : Config → ℕ → Reply → ℕ → View → Part → Type 0
+ReadCallEnds c h r since v d = ReadsInPlace h r v d ⊎ AsksFor c (IsReadJob h) r h since v d
 
 -- a look and an exchange that claimed the object at this word, and the entry that was written
 abbrev pub written_once : ℕ → ℕ → ℕ → List ℕ → List ℕ → Part
@@ -211,7 +223,7 @@ pub record IsWrittenOnce (h at : ℕ) (bytes : List ℕ) (version : ℕ) (v : Vi
     pub newest : IsNewest h last v
     pub next : version ≡ last + 1
     pub write : IsWrite old at bytes new
-    pub part : d ≡ written_once h word version old new
+    pub part : FindsNextIn h last v (written_once h word version old new) d
 
 -- a look and an exchange that claimed the object at this word, at its last version, which is read
 abbrev pub worn_once : ℕ → ℕ → List ℕ → Part
@@ -226,18 +238,18 @@ pub record IsWornOut (h at count : ℕ) (v : View) (d : Part) : Type 0 where
   pub bare : pins_of word ≡ 0
   pub loose : pins_on h v ≡ 0
   pub newest : IsNewest h (2 ^ 64 - 1) v
-  pub part : d ≡ worn_once h word words
+  pub part : FindsIn h (2 ^ 64 - 1) false v (worn_once h word words) d
 
 -- what a write in place adds, by its answer
 abbrev pub WriteFinds : ℕ → ℕ → List ℕ → WriteAnswer → View → Part → Type 0
 WriteFinds h at bytes (place.Ok version) v d = IsWrittenOnce h at bytes version v d
 WriteFinds h at bytes place.Freed v d = FindsGone h v d
-WriteFinds h at bytes place.NotHere v d = FindsWord h (λ word. state_of word ≡ state.Far) d
-WriteFinds h at bytes place.Moving v d = FindsWord h (λ word. state_of word ≡ state.Moving) d
+WriteFinds h at bytes place.NotHere v d = FindsWord h (λ word. state_of word ≡ state.Far) v d
+WriteFinds h at bytes place.Moving v d = FindsWord h (λ word. state_of word ≡ state.Moving) v d
 WriteFinds h at bytes (place.Range len) v d =
-    FindsWord h (λ word. IsPastEnd at (length bytes) len word × IsLastAlone h len v) d
+    FindsWord h (λ word. IsPastEnd at (length bytes) len word × IsLastAlone h len v) v d
 WriteFinds h at bytes (place.Pinned count) v d = FindsWord h (λ word.
-    IsRoomFor at (length bytes) word × IsPinnedSo h count v word × IsLastAlone h (len_of word) v) d
+    IsRoomFor at (length bytes) word × IsPinnedSo h count v word × IsLastAlone h (len_of word) v) v d
 WriteFinds h at bytes place.Worn v d = IsWornOut h at (length bytes) v d
 WriteFinds h at bytes (place.Raced saw found) v d = FindsOther h saw found d
 
@@ -257,22 +269,23 @@ IsNoReply place.Moving = Unit {0}
 IsNoReply (place.Raced saw found) = Unit {0}
 IsNoReply other = ⊥
 
--- The last try of a write: in place, or by a turn where a look found the object far: one that can't
--- bring it in, or one of the write's own job.
-abbrev pub WriteCallEnds : Config → ℕ → ℕ → List ℕ → Reply → View → Part → Type 0
-WriteCallEnds c h at bytes r v d =
+-- The last try of a write that began at this clock: in place, or by a turn where a look found the
+-- object far: one that can't bring it in, or one of the write's own job.
+abbrev pub WriteCallEnds : Config → ℕ → ℕ → List ℕ → Reply → ℕ → View → Part → Type 0
+WriteCallEnds c h at bytes r since v d =
     ((a : WriteAnswer) × SaysAs a r × WriteFinds h at bytes a v d)
-    ⊎ AsksFor c (IsWriteJob h at bytes) r h v d
+    ⊎ AsksFor c (IsWriteJob h at bytes) r h since v d
 
 -- the record after a read, a write, and a make or a free by turns
 abbrev pub ReadGives : Config → ℕ → Reply → View → View → Type 0
 ReadGives c h r v w = (d : Part)
-    × EndsAtLast (AtThis h) (IsUnanswered (IsReadJob h)) (ReadCallEnds c h r) v d × Grows v d w
+    × EndsAtLast (AtThis h) (IsUnanswered (IsReadJob h)) (ReadCallEnds c h r v.clock) v d
+    × Grows v d w
 
 abbrev pub WriteAnswers : Config → ℕ → ℕ → List ℕ → Reply → View → View → Type 0
 WriteAnswers c h at bytes r v w = (d : Part)
     × EndsAtLast (AtThis h) (IsUnanswered (IsWriteJob h at bytes))
-    (WriteCallEnds c h at bytes r) v d × Grows v d w
+    (WriteCallEnds c h at bytes r v.clock) v d × Grows v d w
 
 -- a handle that was made is the pass's own
 abbrev pub TurnGives : Config → Job → Reply → View → View → Type 0

@@ -8,7 +8,7 @@ use Rattle.cb_types.specs.declared.config.Config.{Config}
 use Rattle.cb_rule.specs.declared.view.Held.{Held}
 use Rattle.cb_rule.specs.declared.view.View.{View}
 use Rattle.cb_rule.specs.Steps.{IsInside, IsNewest, held_at, next_entry, version_seen, with_look}
-use Rattle.cb_shared.specs.Seats.{SeatAt, Moves, record_at}
+use Rattle.cb_shared.specs.Seats.{MayMove, SeatAt, record_at}
 
 -- the record with this one claim
 abbrev pub with_only : Held → View → View
@@ -19,8 +19,8 @@ with_only x v = record v { claims = x ∷ [] }
 pub record ClaimsHere (c : Config) (h saw w : ℕ) (p q : SeatAt) : Type 0 where
   pub won : w ≡ saw → (v : ℕ) × (words : List ℕ) × IsNewest h v (record_at p) × IsInside c saw
       × (saw < 2 ^ 53) × (length words ≡ words_for (len_of saw))
-      × Moves p q (with_only (held_at h saw v words) (with_look h saw (record_at p)))
-  pub lost : w ≢ saw → Moves p q (with_look h w (record_at p))
+      × MayMove p q (with_only (held_at h saw v words) (with_look h saw (record_at p)))
+  pub lost : w ≢ saw → MayMove p q (with_look h w (record_at p))
 
 -- the seat claims this object and no other
 abbrev pub HoldsOnly : Held → ℕ → SeatAt → Type 0

@@ -1,6 +1,6 @@
 -- The freed entry of an object after a turn of the job Swap that was answered Freed: it is read
 -- where the record knows the object.
-use Rattle.std.specs.Prelude.{◌≡◌, ℕ, Option, None, Some, Result, Ok}
+use Rattle.std.specs.Prelude.{◌≡◌, ℕ, true, Option, None, Some, Result, Ok}
 use Rattle.cb_member.specs.declared.no_memory.NoMemory.{NoMemory}
 use Rattle.cb_ptr.specs.declared.word.State.TheVariants as state
 use Rattle.cb_ptr.specs.Word.{state_of}
@@ -11,9 +11,10 @@ use Rattle.cb_types.specs.declared.reply.Reply.{Reply}
 use Rattle.cb_types.specs.declared.reply.Reply.TheVariants as answer
 use Rattle.cb_rule.specs.declared.view.View.{View}
 use Rattle.cb_rule.specs.Steps.{IsNewest, Knows, with_freed_seen, with_look}
+use Rattle.cb_rule.specs.Words.{is_gone}
 use Rattle.cb_record.specs.Parts.{Part, Grows, grown, nothing_more}
 use Rattle.cb_shared.specs.declared.reading.ReadAnswer.TheVariants as found
-use Rattle.cb_shared.specs.Seats.{Moves, SeatAt, record_at}
+use Rattle.cb_shared.specs.Seats.{FindsMoves, Moves, SeatAt, record_at}
 use Rattle.cb_shared.specs.Turning.{AreLooksAt, FindsAtLast, TurnBy}
 use Rattle.cb_shared.specs.UnderLock.{IsQuiet, ReadsBelow}
 
@@ -21,9 +22,10 @@ use Rattle.cb_shared.specs.UnderLock.{IsQuiet, ReadsBelow}
 -- object, its freed entry is read.
 pub record GlancesAny (h w : ℕ) (p q : SeatAt) : Type 0 where
   pub freed : state_of w ≡ state.Empty → Knows h (record_at p)
-      → (v : ℕ) × IsNewest h v (record_at p) × Moves p q (with_freed_seen h v w (record_at p))
+      → (v : ℕ) × IsNewest h v (record_at p)
+      × FindsMoves h v true p q (with_freed_seen h v w (record_at p))
   pub other : (state_of w ≡ state.Empty → Knows h (record_at p) → ⊥)
-      → Moves p q (with_look h w (record_at p))
+      → (v : ℕ) × FindsMoves h v (is_gone (state_of w)) p q (with_look h w (record_at p))
 
 -- the object of a swap-in that was answered Freed
 abbrev pub swapped_of : Job → Result Reply NoMemory → Option ℕ

@@ -1,6 +1,6 @@
 -- What a turn under the far lock did, and what it leaves of the record of its pass.
-use Rattle.std.specs.Prelude.{◌≡◌, ◌⊎◌, ℕ, ◌≤◌, List, [], ◌∷◌, ◌++◌, Option, None, Some, Result, Ok}
-use Rattle.std.specs.Prelude.{Err, IfOk}
+use Rattle.std.specs.Prelude.{◌≡◌, ◌⊎◌, ℕ, ◌≤◌, max, List, [], ◌∷◌, ◌++◌, Option, None, Some}
+use Rattle.std.specs.Prelude.{Result, Ok, Err, IfOk}
 use Rattle.cb_member.specs.declared.no_memory.NoMemory.{NoMemory}
 use Rattle.cb_ptr.specs.declared.word.State.TheVariants as state
 use Rattle.cb_ptr.specs.Word.{state_of}
@@ -24,6 +24,7 @@ use Rattle.cb_core.specs.Turned.{Stopped, Turned}
 use Rattle.cb_core.specs.TurnLeaves.{IsOneTurnOn, OutcomeWrites}
 use Rattle.cb_core.specs.Unavailable.{LandTells, TurnTells}
 use Rattle.cb_rule.specs.declared.turn.Turn.{Turn}
+use Rattle.cb_rule.specs.declared.view.Find.{Find}
 use Rattle.cb_rule.specs.declared.view.Look.{Look}
 use Rattle.cb_rule.specs.declared.view.View.{View}
 use Rattle.cb_rule.specs.Lists.{Each}
@@ -143,11 +144,13 @@ KnowsIt None v = Unit {0}
 abbrev pub KnowsOf : Job → View → Type 0
 KnowsOf job v = KnowsIt (object_of job) v
 
--- looks at an object, and nothing else
+-- looks at an object and what they found, and nothing else
 pub record AreLooksAt (h : ℕ) (d : Part) : Type 0 where
   pub looks : List Look
+  pub clock : ℕ
+  pub finds : List Find
   pub on : Each (λ (l : Look). l.handle ≡ h) looks
-  pub part : d ≡ record nothing_more { looks = looks }
+  pub part : d ≡ record nothing_more { looks = looks; clock = clock; finds = finds }
 
 -- Reads under a pin that came to nothing, of which looks are left, and then one with this answer.
 pub record FindsAtLast (h : ℕ) (a : ReadAnswer) (v : View) (d : Part) : Type 0 where
@@ -210,10 +213,15 @@ CountsPins (Free handle) (Ok r) v = PinsTold handle.n r v
 CountsPins (Filter handle) (Ok r) v = PinsTold handle.n r v
 CountsPins job r v = Unit {0}
 
--- the part of a turn: the turn, what it wrote, and what was read in it and after it
+-- the part of a turn: the turn, what it wrote, and what was read in it and after it; its clock tells
+-- of the turn's end too
 abbrev pub turn_part : Turn → List Entry → Part → Part → Part
 turn_part t more within later =
-    record (sum within later) { written = more; turns = t ∷ [] }
+    record (sum within later) {
+      written = more;
+      clock = max (max within.clock t.until) later.clock;
+      turns = t ∷ [];
+    }
 
 -- the handles are known to no other pass
 abbrev pub with_own : List ℕ → View → View
@@ -245,6 +253,8 @@ pub record TurnAdds (c : Config) (job : Job) (r : Result Reply NoMemory) (v : Vi
   pub job_is : turn.job ≡ job
   pub reply_is : turn.reply ≡ answer_of r
   pub before : turn.order ≡ v.order
+  -- it began no earlier than the record's clock, and had ended by the one afterwards
+  pub since : v.clock ≤ turn.since
   pub agree : Agree turn.start turn.acts
   pub did : Did c turn
   pub next : IsOneTurnOn turn.took turn.gave

@@ -57,6 +57,8 @@ pub record TakesFar (c : Config) (far : FarState) (p q : SeatAt) : Type 0 where
   pub stood : Stood c known far
   pub made : (h : ℕ) → Knows h (record_at p) → h < far.made
   pub kept : KeepsOrder known far (record_at p).order
+  -- no earlier than the seat's clock
+  pub late : (record_at p).clock ≤ entries
 
 -- The seat holds the lock, has its slot in hand, and has done nothing in its turn yet. What it
 -- knows is sound for the far state that it took, which keeps the order of its record.
@@ -113,10 +115,10 @@ IsQuiet d = (d.written ≡ []) × (d.turns ≡ [])
 abbrev pub ReadsBelow : Config → Part → Type 0
 ReadsBelow c d = Each (λ (s : Seen). s.handle < c.handles) d.seen
 
--- the two records have the same entries, the same share and the same own handles
+-- the two records have the same entries, the same share, the same own handles and the same clock
 abbrev pub HasSame : View → View → Type 0
 HasSame u v = (u.fresh ≡ v.fresh) × (u.written ≡ v.written) × (u.seen ≡ v.seen)
-    × (u.share ≡ v.share) × (u.own ≡ v.own)
+    × (u.share ≡ v.share) × (u.own ≡ v.own) × (u.clock ≡ v.clock)
 
 -- The work of a turn at the desk, and the read under a pin beside it. What it wrote is new to the
 -- record, and its reply counts the pins. Every order that was kept stays so.
@@ -242,6 +244,7 @@ pub record TurnedBy (c : Config) (job : Job) (r : Result Reply NoMemory) (keeps 
   pub job_is : turn.job ≡ job
   pub reply_is : turn.reply ≡ answer_of r
   pub before : turn.order ≡ v.order
+  pub since : v.clock ≤ turn.since
   pub keeps_is : turn.keeps ≡ keeps
   pub agree : Agree turn.start turn.acts
   pub did : Did c turn

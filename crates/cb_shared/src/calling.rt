@@ -22,10 +22,9 @@ ghost use Rattle.cb_shared.specs.Fetching.{IsOneAtMost, IsOneMore, IsOneOf, Land
 ghost use Rattle.cb_shared.specs.Fetching.{LandsOnward};
 ghost use Rattle.cb_shared.specs.Making.{MakesNew, TriesNew};
 ghost use Rattle.cb_shared.specs.Passes.{IsPassOf, record_of};
-ghost use Rattle.cb_shared.specs.Reading.{ReadFinds, looked};
+ghost use Rattle.cb_shared.specs.Reading.{LooksAtHere, ReadFinds};
 ghost use Rattle.cb_shared.specs.Turning.{KnowsOf};
-ghost use Rattle.cb_ptr.specs.declared.word.State.TheVariants as state;
-ghost use Rattle.cb_ptr.specs.Word.{len_of, state_of};
+ghost use Rattle.cb_ptr.specs.Word.{len_of};
 
 use crate::answers::WriteAnswer;
 use crate::handles::count_pins;
@@ -444,8 +443,8 @@ impl Shared {
         ensures read { IfOk result (λ answer. (d : Part)
             × Grows (record_of pass.old) d (record_of pass.new)
             × ReadFinds h.n answer (record_of pass.old) d) }
-        ensures error { OnErr result ((word : ℕ) × (state_of word ≡ state.Here)
-            × Grows (record_of pass.old) (looked h.n word) (record_of pass.new)) }
+        ensures error { OnErr result
+            (LooksAtHere h.n (record_of pass.old) (record_of pass.new)) }
     {
         count_pins(&pass.pins);
         read_pinned(&self.board.shared, &mut pass.seat, &self.config, alloc, h.n)

@@ -1,4 +1,5 @@
-ghost use Rattle.std.specs.Prelude.{◌≡◌, ℕ, ◌<◌, List, length, slice_index, Option, None, Some};
+ghost use Rattle.std.specs.Prelude.{◌≡◌, ℕ, ◌<◌, false, List, length, slice_index, Option, None};
+ghost use Rattle.std.specs.Prelude.{Some};
 ghost use Rattle.crossbeam_utils.specs.Padded.{padded_value};
 ghost use Rattle.cb_ptr.specs.declared.word.State.TheVariants as state;
 ghost use Rattle.cb_ptr.specs.Word.{pins_of, state_of};
@@ -8,6 +9,7 @@ ghost use Rattle.cb_rule.specs.Seats.{pins_on};
 ghost use Rattle.cb_rule.specs.Steps.{IsNewest, Knows, with_peek, without_pin};
 ghost use Rattle.cb_shared.specs.declared.answers.PinAnswer.{PinAnswer};
 ghost use Rattle.cb_shared.specs.declared.answers.PinAnswer.TheVariants as answer;
+ghost use Rattle.cb_record.specs.Finding.{FindsAs};
 ghost use Rattle.cb_shared.specs.Handles.{handles_of};
 ghost use Rattle.cb_shared.specs.Passes.{IsAtRest, IsPassOf, IsPinOf, record_of, stand_of};
 ghost use Rattle.cb_shared.specs.Pinning.{IsRefusal, PinAt, PinGives};
@@ -17,7 +19,7 @@ use crate::answers::PinAnswer;
 use crate::board::{SeatAt, Top};
 use crate::handles::{MOST_PINS, Pins, newest};
 use crate::pass::{Pass, Pin};
-use crate::pins::{give_pin, glance, take_pin, tell_version};
+use crate::pins::{give_pin, glance, take_pin, tell_date, tell_version};
 use crate::plays::Peek;
 use crate::runtime::Shared;
 use cb_ptr::{State, unpack};
@@ -73,17 +75,18 @@ impl Shared {
     }
 
     /// The version of a pinned object: one load of its version word. No one writes an object while
-    /// it is pinned, so the pass has no version of it that is above this one. Takes no memory and
-    /// waits for nobody.
+    /// it is pinned, so the pass has no version of it that is above this one, and it is the newest
+    /// one at the load. Takes no memory and waits for nobody.
     pub fn version(&self, pass: &mut Pass, pin: &Pin) -> u64
         requires of { IsPassOf self.now pass.old }
         requires pin { IsPinOf pin.now (record_of pass.old) }
         ensures of { IsPassOf self.now pass.new }
-        ensures same { record_of pass.new ≡ record_of pass.old }
+        ensures finds { FindsAs pin.now.handle.n pin.now.version false (record_of pass.old)
+            (record_of pass.old) (record_of pass.new) }
         ensures version { result ≡ pin.now.version }
         ensures newest { IsNewest pin.now.handle.n pin.now.version (record_of pass.old) }
     {
-        tell_version(
+        tell_date(
             &self.board.shared,
             &mut pass.seat,
             &self.config,

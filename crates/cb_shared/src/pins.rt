@@ -4,12 +4,14 @@ ghost use Rattle.cb_ptr.specs.declared.word.State.TheVariants as state;
 ghost use Rattle.cb_ptr.specs.Word.{state_of, pins_of};
 ghost use Rattle.cb_rule.specs.Seats.{pins_on};
 ghost use Rattle.cb_rule.specs.Steps.{Knows, without_pin};
-ghost use Rattle.cb_shared.specs.Glances.{Glances, TakesPinAt, TellsVersion};
+ghost use Rattle.cb_rule.specs.declared.view.Stand.{Stand};
+ghost use Rattle.cb_rule.specs.Lists.{Has};
+ghost use Rattle.cb_shared.specs.Glances.{FindsDate, Glances, TakesPinAt, TellsVersion};
 ghost use Rattle.cb_shared.specs.Seats.{IsOf, Moves, record_at};
 ghost use Rattle.cb_shared.specs.Seeking.{GlancesAny};
 
 use crate::board::{SeatAt, Top};
-use crate::plays::{Date, GivePin, Glance, GlanceAny, TakePin};
+use crate::plays::{Date, DateNow, GivePin, Glance, GlanceAny, TakePin};
 use cb_types::Config;
 
 /// The pointer word of an object that the seat knows.
@@ -52,6 +54,16 @@ pub(crate) fn tell_version(top: &Top, seat: &mut SeatAt, config: &Config, h: u32
     ensures { TellsVersion config.now h result seat.old seat.new }
 {
     top.load::<Date>(seat, 1 + config.handles as usize + h as usize)
+}
+
+/// The version of an object that the seat has pinned, and when it was the newest.
+pub(crate) fn tell_date(top: &Top, seat: &mut SeatAt, config: &Config, h: u32) -> u64
+    requires of { IsOf top.now.table_id top.now.key config.now seat.old }
+    requires handle { h < config.now.handles }
+    requires pinned { (s : Stand) × Has s (record_at seat.old).pins × (s.handle ≡ h) }
+    ensures { FindsDate h result seat.old seat.new }
+{
+    top.load::<DateNow>(seat, 1 + config.handles as usize + h as usize)
 }
 
 /// Gives the newest pin on an object back.

@@ -8,9 +8,9 @@ ghost use Rattle.cb_types.specs.declared.reply.Reply.{Reply};
 ghost use Rattle.cb_rule.specs.AnyGlance.{glanced_any};
 ghost use Rattle.cb_rule.specs.LockSteps.{gave};
 ghost use Rattle.cb_rule.specs.Steps.{looked, told, loaded, claimed, stored, stamped, settled};
-ghost use Rattle.cb_rule.specs.Steps.{glanced, pinned, unpinned, peeked, dated, read_held};
+ghost use Rattle.cb_rule.specs.Steps.{glanced, pinned, unpinned, peeked, dated, dated_now};
 ghost use Rattle.cb_rule.specs.Steps.{claimed_here, stored_here, stamped_here, settled_here};
-ghost use Rattle.cb_rule.specs.Steps.{put_back, blank, left_of, right_of, joined};
+ghost use Rattle.cb_rule.specs.Steps.{put_back, read_held, blank, left_of, right_of, joined};
 ghost use Rattle.cb_shared.specs.Making.{took_first};
 ghost use Rattle.cb_shared.specs.PinLoads.{read_pin};
 ghost use Rattle.cb_shared.specs.Recalls.{recalled};
@@ -168,6 +168,13 @@ pub struct Date;
 
 impl Play<Option<BoxedFar>, View> for Date {
     ghost then = { dated };
+}
+
+/// A look at the version word of an object that the seat has pinned, which tells when it was so.
+pub struct DateNow;
+
+impl Play<Option<BoxedFar>, View> for DateNow {
+    ghost then = { dated_now };
 }
 
 /// An exchange of a pointer word that claims its object outside of a turn, or finds another word.

@@ -7,8 +7,7 @@ ghost use Rattle.cb_world.specs.Memory.{bytes_in, words_for};
 ghost use Rattle.cb_rule.specs.declared.view.Stand.{Stand};
 ghost use Rattle.cb_rule.specs.Steps.{Knows};
 ghost use Rattle.cb_shared.specs.declared.reading.ReadAnswer.{ReadAnswer};
-ghost use Rattle.cb_record.specs.Parts.{grown};
-ghost use Rattle.cb_shared.specs.Reading.{IsReadRefusal, IsUnderPin, ReadAt, ReadMoves, looked};
+ghost use Rattle.cb_shared.specs.Reading.{IsReadRefusal, IsUnderPin, LooksHere, ReadAt, ReadMoves};
 ghost use Rattle.cb_shared.specs.Seats.{IsOf, Moves, record_at};
 
 use crate::board::{SeatAt, Top};
@@ -55,8 +54,7 @@ pub(crate) fn read_pinned(
     requires knows { Knows h (record_at seat.old) }
     requires few { length (record_at seat.old).pins ≤ 16 }
     ensures read { IfOk result (λ answer. ReadMoves h answer seat.old seat.new) }
-    ensures error { OnErr result ((word : ℕ) × (state_of word ≡ state.Here)
-        × Moves seat.old seat.new (grown (looked h word) (record_at seat.old))) }
+    ensures error { OnErr result (LooksHere h seat.old seat.new) }
 {
     let saw = glance(top, seat, config, h);
     match refuse_read(saw) {

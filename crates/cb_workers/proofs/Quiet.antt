@@ -1,5 +1,5 @@
 -- A turn of a worker brings nothing but itself to the record of its pass.
-use Rattle.std.proofs.Common.{◌≡◌, ℕ, List, [], ◌∷◌, Option, None, Result, Ok, Err, IsOk, refl, ap}
+use Rattle.std.proofs.Common.{◌≡◌, ℕ, max, List, [], ◌∷◌, Option, None, Result, Ok, Err, IsOk, refl, ap, arith}
 use Rattle.std.proofs.Common.{◌∙◌, subst}
 use Rattle.cb_member.specs.declared.no_memory.NoMemory.{NoMemory}
 use Rattle.cb_types.specs.declared.config.Config.{Config}
@@ -76,7 +76,9 @@ adds_turn c work r v w owed (d, adds, grows) = record {
 
     alone : d ≡ turns_alone (adds.turn ∷ [])
     alone = adds.part ∙ (λ i. turn_part adds.turn (writes_none work q r adds.more adds.wrote i)
-        (within i) (later i))
+        (within i) (later i)) ∙ (λ i. record (turns_alone (adds.turn ∷ [])) {
+          clock = (let n : max (max 0 adds.turn.until) 0 ≡ max 0 adds.turn.until = omega arith in n) i;
+        })
 
 -- ---- a job that ends what was begun takes no memory
 ends_with : (c : Config) → (work : Job) → IsEnd work → (t : Turn)

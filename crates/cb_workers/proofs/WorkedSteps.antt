@@ -1,6 +1,6 @@
 -- Worked examples of the parts of a worker's work, and of the work as what a pass adds to its
 -- record: what meets each definition, and what breaks one part alone.
-use Rattle.std.proofs.Common.{◌≡◌, ℕ, suc, ◌+◌, ◌<◌, List, [], ◌∷◌, ◌++◌, length, map, Option, None}
+use Rattle.std.proofs.Common.{max, ◌≡◌, ℕ, suc, ◌+◌, ◌<◌, List, [], ◌∷◌, ◌++◌, length, map, Option, None}
 use Rattle.std.proofs.Common.{Some, refl, sym, ap, ◌∙◌, subst, lit<, arith}
 use Rattle.std.proofs.lemmas.List.{length-append, length-map}
 use Rattle.cb_types.specs.declared.config.Config.{Config}
@@ -127,10 +127,13 @@ module _ (c : Config) (s : Shown) (far : FarState) (v : View) where
   adds_one calls = record { turns = begins ∷ []; are = refl; grows = refl; calls = calls }
 
   adds_none : AddsTurns c [] v (with_turns [])
-  adds_none = record { turns = []; are = refl; grows = refl; calls = λ i. record v { ever = no_more i } }
+  adds_none = record { turns = []; are = refl; grows = refl; calls = λ i. record v { ever = no_more i; clock = no_later i } }
     where
       no_more : v.ever + 0 ≡ v.ever
       no_more = omega arith
+
+      no_later : max v.clock 0 ≡ v.clock
+      no_later = omega arith
 
   -- it is not, where it notes no entry and the record has one
   adds_no_call : (e : Entry) → v.written ≡ e ∷ []

@@ -1,5 +1,6 @@
 -- What the body of a worker adds to the record of its pass.
-use Rattle.std.specs.Prelude.{◌≡◌, ℕ, ◌<◌, List, [], ◌∷◌, ◌++◌, length, map, Option, Some, Result}
+use Rattle.std.specs.Prelude.{◌≡◌, ℕ, ◌<◌, max, List, [], ◌∷◌, ◌++◌, length, map, Option, Some}
+use Rattle.std.specs.Prelude.{Result}
 use Rattle.cb_member.specs.declared.no_memory.NoMemory.{NoMemory}
 use Rattle.cb_types.specs.declared.config.Config.{Config}
 use Rattle.cb_types.specs.declared.handle.SetId.{SetId}
@@ -24,10 +25,15 @@ use Rattle.cb_workers.specs.Work.{job_behind, lack_of}
 use Rattle.cb_workers.specs.declared.worker.Worker.{Worker}
 use Rattle.cb_workers.specs.declared.worker.Worker.TheVariants as worker
 
+-- how many entries the history had when all of these turns had ended
+abbrev pub ended_all : List Turn → ℕ
+ended_all [] = 0
+ended_all (t ∷ earlier) = max (ended_all earlier) t.until
+
 -- turns, and nothing else: no version is written or read, no pin is taken, and no look is made
--- beside those of the turns
+-- beside those of the turns; the clock tells when they had ended
 abbrev pub turns_alone : List Turn → Part
-turns_alone turns = record nothing_more { turns = turns }
+turns_alone turns = record nothing_more { clock = ended_all turns; turns = turns }
 
 -- a call of `turn` with this job, so answered: all that it says of the record before it and behind
 -- it

@@ -2,13 +2,14 @@ use Rattle.std.proofs.Common.{◌≡◌, ◌∙◌, ℕ, Option, None, Some, ref
 use Rattle.cb_ptr.specs.declared.word.PtrWord.{PtrWord}
 use Rattle.cb_rule.specs.Steps.{with_look}
 use Rattle.cb_shared.specs.declared.reading.ReadAnswer.TheVariants as found
-use Rattle.cb_record.specs.Parts.{grown, nothing_more, sum}
+use Rattle.cb_record.specs.Finding.{finding, with_finds}
+use Rattle.cb_record.specs.Parts.{Part, grown, nothing_more, sum}
 use Rattle.cb_shared.specs.Reading.{looked}
 use Rattle.cb_shared.specs.Seats.{record_at}
 use Rattle.cb_shared.specs.Turning.{FindsFreedAfter, KnowsIt}
 use Rattle.cb_shared.specs.UnderLock.{FreedMoves, IsBelow}
-use Rattle.cb_shared.proofs.ReadParts.{grown_moves, here_look, look_found, looks_know, more_looks}
-use Rattle.cb_shared.proofs.ReadParts.{no_looks, not_moved, of_grown}
+use Rattle.cb_shared.proofs.ReadParts.{grown_moves, look_found, looks_know, more_looks, no_looks}
+use Rattle.cb_shared.proofs.ReadParts.{not_moved, of_grown, one_look}
 use Rattle.cb_shared.proofs.ReadSteps.{look_part, moves_as, refused_moves}
 use Rattle.cb_shared.proofs.freed.find_freed.Goals as goal
 
@@ -54,12 +55,12 @@ returns-in-Empty g c = let i = c.loop.invariant in let h = c.in-Some.h in
 pub loop-preserved : goal.loop-preserved
 loop-preserved g c = let i = c.loop.invariant in let h = c.in-Some.h in
     let word = c.glance-word.result in let p = c.args.seat.now in let q = c.loop.seat in
-    let r = c.glance-word.new.seat in (
-      sum i.0 (looked h word),
-      more_looks h i.0 (looked h word) i.1 (here_look h word),
-      grown_moves p q r i.0 (looked h word) i.2 (moves_as q r (with_look h word (record_at q))
-          (grown (looked h word) (record_at q))
-          (c.glance-word.ensures.other (λ e. c.in_default-state.not-Empty
-          (ap (λ (w : PtrWord). w.state) c.unpack.ensures.fields ∙ e)))
-          (look_part h word (record_at q))),
+    let r = c.glance-word.new.seat in
+    let f = (c.glance-word.ensures.other (λ e. c.in_default-state.not-Empty
+    (ap (λ (w : PtrWord). w.state) c.unpack.ensures.fields ∙ e))).1 in
+    let d : Part = finding f.0 f.1 (looked h word) in (
+      sum i.0 d,
+      more_looks h i.0 d i.1 (one_look h word d (f.0, f.1, refl)),
+      grown_moves p q r i.0 d i.2 (moves_as q r (with_finds f.0 f.1 (with_look h word (record_at q)))
+          (grown d (record_at q)) f.3 (look_part h word f.0 f.1 (record_at q))),
     )

@@ -1,9 +1,9 @@
-use Rattle.std.proofs.Common.{ℕ, refl, ap, subst, ◌∙◌, arith}
+use Rattle.std.proofs.Common.{ℕ, false, refl, ap, subst, ◌∙◌, arith}
 use Rattle.cb_types.specs.declared.config.Config.{Config}
-use Rattle.cb_rule.specs.Slot.{Sat}
 use Rattle.cb_rule.specs.Steps.{IsInside, with_pin}
-use Rattle.cb_shared.specs.Seats.{record_at}
+use Rattle.cb_shared.specs.Seats.{FindsMoves, record_at}
 use Rattle.cb_shared.proofs.PinsAlone.{takes_pin_at}
+use Rattle.cb_shared.proofs.Resting.{may_move, one_found}
 use Rattle.cb_shared.proofs.pins.take_pin.Goals as goal
 
 pub compare_exchange-requires : goal.compare_exchange-requires
@@ -24,16 +24,11 @@ returns c = let t = c.compare_exchange.ensures.0 in let i = c.compare_exchange.e
         f.above,
         subst (λ (x : Config). IsInside x c.args.saw) c.requires.of.config
             (subst (λ (n : ℕ). IsInside (record_at c.args.seat.now).config n) e f.inside),
-        (
-          t,
-          i,
-          y.2 ∙ ap (λ (n : ℕ).
-              let m : Sat = (
-                with_pin c.args.h n v words (record_at c.args.seat.now),
-                c.args.seat.now.me.1,
-              ) in
-              m) e,
-        ),
+        subst (λ (n : ℕ). FindsMoves c.args.h v false c.args.seat.now c.compare_exchange.new.seat
+            (with_pin c.args.h n v words (record_at c.args.seat.now))) e
+            (one_found c.args.h v false c.args.seat.now c.compare_exchange.new.seat _ t i y.2),
       );
-      lost = λ ne. (t, i, z.1 ne);
+      lost = λ ne. let y = z.1 ne in
+          may_move c.args.h y.0 _ c.args.seat.now c.compare_exchange.new.seat _
+          (one_found c.args.h y.0 _ c.args.seat.now c.compare_exchange.new.seat _ t i y.1);
     }

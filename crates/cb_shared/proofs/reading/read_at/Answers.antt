@@ -8,6 +8,7 @@ use Rattle.cb_rule.specs.Lists.{times}
 use Rattle.cb_rule.specs.Seats.{pins_it}
 use Rattle.cb_rule.specs.Slot.{Sat}
 use Rattle.cb_rule.specs.Steps.{stand, with_pin}
+use Rattle.cb_record.specs.Finding.{with_finds}
 use Rattle.cb_shared.specs.Seats.{record_at}
 use Rattle.cb_shared.proofs.ReadSteps.{read_ended, under_pin}
 use Rattle.cb_shared.proofs.Resting.{pins_some}
@@ -27,8 +28,8 @@ pub tell_version-version-requires-clause-of : goal.tell_version-version-requires
 tell_version-version-requires-clause-of c =
     let y = c.take_pin-found.ensures.won c.if-found-saw.false in
     of_moves c.args.top.now.table_id c.args.top.now.key c.args.config.now c.args.seat.now
-    c.take_pin-found.new.seat (with_pin c.args.h c.args.saw y.0 y.1 (record_at c.args.seat.now))
-    c.requires.of y.4 refl refl
+    c.take_pin-found.new.seat (with_finds y.4.0 y.4.1 (with_pin c.args.h c.args.saw y.0 y.1 (record_at c.args.seat.now)))
+    c.requires.of y.4.3 refl refl
 
 pub load_into-requires-clause-of : goal.load_into-requires-clause-of
 load_into-requires-clause-of c =
@@ -36,8 +37,8 @@ load_into-requires-clause-of c =
     c.tell_version-version.new.seat (record_at c.take_pin-found.new.seat)
     (let y = c.take_pin-found.ensures.won c.if-found-saw.false in
     of_moves c.args.top.now.table_id c.args.top.now.key c.args.config.now c.args.seat.now
-    c.take_pin-found.new.seat (with_pin c.args.h c.args.saw y.0 y.1 (record_at c.args.seat.now))
-    c.requires.of y.4 refl refl) c.tell_version-version.ensures.moves refl refl
+    c.take_pin-found.new.seat (with_finds y.4.0 y.4.1 (with_pin c.args.h c.args.saw y.0 y.1 (record_at c.args.seat.now)))
+    c.requires.of y.4.3 refl refl) c.tell_version-version.ensures.moves refl refl
 
 -- the room is as long as the object
 sized : (c : After-as_mut_slice) → length c.as_mut_slice.result.now ≡ len_of c.args.saw
@@ -72,8 +73,8 @@ give_pin-requires-clause-of c =
     (of_moves c.args.top.now.table_id c.args.top.now.key c.args.config.now c.take_pin-found.new.seat
     c.tell_version-version.new.seat (record_at c.take_pin-found.new.seat)
     (of_moves c.args.top.now.table_id c.args.top.now.key c.args.config.now c.args.seat.now
-    c.take_pin-found.new.seat (with_pin c.args.h c.args.saw y.0 y.1 (record_at c.args.seat.now))
-    c.requires.of y.4 refl refl) c.tell_version-version.ensures.moves refl refl)
+    c.take_pin-found.new.seat (with_finds y.4.0 y.4.1 (with_pin c.args.h c.args.saw y.0 y.1 (record_at c.args.seat.now)))
+    c.requires.of y.4.3 refl refl) c.tell_version-version.ensures.moves refl refl)
     c.load_into.ensures.same refl refl
 
 pub give_pin-requires-clause-held : goal.give_pin-requires-clause-held

@@ -3,6 +3,7 @@ use Rattle.cb_rule.specs.Slot.{Sat}
 use Rattle.cb_rule.specs.Steps.{held_at, with_look}
 use Rattle.cb_shared.specs.declared.answers.WriteAnswer.{WriteAnswer}
 use Rattle.cb_shared.specs.Claims.{ClaimsHere, IsFreshClaim, with_only}
+use Rattle.cb_record.specs.Finding.{with_finds}
 use Rattle.cb_shared.specs.Passes.{IsAtRest}
 use Rattle.cb_shared.specs.Seats.{SeatAt, record_at}
 use Rattle.cb_shared.specs.Writing.{WriteClaimed}
@@ -30,21 +31,21 @@ claims c = claims_only c.args.config.now c.args.top.now.table_id.slots c.args.se
 
 pub returns-then-found-saw-clause-table : goal.returns-then-found-saw-clause-table
 returns-then-found-saw-clause-table c = let lost = (claims (goal.at.returns-then-found-saw-clause-table c).After-compare_exchange-found).lost c.if-found-saw.true in
-    (lost.0, ap (λ (m : Sat). m.1) lost.2)
+    (lost.2.0, ap (λ (m : Sat). m.1) lost.2.2)
 
 pub returns-then-found-saw-clause-share : goal.returns-then-found-saw-clause-share
 returns-then-found-saw-clause-share c =
-    ap (λ (m : Sat). m.0.share) ((claims (goal.at.returns-then-found-saw-clause-share c).After-compare_exchange-found).lost c.if-found-saw.true).2
+    ap (λ (m : Sat). m.0.share) ((claims (goal.at.returns-then-found-saw-clause-share c).After-compare_exchange-found).lost c.if-found-saw.true).2.2
 
 pub returns-then-found-saw-clause-pins : goal.returns-then-found-saw-clause-pins
 returns-then-found-saw-clause-pins c =
-    ap (λ (m : Sat). m.0.pins) ((claims (goal.at.returns-then-found-saw-clause-pins c).After-compare_exchange-found).lost c.if-found-saw.true).2
+    ap (λ (m : Sat). m.0.pins) ((claims (goal.at.returns-then-found-saw-clause-pins c).After-compare_exchange-found).lost c.if-found-saw.true).2.2
 
 pub returns-then-found-saw-clause-rest : goal.returns-then-found-saw-clause-rest
 returns-then-found-saw-clause-rest c =
     let r = c.requires.rest in
     subst (λ (m : Sat). IsAtRest c.args.config.now m.0)
-    (sym ((claims (goal.at.returns-then-found-saw-clause-rest c).After-compare_exchange-found).lost c.if-found-saw.true).2) (record {
+    (sym ((claims (goal.at.returns-then-found-saw-clause-rest c).After-compare_exchange-found).lost c.if-found-saw.true).2.2) (record {
       config = r.config;
       live = r.live;
       most = r.most;
@@ -59,14 +60,16 @@ returns-then-found-saw-clause-rest c =
 
 pub returns-then-found-saw-clause-write : goal.returns-then-found-saw-clause-write
 returns-then-found-saw-clause-write c =
-    (refl, c.if-found-saw.true, ap (λ (m : Sat). m.0) ((claims (goal.at.returns-then-found-saw-clause-write c).After-compare_exchange-found).lost c.if-found-saw.true).2)
+    let lost = (claims (goal.at.returns-then-found-saw-clause-write c).After-compare_exchange-found).lost
+    c.if-found-saw.true in
+    (refl, c.if-found-saw.true, (lost.0, lost.1, ap (λ (m : Sat). m.0) lost.2.2))
 
 pub write_claimed-requires-clause-of : goal.write_claimed-requires-clause-of
 write_claimed-requires-clause-of c = let y = (claims (goal.at.write_claimed-requires-clause-of c).After-compare_exchange-found).won c.if-found-saw.false in
     of_moves c.args.top.now.table_id c.args.top.now.key c.args.config.now c.args.seat.now
     c.compare_exchange-found.new.seat
-    (with_only (held_at c.args.h c.args.saw y.0 y.1) (with_look c.args.h c.args.saw
-    (record_at c.args.seat.now))) c.requires.of y.6 refl refl
+    (with_finds y.6.0 y.6.1 (with_only (held_at c.args.h c.args.saw y.0 y.1)
+    (with_look c.args.h c.args.saw (record_at c.args.seat.now)))) c.requires.of y.6.2 refl refl
 
 -- where the write leaves the seat
 after : (c : After-compare_exchange-found) (a : WriteAnswer) (q : SeatAt)
@@ -80,7 +83,7 @@ after c a q e wrote = let y = (claims c).won e in
     written_at c.args.config.now c.args.h c.args.saw c.args.at c.args.bytes.now a c.args.seat.now
     c.compare_exchange-found.new.seat q y.0 y.1 c.requires.rest c.requires.handle y.2 y.6
     (wrote y.0 y.1 (record {
-      only = ap (λ (m : Sat). m.0.claims) y.6.2;
+      only = ap (λ (m : Sat). m.0.claims) y.6.2.2;
       lies = y.3;
       below = y.4;
       whole = y.5;
@@ -92,7 +95,7 @@ write_claimed-requires-clause-claim c =
       y.0,
       y.1,
       record {
-        only = ap (λ (m : Sat). m.0.claims) y.6.2;
+        only = ap (λ (m : Sat). m.0.claims) y.6.2.2;
         lies = y.3;
         below = y.4;
         whole = y.5;

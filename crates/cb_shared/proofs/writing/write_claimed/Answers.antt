@@ -1,4 +1,4 @@
-use Rattle.std.proofs.Common.{◌≡◌, ◌∙◌, ◌+◌, ℕ, List, [], ◌∷◌, length, refl, sym, ap, arith}
+use Rattle.std.proofs.Common.{◌≡◌, ◌∙◌, ◌+◌, ℕ, false, List, [], ◌∷◌, length, refl, sym, ap, subst, arith}
 use mathlib.Core.Option.{none}
 use Rattle.atomic_table.specs.Seated.{TableId}
 use Rattle.atomic_table.specs.Table.{step}
@@ -10,6 +10,7 @@ use Rattle.cb_rule.specs.declared.view.Held.{Held}
 use Rattle.cb_rule.specs.Slot.{Sat}
 use Rattle.cb_rule.specs.Steps.{held_at, stamped_here, version_seen, with_stamp}
 use Rattle.cb_rule.specs.Words.{stamps}
+use Rattle.cb_record.specs.Finding.{IsFoundBy, IsFoundNext, with_finds}
 use Rattle.cb_shared.specs.declared.setup.Setup.{Setup}
 use Rattle.cb_shared.specs.Claims.{HoldsOnly, IsFreshClaim, IsWithin, back_only, with_memory}
 use Rattle.cb_shared.specs.Claims.{with_only, written_only}
@@ -108,21 +109,30 @@ returns-then-version c v words f =
     let last = sym (found _ _ _ _ _ _ _ l c.args.word v words f) ∙ c.if-version.true in (
       last,
       (
-        b.0 ∙ l.same.0,
-        b.1 ∙ l.same.1,
-        b.2 ∙ ap (λ (m : Sat).
-            let z : Sat = (back_only (held_at c.args.h c.args.word v words) m.0, m.1) in
-            z) l.same.2
-            ∙ ap (λ (n : ℕ).
-            let z : Sat = (
-              record (record_at c.args.seat.now) {
-                claims = [];
-                seen = version_seen c.args.h n (len_of c.args.word) words
-                    ∷ (record_at c.args.seat.now).seen;
-              },
-              c.args.seat.now.me.1,
-            ) in
-            z) last,
+        b.0,
+        b.1,
+        subst (λ (k : ℕ). IsFoundBy c.args.h v false k b.0 b.1)
+            (ap (λ (m : Sat). m.0.clock) l.same.2) b.2,
+        (
+          b.3.0 ∙ l.same.0,
+          b.3.1 ∙ l.same.1,
+          b.3.2 ∙ ap (λ (m : Sat).
+              let z : Sat = (
+                with_finds b.0 b.1 (back_only (held_at c.args.h c.args.word v words) m.0),
+                m.1,
+              ) in
+              z) l.same.2
+              ∙ ap (λ (n : ℕ).
+              let z : Sat = (
+                with_finds b.0 b.1 (record (record_at c.args.seat.now) {
+                  claims = [];
+                  seen = version_seen c.args.h n (len_of c.args.word) words
+                      ∷ (record_at c.args.seat.now).seen;
+                }),
+                c.args.seat.now.me.1,
+              ) in
+              z) last,
+        ),
       ),
     )
 
@@ -188,15 +198,21 @@ returns c v words f = let at = goal.at.returns c in let l = loaded at.After-load
     let o = of_stamped _ _ _ _ _ _ (of_loaded _ _ _ _ _ _ _ l) y n w.2 d.0 d.1 d.2 in
     let s = settles_only c.args.config.now c.args.top.now.table_id.slots c.store-2.new.seat
     c.store-3.new.seat o.config c.store-3.ensures.0 c.store-3.ensures.1 e c.args.h
-    (ap (λ (m : Sat). m.0.claims) t.2, refl) c.settled-next.result c.store-3.ensures.2 in (
+    (ap (λ (m : Sat). m.0.claims) t.2, refl) c.settled-next.result c.store-3.ensures.2 in
+    let along = t.2 ∙ ap (λ (m : Sat). let z : Sat = (with_only e m.0, m.1) in z)
+    (w.2.2 ∙ ap (λ (m : Sat). let z : Sat = (with_only y m.0, m.1) in z) l.same.2) in (
       ap (λ (q : ℕ). q + 1) (found _ _ _ _ _ _ _ l c.args.word v words f),
       w.0,
       w.1,
       (
-        s.0 ∙ (t.0 ∙ (w.2.0 ∙ l.same.0)),
-        s.1 ∙ (t.1 ∙ (w.2.1 ∙ l.same.1)),
-        s.2 ∙ ap (λ (m : Sat). let z : Sat = (written_only e m.0, m.1) in z)
-            (t.2 ∙ ap (λ (m : Sat). let z : Sat = (with_only e m.0, m.1) in z)
-            (w.2.2 ∙ ap (λ (m : Sat). let z : Sat = (with_only y m.0, m.1) in z) l.same.2)),
+        s.0,
+        s.1,
+        subst (λ (k : ℕ). IsFoundNext c.args.h v k s.0 s.1) (ap (λ (m : Sat). m.0.clock) along) s.2,
+        (
+          s.3.0 ∙ (t.0 ∙ (w.2.0 ∙ l.same.0)),
+          s.3.1 ∙ (t.1 ∙ (w.2.1 ∙ l.same.1)),
+          s.3.2 ∙ ap (λ (m : Sat). let z : Sat = (with_finds s.0 s.1 (written_only e m.0), m.1) in z)
+              along,
+        ),
       ),
     )

@@ -4,7 +4,6 @@ use Rattle.crossbeam_utils.specs.Padded.{padded_value}
 use Rattle.cb_shared.specs.Handles.{handles_of}
 use Rattle.cb_record.specs.Parts.{grown}
 use Rattle.cb_shared.specs.Passes.{record_of}
-use Rattle.cb_shared.specs.Reading.{looked}
 use Rattle.cb_shared.proofs.ReadKept.{kept_read}
 use Rattle.cb_shared.proofs.Resting.{known_below, view_of}
 use Rattle.cb_shared.proofs.TurnEnds.{few_pins}
@@ -43,8 +42,10 @@ returns-clause-error c = on_err_weaker c.read_pinned.result
     (λ x. (
       x.0,
       x.1,
+      x.2,
+      x.3,
       view_of c.args.pass.now.seat c.read_pinned.new.seat
-          (grown (looked c.args.h.n x.0) (record_of c.args.pass.now)) x.2,
+          (grown x.2 (record_of c.args.pass.now)) x.4,
     )) c.read_pinned.ensures.error
 
 pub invariant_of-pass : goal.invariant_of-pass
