@@ -139,7 +139,8 @@ struct carbink_world {
 #define CARBINK_HAS_WORLD 7u     /* The handle holds a world already. */
 #define CARBINK_BAD_VERB 8u      /* There is no such verb. */
 #define CARBINK_BAD_SEAT 9u      /* The seat is not below 64. */
-#define CARBINK_BAD_ARGUMENT 10u /* The handle is not below the configured ones, or the node is not, or a make has not 1 to 4,096 bytes. */
+#define CARBINK_BAD_ARGUMENT 10u /* The handle is not below the configured ones, or the node is not, or a make has not 1 to 4,096 bytes,
+                                    or a world of so many nodes has no sets of the code. */
 #define CARBINK_BAD_K 16u        /* A size is out of its range: the first in this order. */
 #define CARBINK_BAD_R 17u
 #define CARBINK_BAD_NODES 18u
@@ -189,14 +190,16 @@ uint32_t carbink_world_given(struct carbink_world *world, uint64_t *given);
 #define CARBINK_JOIN 18u     /* node: it is up again, with no rows. */
 #define CARBINK_PIN 19u      /* handle: the seat pins the object, where it is in local memory; it stays there. */
 #define CARBINK_UNPIN 20u    /* handle: the seat's newest pin on the object is given back. */
+#define CARBINK_RECODE 21u   /* handle, at: sets made from here have the code of `handle` data positions, 1 to 16, and `at` parities,
+                                1 to 4, together no more than there are nodes. */
 
 /* An event. What its verb does not take is not looked at. */
 struct carbink_event {
     uint32_t verb;
     uint32_t seat;   /* Who acts: below 64. */
-    uint32_t handle; /* The number that the object's make gave it. */
+    uint32_t handle; /* The number that the object's make gave it; of CARBINK_RECODE, k. */
     uint32_t node;
-    uint32_t at;
+    uint32_t at; /* Of CARBINK_WRITE, the first byte; of CARBINK_RECODE, r. */
 };
 
 /* A reply. A refusal is a reply, and no status. Numbers that its kind does not have are 0. */
@@ -265,6 +268,8 @@ uint32_t carbink_world_step(struct carbink_world *world, const struct carbink_ev
 #define CARBINK_REPLY_CROWDED 46u    /* the object has as many pins as its word can count */
 #define CARBINK_REPLY_SWAPPED 48u    /* frame: the object's span is there now */
 #define CARBINK_REPLY_STAYS 49u      /* the object is not far */
+#define CARBINK_REPLY_CODED 60u      /* k, r: the code is in force */
+#define CARBINK_REPLY_RECODED 61u    /* set, set: the first one's objects are in the second, which has the code in force */
 
 /* The other numbers below 60 are of replies that no verb here is answered: 4 to the end of a scope, 47 inside of a
  * turn, 50 to 56 to the steps of a write, to a look at a word and to the far lock, and 57 to 59 to orders, which are

@@ -9,6 +9,13 @@ LONG = {2: ((1025, 1500, 1536), (1537, 2000, 2048)), 4: ((2049, 3000, 3072), (30
 MOST_DRAWN = 460000
 
 
+def drawn_code(draw, k, nodes):
+    """A code that so many nodes may have, of the same k as a rule."""
+    if draw.random() < 0.3:
+        k = min(max(1, k + draw.choice((-1, 1))), 16, nodes - 1)
+    return k, draw.randint(1, min(4, nodes - k))
+
+
 class Drawn:
     """Lines of all verbs, drawn. In between come sets that are live at few positions, so that pairs are often found."""
 
@@ -16,8 +23,10 @@ class Drawn:
                "begin": 2, "ship": 8, "commit": 3, "abort": 1, "pair": 3, "patch": 6, "merge": 3, "part": 1, "compact": 4, "rebuild": 4,
                "crash": 0.3, "join": 1}
 
-    def __init__(self, k, nodes, seed, is_long=False):
+    def __init__(self, k, nodes, seed, is_long=False, codes=False):
+        """Of one code, or with lines that put others in force; k is that of the code in force then."""
         self.k, self.nodes, self.draw, self.is_long = k, nodes, random.Random(seed), is_long
+        self.weights = dict(self.WEIGHTS, recode=1.5) if codes else self.WEIGHTS
         self.text, self.names, self.lengths, self.bytes = [], [], {}, 0
 
     def say(self, lane, line):
@@ -48,13 +57,16 @@ class Drawn:
         return self.draw.randint(0, 8)
 
     def one_line(self):
-        verb = self.draw.choices(list(self.WEIGHTS), list(self.WEIGHTS.values()))[0]
+        verb = self.draw.choices(list(self.weights), list(self.weights.values()))[0]
         if verb == "make" or not self.names:
             self.make(self.length())
         elif verb in ("read", "write", "free", "pin", "unpin", "peek", "filter"):
             name, lane = self.draw.choice(self.names[-6 * self.k:])
             at = f" {self.place(name)} {self.draw.randbytes(self.draw.randint(1, 8)).hex()}" if verb == "write" else ""
             self.text.append(f"{lane} {verb} {name}{at}")
+        elif verb == "recode":
+            self.k, r = drawn_code(self.draw, self.k, self.nodes)
+            self.text.append(f"{self.draw.randint(1, 3)} recode {self.k} {r}")
         else:
             node = f" {self.draw.randrange(self.nodes)}" if verb in ("crash", "join") else ""
             self.text.append(f"{self.draw.randint(1, 3)} {verb}{node}")

@@ -1,7 +1,9 @@
 """Scripts that are drawn for threads (tests/legal.py), with no steps, which threads refuse. Of the kind `mixed`: small worlds
-and roomy ones, shared names and own ones, many crashes and many worker turns; most have long objects. Of the kind `storm`: 2 to 12 frames for 3 to
+and roomy ones, shared names and own ones, many crashes and many worker turns; most have long objects, and some more codes than one. Of the kind `storm`: 2 to 12 frames for 3 to
 10 lanes, and shared objects in many more spans than that, which the lanes read and pin all the time."""
 import random
+
+from drawn import drawn_code
 
 WEIGHTS = {"make": 5, "read": 9, "write": 8, "free": 2, "pin": 3, "unpin": 3, "peek": 3, "leave": 1, "filter": 5,
            "evict": 4, "compact": 3, "rebuild": 3, "crash": 1, "join": 1}
@@ -13,10 +15,13 @@ MOST_DRAWN = 420000
 
 class Drawing:
     """The lines of a script, as they come."""
-    def __init__(self, draw, nodes, crashing, lanes, calm, long_share):
+    def __init__(self, draw, k, nodes, crashing, lanes, calm, long_share, codes):
+        self.k = k  # of the code of the last recode line
         self.draw, self.nodes, self.crashing, self.lanes, self.long_share = draw, nodes, crashing, lanes, long_share
         self.lines, self.names, self.made, self.bytes = [], {lane: [] for lane in range(lanes + 1)}, 0, 0
         self.weights = dict(WEIGHTS, crash=0.3 if calm else 2, join=1 if calm else 2, pin=draw.choice((1, 3, 12)))
+        if codes:
+            self.weights["recode"] = 2
 
     def name_of(self, lane):
         """A name that the lane knows: one of its latest, or one of lane 0's, which many lanes meet on."""
@@ -31,6 +36,9 @@ class Drawing:
         if verb in ("crash", "join"):
             node = self.draw.choice(self.crashing) if verb == "crash" else self.draw.randrange(self.nodes)
             self.lines.append(f"{lane} {verb} {node}")
+        elif verb == "recode":
+            self.k, r = drawn_code(self.draw, self.k, self.nodes)
+            self.lines.append(f"{lane} recode {self.k} {r}")
         elif verb in ("leave", "evict", "compact", "rebuild"):
             self.lines.append(f"{lane} {verb}")
         elif verb == "make" or known is None:
@@ -68,7 +76,8 @@ def mixed(draw, count=None):
             # Few frames, and as many as are enough where each span has one.
             frames = draw.choice((frames, 2 * frames, 4 * frames, 4 * frames, 2 * k + 360))
     crashing = draw.sample(range(nodes), r) if roomy else list(range(nodes))
-    drawing = Drawing(draw, nodes, crashing, lanes, roomy or draw.random() < 0.5, long_share)
+    codes = not roomy and draw.random() < 0.4
+    drawing = Drawing(draw, k, nodes, crashing, lanes, roomy or draw.random() < 0.5, long_share, codes)
     for _ in range(draw.choice((0, 3, 10, 40))):
         drawing.line(0)
     for _ in range(count or drawn):

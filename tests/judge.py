@@ -23,7 +23,7 @@ REPLIES = {
     "range": f"range {NUMBER}", "pinned": f"pinned {NUMBER}", "scopefull": "scopefull", "notpinned": "notpinned",
     "nothere": "nothere", "noslot": f"noslot {NUMBER}", "nospans": f"nospans {NUMBER}", "nonodes": f"nonodes {NUMBER}",
     "nopair": "nopair", "joining": f"joining {NUMBER} {NUMBER}", "nodefull": f"nodefull {NUMBER}",
-    "whole": f"whole {NUMBER}", "stuck": f"stuck set {NUMBER}", "down": f"down {NUMBER}", "up": f"up {NUMBER}",
+    "recoded": f"recoded set {NUMBER} to {NUMBER}", "code": f"code {NUMBER} {NUMBER}", "whole": f"whole {NUMBER}", "stuck": f"stuck set {NUMBER}", "down": f"down {NUMBER}", "up": f"up {NUMBER}",
 }
 PATTERNS = {kind: re.compile(form) for kind, form in REPLIES.items()}
 OF_VERB = {
@@ -31,8 +31,8 @@ OF_VERB = {
     "write": "version noroom unmade freed unavailable range pinned", "free": "version unmade freed pinned",
     "pin": "version noroom unmade freed unavailable scopefull", "peek": "bytes unmade notpinned",
     "unpin": "ok unmade notpinned", "leave": "left", "filter": "moved same unmade moving pinned nothere noslot",
-    "evict": "set nospans nonodes", "compact": "merged nopair joining nodefull", "rebuild": "rebuilt whole stuck",
-    "crash": "epoch down", "join": "epoch up",
+    "evict": "set nospans nonodes", "compact": "merged nopair joining nodefull", "rebuild": "rebuilt recoded whole stuck",
+    "crash": "epoch down", "join": "epoch up", "recode": "code",
 }
 # What a line may be answered that was told before that its object is freed, or that it is lost with its set.
 AFTER_FREED = {"read": "freed", "write": "freed", "free": "freed", "pin": "freed scopefull", "filter": "nothere",
@@ -53,6 +53,7 @@ class Line:
         self.lane, self.verb = int(words[0]), words[1]
         self.name = words[2] if self.verb in NAMED else None
         self.node = int(words[2]) if self.verb in ("crash", "join") else None
+        self.code = (int(words[2]), int(words[3])) if self.verb == "recode" else None
         self.at = int(words[3]) if self.verb == "write" else 0
         data = {"make": 3, "write": 4}.get(self.verb)
         self.data = b"" if not data or words[data] == "-" else bytes.fromhex(words[data])
@@ -60,7 +61,7 @@ class Line:
 
     def front(self):
         """What stands in front of the reply."""
-        return " ".join([str(self.lane), self.verb] + self.text.split(" ")[2:3])
+        return " ".join([str(self.lane), self.verb] + ([] if self.code else self.text.split(" ")[2:3]))
 
     def answer(self, place, told):
         """Takes the reply; whether it is one that this line may have."""
@@ -92,10 +93,15 @@ class Script:
             lines.pop()
         self.text, self.head = text, head
         self.config = {word.split("=")[0]: int(word.split("=")[1]) for word in head.split(" ")[2:]}
-        self.k, self.r, self.nodes, self.frames, self.room, self.handles, self.turns = (
-            self.config[field] for field in ("k", "r", "nodes", "frames", "room", "handles", "turns"))
-        self.n = self.k + self.r
+        self.nodes, self.frames, self.room, self.handles, self.turns = (
+            self.config[field] for field in ("nodes", "frames", "room", "handles", "turns"))
         self.lines = [Line(number + 2, line) for number, line in enumerate(lines)]
+        codes = [(self.config["k"], self.config["r"])] + [line.code for line in self.lines if line.code]
+        self.has_recode = len(codes) > 1
+        # The bounds of what is told, over all codes that a set may have.
+        self.least_k, self.k = min(k for k, _ in codes), max(k for k, _ in codes)
+        self.least_r, self.r = min(r for _, r in codes), max(r for _, r in codes)
+        self.least_n, self.n = min(k + r for k, r in codes), max(k + r for k, r in codes)
         self.maker = {line.name: line.lane for line in self.lines if line.verb == "make"}
         if any(line.verb not in OF_VERB for line in self.lines):
             raise ValueError("the script has a step, which threads refuse")
@@ -111,7 +117,7 @@ class Script:
     def is_roomy(self):
         crashing = {line.node for line in self.lines if line.verb == "crash"}
         return (self.has_frames_to_try_again() and self.room >= self.handles + 4 and self.nodes >= self.k + 2 * self.r
-                and len(self.maker) <= self.handles and len(crashing) <= self.r)
+                and len(self.maker) <= self.handles and len(crashing) <= self.least_r)
 
     def is_own(self, lane, name):
         return lane > 0 and self.maker[name] == lane
@@ -321,8 +327,12 @@ class Told:
             if line.numbers[0] <= self.drawn:
                 say(line, "sets", f"the lane or lane 0 was told set {self.drawn} before")
             self.drawn = max(self.drawn, line.numbers[0])
-        elif line.kind in ("rebuilt", "stuck") and line.numbers[0] in self.gone:
+        elif line.kind in ("rebuilt", "stuck", "recoded") and line.numbers[0] in self.gone:
             say(line, "losses", "the lane was told before that the set is lost")
+        if line.kind == "recoded":
+            if line.numbers[1] <= max(self.drawn, line.numbers[0]):
+                say(line, "sets", f"the lane or lane 0 was told set {max(self.drawn, line.numbers[0])} before")
+            self.drawn = max(self.drawn, line.numbers[1])
         elif line.kind == "unavailable":
             number, count = line.numbers[0], len(line.losses)
             if self.lost.setdefault(line.name, number) != number:
@@ -338,7 +348,7 @@ def judge_told(lines, say):
     for line in lines:
         if line.lane not in lanes:
             lanes[line.lane] = Told(first)
-        if line.name is not None or line.kind in ("set", "merged", "rebuilt", "stuck"):
+        if line.name is not None or line.kind in ("set", "merged", "rebuilt", "recoded", "stuck"):
             lanes[line.lane].judge(line, say)
 
 
@@ -361,6 +371,9 @@ def judge_numbers(script, lines, say):
         elif line.kind in ("set", "merged"):
             right = numbers[0] not in drawn and (line.kind == "set" or (1 <= numbers[1] < k and numbers[0] >= 2))
             drawn.add(numbers[0])
+        elif line.kind == "recoded":
+            right = numbers[0] < numbers[1] and numbers[1] not in drawn
+            drawn.add(numbers[1])
         elif line.kind == "rebuilt":
             right = numbers[1] < n and numbers[2] < nodes
         elif line.kind == "nodefull":
@@ -371,6 +384,8 @@ def judge_numbers(script, lines, say):
             right = script.turns > 0 or script.maker[line.name] == 0
         elif line.kind in ("down", "up"):
             right = numbers[0] == line.node
+        elif line.kind == "code":
+            right = tuple(numbers) == line.code
         if not right:
             say(line, "numbers", "no such numbers can be")
 
@@ -401,12 +416,12 @@ class Epochs:
 
 def moment_of(script, line, epochs):
     """The test that the epoch of the moment of this line's reply must pass; None where each does."""
-    k, r, n, kind, numbers = script.k, script.r, script.n, line.kind, line.numbers
+    k, r, n, kind, numbers = script.least_k, script.least_r, script.least_n, line.kind, line.numbers
     if kind in ("down", "up"):
         return lambda e: (line.node in epochs.up[e]) == (kind == "up")
     if kind == "unavailable":
         return lambda e: all(at <= e for _, at in line.losses)
-    if kind in ("set", "merged"):
+    if kind in ("set", "merged", "recoded"):
         return lambda e: len(epochs.up[e]) >= n
     if kind == "nonodes":
         return lambda e: len(epochs.up[e]) >= numbers[0]
@@ -416,7 +431,7 @@ def moment_of(script, line, epochs):
         return lambda e: numbers[0] in epochs.up[e]
     if kind == "rebuilt":
         return lambda e: numbers[2] in epochs.up[e] and len(epochs.up[e]) > k and epochs.crashed(e)
-    if kind == "stuck":
+    if kind == "stuck" and not script.has_recode:
         return lambda e: bool(epochs.crashed(e))
     if kind == "whole" and numbers[0]:
         return lambda e: len(epochs.crashed(e)) > r
@@ -461,8 +476,8 @@ def judge_losses(script, lines, say):
         if line.kind != "unavailable":
             continue
         losses = line.losses
-        if not script.r < len(losses) <= script.n or len({node for node, _ in losses}) != len(losses):
-            say(line, "losses", f"more than {script.r} different nodes are lost, and at the most {script.n}")
+        if not script.least_r < len(losses) <= script.n or len({node for node, _ in losses}) != len(losses):
+            say(line, "losses", f"more than {script.least_r} different nodes are lost, and at the most {script.n}")
         elif not set(losses) <= crashes:
             say(line, "losses", "no line was answered such a crash")
         else:

@@ -31,8 +31,9 @@ class Span:
 
 
 class Set:
-    def __init__(self, number, shards, spans):
+    def __init__(self, number, k, shards, spans):
         self.number, self.shards = number, shards  # shards: (node, incarnation)
+        self.k, self.r = k, len(shards) - k  # its code
         self.pages = spans[0].pages if spans else 0  # one length for all spans of a set
         self.slots = {p: (s.size, list(s.slots)) for p, s in enumerate(spans)}  # live positions
 
@@ -40,18 +41,18 @@ class Set:
 class Batch:
     """A batch that is leaving: its spans stand in their frames (the first of each run), and its objects are moving."""
     def __init__(self, number, frames, positions):
-        self.number, self.frames = number, frames
+        self.number, self.frames = number, frames  # as many as the code in force at its begin has data positions
         self.shards = [None] * positions  # as a set's, None where a position was not put yet
 
 
 class Pair:
     """Two sets that join: a and b with the shards that both had at the begin, the positions taken from b, and the new
     row of each step that was done. The steps are those of the taken positions and of all parities, in order."""
-    def __init__(self, a, b, k):
+    def __init__(self, a, b):
         self.a, self.b = a.number, b.number
         self.begun = {one.number: list(one.shards) for one in (a, b)}
         self.taken = sorted(b.slots)
-        self.steps = self.taken + list(range(k, len(a.shards)))
+        self.steps = self.taken + list(range(a.k, len(a.shards)))
         self.new = {}  # position -> shard
 
 
@@ -66,7 +67,7 @@ class Object:
 class World:
     def __init__(self, k, r, nodes, frames, room, handles, local=False):
         self.local = local  # whether a compact line is done by the compute side
-        self.k, self.r, self.n = k, r, k + r
+        self.k, self.r, self.n = k, r, k + r  # of the code in force
         self.frames, self.room, self.handles = frames, room, handles
         self.spans = [None] * frames  # each span at the first frame of its run
         self.free_frames = bytearray(b"\1" * frames)
@@ -95,7 +96,7 @@ class World:
         return [(s[0], self.crash_epochs[s[0]][s[1]]) for s in one.shards if self.is_lost(s)]
 
     def is_broken(self, one):
-        return len(self.lost(one)) > self.r
+        return len(self.lost(one)) > one.r
 
     def put(self, others):
         """Puts a row on the node with room and the fewest, outside the nodes of these shards; None where none is."""
@@ -186,7 +187,7 @@ class World:
 
     def commit_set(self, number, frames, shards):
         """The spans of these frames are far, as the set of this number, and the frames are free."""
-        self.sets[number] = Set(number, shards, [self.spans[f] for f in frames])
+        self.sets[number] = Set(number, len(frames), shards, [self.spans[f] for f in frames])
         for position, frame in enumerate(frames):
             for handle in self.spans[frame].slots:
                 if handle is not None:
@@ -255,6 +256,12 @@ class World:
         self.leaving = None
         return "ok"
 
+    # ---- the code in force
+    def recode(self, k, r):
+        """Sets and batches that are made from here have this code; each other one keeps its own."""
+        self.k, self.r, self.n = k, r, k + r
+        return "code %d %d" % (k, r)
+
     # ---- sets
     def drop(self, one):
         self.drop_rows(one.shards)
@@ -268,7 +275,7 @@ class World:
         """None where the object is here then, else the refusal; room is won where it lacks."""
         number, position = self.objects[handle].home
         one = self.sets[number]
-        return self.bring_in(one, position, self.k if self.is_lost(one.shards[position]) else 1)
+        return self.bring_in(one, position, one.k if self.is_lost(one.shards[position]) else 1)
 
     def bring_in(self, one, position, rows):
         """The same of the span at a live position of a set, for which the nodes give out so many rows."""
@@ -382,11 +389,11 @@ class World:
     # ---- two sets become one
     def first_pair(self):
         """The least set that matches one of a greater number, and the least such other one; None where no two match:
-        both have all their shards and the same length, and no position is live in both."""
+        both have all their shards, the same code and the same length, and no position is live in both."""
         whole = [self.sets[number] for number in sorted(self.sets) if not self.lost(self.sets[number])]
         for at, a in enumerate(whole):
             for b in whole[at + 1:]:
-                if a.pages == b.pages and not a.slots.keys() & b.slots.keys():
+                if (a.k, a.r, a.pages) == (b.k, b.r, b.pages) and not a.slots.keys() & b.slots.keys():
                     return a, b
         return None
 
@@ -396,7 +403,7 @@ class World:
         found = self.first_pair()
         if not found:
             return "nopair"
-        self.joining = Pair(*found, self.k)
+        self.joining = Pair(*found)
         return "pair %d %d" % (self.joining.a, self.joining.b)
 
     def give_pair_up(self):
@@ -442,7 +449,7 @@ class World:
         a, b = self.sets.pop(pair.a), self.sets.pop(pair.b)
         self.drop_rows(a.shards[p] for p in pair.steps)
         self.drop_rows(b.shards)
-        merged = Set(self.draw(), a.shards, [])
+        merged = Set(self.draw(), a.k, a.shards, [])
         merged.pages, merged.slots = a.pages, {**a.slots, **b.slots}
         for position, (_, slots) in merged.slots.items():
             for handle in slots:
@@ -467,7 +474,7 @@ class World:
                 self.give_pair_up()
                 return stepped
         if self.local:  # both rows at each taken position, and the first set's parities
-            self.given += 2 * len(self.joining.taken) + self.r
+            self.given += 2 * len(self.joining.taken) + self.sets[self.joining.a].r
         return self.merge()
 
     def crash(self, node):
@@ -487,20 +494,47 @@ class World:
         self.epoch += 1
         return "epoch %d" % self.epoch
 
+    def old_set(self):
+        """The least set that is whole and has the k in force and another r than the one in force; None where there is none."""
+        sets = (self.sets[number] for number in sorted(self.sets))
+        return next((one for one in sets if not self.lost(one) and one.k == self.k and one.r != self.r), None)
+
+    def migrate(self, one):
+        """The set gets the parities of the code in force, beside the old ones at first, and a new number."""
+        data = one.shards[:one.k]
+        under = {node for node, _ in data}
+        if sum(self.has_room(n) and n not in under for n in range(len(self.up))) < self.r:
+            return "stuck set %d" % one.number
+        fresh = []
+        for _ in range(self.r):
+            fresh.append(self.put(data + fresh))
+        self.given += one.k
+        self.drop_rows(one.shards[one.k:])
+        del self.sets[one.number]
+        old, one.number, one.r, one.shards = one.number, self.draw(), self.r, data + fresh
+        self.sets[one.number] = one
+        for position, (_, slots) in one.slots.items():
+            for handle in slots:
+                if handle is not None:
+                    self.objects[handle].home = (one.number, position)
+        return "recoded set %d to %d" % (old, one.number)
+
     def rebuild(self):
-        whole = True
         for number in sorted(self.sets):
             one = self.sets[number]
             count = len(self.lost(one))
-            if 1 <= count <= self.r:
+            if 1 <= count <= one.r:
                 position = next(p for p, s in enumerate(one.shards) if self.is_lost(s))
                 others = [s for p, s in enumerate(one.shards) if p != position]
                 shard = self.put(others)
                 if not shard:
                     return "stuck set %d" % number
-                self.given += self.k
+                self.given += one.k
                 one.shards[position] = shard
                 return "rebuilt set %d position %d node %d" % (number, position, shard[0])
+        old = self.old_set()
+        if old:
+            return self.migrate(old)
         return "whole %d" % sum(self.is_broken(s) for s in self.sets.values())
 
 
@@ -566,8 +600,8 @@ def run(text, watch=None, local=False, world=World):
         elif verb in ("evict", "begin", "ship", "commit", "abort", "pair", "patch", "merge", "part", "compact", "rebuild"):
             reply = getattr(w, verb)()
         else:
-            reply = getattr(w, verb)(int(rest[0]))
-        words = [lane, verb] + ([rest[0]] if rest else [])
+            reply = getattr(w, verb)(*map(int, rest))
+        words = [lane, verb] + ([rest[0]] if rest and verb != "recode" else [])
         out.append(" ".join(words + [reply]))
         if last[lane] == i:
             give_back(lane)

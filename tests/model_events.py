@@ -15,7 +15,7 @@ from model import World, size_for
 
 SEATS, MOST_PINS = 64, 16
 JOBS = ["make", "read", "write", "free", "swap", "filter", "evict", "begin", "ship", "commit", "abort", "pair", "patch",
-        "merge", "part", "compact", "rebuild", "crash", "join", "gather", "install", "fetch", "land"]
+        "merge", "part", "compact", "rebuild", "crash", "join", "gather", "install", "fetch", "land", "recode"]
 ON_OBJECTS = ("read", "free", "swap", "filter", "fetch", "load", "pin", "unpin", "store", "settle")
 FIELDS = ("k", "r", "nodes", "frames", "room", "handles")
 Event = collections.namedtuple("Event", "seat verb handle node at data", defaults=(0, 0, 0, b""))
@@ -189,7 +189,7 @@ class Events(World):
             return self.unavailable(one)
         if not self.is_lost(one.shards[position]):
             return "direct"
-        self.given += self.k
+        self.given += one.k
         self.orders[seat] = ("decode", number, position)
         return f"fetched {number} {position}"
 
@@ -211,7 +211,7 @@ class Events(World):
     def happen(self, event):
         """Lets an event come, and tells its reply."""
         told = {"write": (event.handle, event.at, event.data), "claim": (event.handle, event.at, event.data),
-                "make": (event.data,), "crash": (event.node,), "join": (event.node,)}
+                "make": (event.data,), "crash": (event.node,), "join": (event.node,), "recode": (event.node, event.at)}
         args = told.get(event.verb, (event.handle,) if event.verb in ON_OBJECTS else ())
         if event.verb in JOBS:
             return self.turn(event.seat, event.verb, *args)
@@ -226,14 +226,15 @@ def sizes_of(line):
 
 
 def event_of(line):
-    """An event as a line has it: the seat, the verb, and what it takes of HANDLE or NODE, AT and HEX (- for none)."""
+    """An event as a line has it: the seat, the verb, and what it takes of HANDLE or NODE, AT and HEX (- for none). Of a
+    recode K stands in the node's place and R in that of AT."""
     seat, verb, *rest = line.split()
     data = b""
     if verb in ("make", "write", "claim"):
         word = rest.pop()
         data = b"" if word == "-" else bytes.fromhex(word)
     first, at = [int(word) for word in rest] + [0] * (2 - len(rest))
-    is_node = verb in ("crash", "join")
+    is_node = verb in ("crash", "join", "recode")
     return Event(int(seat), verb, 0 if is_node else first, first if is_node else 0, at, data)
 
 

@@ -10,14 +10,14 @@ import os
 DONE, BAD_CODE, BAD_LENGTH, BAD_BUFFER, BAD_POSITIONS, NO_MEMORY = range(6)
 NAMES = {DONE: "done", BAD_CODE: "no such code", BAD_LENGTH: "rows of no bytes", BAD_BUFFER: "a buffer of another size",
          BAD_POSITIONS: "other positions", NO_MEMORY: "no memory", 6: "no world", 7: "a world already", 8: "no such verb",
-         9: "no such seat", 10: "no such handle, node or size", 12: "no encoder", 13: "an encoder already", 16: "k out of range",
+         9: "no such seat", 10: "no such handle, node, size or code", 12: "no encoder", 13: "an encoder already", 16: "k out of range",
          17: "r out of range", 18: "nodes out of range", 19: "frames out of range", 20: "room out of range",
          21: "handles out of range"}
-VERBS = "make read write free swap filter evict begin ship commit abort pair patch merge part compact rebuild crash join pin unpin".split()
+VERBS = "make read write free swap filter evict begin ship commit abort pair patch merge part compact rebuild crash join pin unpin recode".split()
 KINDS = ("made version bytes done left moved same set batch shipped allshipped pair stepped allstepped merged rebuilt epoch full noroom "
          "unmade freed moving unavailable range pinned worn scopefull notpinned nothere noslot nospans nonodes leaving nonode nobatch "
          "short nopair joining nodefull changed unfinished nojoin whole stuck down up crowded noframe swapped stays word claimed stored "
-         "notclaimed notstored held notheld noorder direct fetched").split()
+         "notclaimed notstored held notheld noorder direct fetched coded recoded").split()
 ROOM = 4096
 CLEAN, ONE, MANY = range(3)
 

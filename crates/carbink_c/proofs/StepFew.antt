@@ -258,6 +258,7 @@ works_few job.Compact a b r bounded x = compact_few a.far b.far r x.1
 works_few job.Rebuild a b r bounded x = rebuild_few a.far b.far r x.1
 works_few (job.Crash node) a b r bounded x = crash_few node a.far b.far r x.1
 works_few (job.Join node) a b r bounded x = join_few node a.far b.far r x.1
+works_few (job.Recode code) a b r bounded x = same x.1.reply tt
 works_few job.Gather a b r bounded x = absurd x.1
 works_few job.Install a b r bounded x = absurd x.1
 works_few (job.Fetch handle) a b r bounded x = absurd x.1

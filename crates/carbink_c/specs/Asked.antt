@@ -31,8 +31,10 @@ verb_number verb.Crash = 17
 verb_number verb.Join = 18
 verb_number verb.Pin = 19
 verb_number verb.Unpin = 20
+verb_number verb.Recode = 21
 
--- the event that a verb asks for, with the numbers beside it and these bytes
+-- The event that a verb asks for, with the numbers beside it and these bytes. A code has as many data
+-- positions as `handle` says, and as many parities as `at` does.
 abbrev pub event_by : Verb → CarbinkEvent → List ℕ → Event
 event_by verb.Make a bytes = Turn a.seat (job.Make bytes)
 event_by verb.Read a bytes = Turn a.seat (job.Read (record { n = a.handle }))
@@ -55,3 +57,4 @@ event_by verb.Crash a bytes = Turn a.seat (job.Crash (record { n = a.node }))
 event_by verb.Join a bytes = Turn a.seat (job.Join (record { n = a.node }))
 event_by verb.Pin a bytes = Step a.seat (Pin (record { n = a.handle }))
 event_by verb.Unpin a bytes = Step a.seat (Unpin (record { n = a.handle }))
+event_by verb.Recode a bytes = Turn a.seat (job.Recode (record { k = a.handle; r = a.at }))

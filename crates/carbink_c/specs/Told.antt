@@ -3,7 +3,7 @@ use Rattle.std.specs.Prelude.{ℕ, List, [], ◌∷◌, ◌++◌, length}
 use Rattle.std.specs.Int.{to_le_bytes, w64}
 use Rattle.cb_member.specs.declared.names.Loss.{Loss}
 use Rattle.cb_types.specs.declared.reply.Reply.{Reply}
-use Rattle.cb_types.specs.declared.reply.Reply.TheVariants.{Made, Version, Bytes, Done, Left, Moved, Same, Set, Batch, Shipped, AllShipped, Pair, Stepped, AllStepped, Merged, Rebuilt, EpochAt, Full, NoRoom, Unmade, Freed, Moving, Unavailable, Range, Pinned, Worn, ScopeFull, NotPinned, NotHere, NoSlot, NoSpans, NoNodes, Leaving, NoNode, NoBatch, Short, NoPair, Joining, NodeFull, Changed, Unfinished, NoJoin, Whole, Stuck, Down, Up, Crowded, NoFrame, Swapped, Stays, Word, Claimed, Stored, NotClaimed, NotStored, Held, NotHeld, NoOrder, Direct, Fetched}
+use Rattle.cb_types.specs.declared.reply.Reply.TheVariants.{Made, Version, Bytes, Done, Left, Moved, Same, Set, Batch, Shipped, AllShipped, Pair, Stepped, AllStepped, Merged, Rebuilt, EpochAt, Full, NoRoom, Unmade, Freed, Moving, Unavailable, Range, Pinned, Worn, ScopeFull, NotPinned, NotHere, NoSlot, NoSpans, NoNodes, Leaving, NoNode, NoBatch, Short, NoPair, Joining, NodeFull, Changed, Unfinished, NoJoin, Whole, Stuck, Down, Up, Crowded, NoFrame, Swapped, Stays, Word, Claimed, Stored, NotClaimed, NotStored, Held, NotHeld, NoOrder, Direct, Fetched, Coded, Recoded}
 use Rattle.carbink_c.specs.declared.reply.CarbinkReply.{CarbinkReply}
 
 -- the number by which C knows the kind of a reply, in the order of the kinds
@@ -68,6 +68,8 @@ kind_of NotHeld = 56
 kind_of NoOrder = 57
 kind_of Direct = 58
 kind_of (Fetched set position) = 59
+kind_of (Coded code) = 60
+kind_of (Recoded set fresh) = 61
 
 -- the first number of a reply, and 0 where it has none
 abbrev pub first_of : Reply → ℕ
@@ -105,6 +107,8 @@ first_of (Stored left) = left
 first_of (NotStored left) = left
 first_of (Held seat) = seat
 first_of (Fetched set position) = set.n
+first_of (Coded code) = code.k
+first_of (Recoded set fresh) = set.n
 first_of reply = 0
 
 -- the second number, and 0
@@ -116,6 +120,8 @@ second_of (Rebuilt set position node) = position
 second_of (NoRoom frames loose nodes) = loose
 second_of (Joining a b) = b.n
 second_of (Fetched set position) = position
+second_of (Coded code) = code.r
+second_of (Recoded set fresh) = fresh.n
 second_of reply = 0
 
 -- the third number, and 0

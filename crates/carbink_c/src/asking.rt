@@ -9,12 +9,12 @@ ghost use Rattle.carbink_c.specs.Asked.{event_by};
 
 use crate::event::{CarbinkEvent, Verb};
 use cb_core::{Atomic, Event};
-use cb_member::NodeId;
-use cb_types::{Bytes, Config, Handle, Job, MOST_BYTES, NoMemory};
+use cb_member::{Code, NodeId};
+use cb_types::{Bytes, Config, Handle, Job, MOST_BYTES, NoMemory, is_code_for};
 use std::alloc::Global;
 
 /// Whether the event may come that the verb asks for with these numbers and so many bytes: its
-/// handle, its node or its bytes are as the verb may have them.
+/// handle, its node, its bytes or its code are as the verb may have them.
 pub(crate) fn may_come(config: &Config, verb: Verb, asked: &CarbinkEvent, bytes: &[u8]) -> bool
     requires seat { asked.now.seat < 64 }
     ensures { IsTrue result ↔ IsEvent config.now (event_by verb asked.now bytes.now) }
@@ -29,6 +29,7 @@ pub(crate) fn may_come(config: &Config, verb: Verb, asked: &CarbinkEvent, bytes:
         Verb::Evict | Verb::Begin | Verb::Ship | Verb::Commit | Verb::Abort => true,
         Verb::Pair | Verb::Patch | Verb::Merge | Verb::Part | Verb::Compact => true,
         Verb::Rebuild => true,
+        Verb::Recode => is_code_for(code_of(asked), config.nodes),
     }
 }
 
@@ -69,8 +70,21 @@ pub(crate) fn event_of(
         Verb::Rebuild => Job::Rebuild,
         Verb::Crash => crash(asked),
         Verb::Join => join(asked),
+        Verb::Recode => Job::Recode {
+            code: code_of(asked),
+        },
     };
     Ok(Event::Turn { seat, job })
+}
+
+/// The code that is asked for.
+fn code_of(asked: &CarbinkEvent) -> Code
+    ensures { result ≡ record { k = asked.now.handle; r = asked.now.at } }
+{
+    Code {
+        k: asked.handle,
+        r: asked.at,
+    }
 }
 
 fn crash(asked: &CarbinkEvent) -> Job

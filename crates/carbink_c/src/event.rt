@@ -10,16 +10,17 @@ pub struct CarbinkEvent {
     pub verb: u32,
     /// Who acts: below 64.
     pub seat: u32,
-    /// The object, by the number that its make gave it.
+    /// The object, by the number that its make gave it. For Recode: how many data positions the code
+    /// has.
     pub handle: u32,
     /// The node that crashes or joins.
     pub node: u32,
-    /// Where a write begins, in bytes.
+    /// Where a write begins, in bytes. For Recode: how many parities the code has.
     pub at: u32,
 }
 
-/// What an event does. The verbs from Make to Join are turns, each with the job of its name; Pin
-/// and Unpin are steps.
+/// What an event does. Pin and Unpin are steps; all other verbs are turns, each with the job of its
+/// name.
 #[derive(Clone, Copy)]
 pub enum Verb {
     /// A new object with the bytes.
@@ -64,6 +65,8 @@ pub enum Verb {
     Pin,
     /// The seat's newest pin on the object is given back.
     Unpin,
+    /// The code is in force from here: new sets have it.
+    Recode,
 }
 
 impl Verb {
@@ -94,6 +97,7 @@ impl Verb {
             18 => Some(Verb::Join),
             19 => Some(Verb::Pin),
             20 => Some(Verb::Unpin),
+            21 => Some(Verb::Recode),
             _ => None,
         }
     }

@@ -115,7 +115,9 @@ fn last_kind(reply: &Reply) -> u32
         Reply::NotHeld => 56,
         Reply::NoOrder => 57,
         Reply::Direct => 58,
-        _ => 59,
+        Reply::Fetched { .. } => 59,
+        Reply::Coded { .. } => 60,
+        _ => 61,
     }
 }
 
@@ -169,6 +171,8 @@ fn later_first(reply: &Reply) -> u64
         Reply::NotStored { left } => u64::from(*left),
         Reply::Held { seat } => u64::from(*seat),
         Reply::Fetched { set, .. } => set.n,
+        Reply::Coded { code } => u64::from(code.k),
+        Reply::Recoded { set, .. } => set.n,
         _ => 0,
     }
 }
@@ -185,6 +189,8 @@ fn second(reply: &Reply) -> u64
         Reply::NoRoom { loose, .. } => u64::from(*loose),
         Reply::Joining { b, .. } => b.n,
         Reply::Fetched { position, .. } => u64::from(*position),
+        Reply::Coded { code } => u64::from(code.r),
+        Reply::Recoded { fresh, .. } => fresh.n,
         _ => 0,
     }
 }

@@ -4,6 +4,7 @@ use Rattle.std.proofs.Common.{◌≡◌, ◌⊎◌, ℕ, suc, List, [], ◌∷�
 use Rattle.std.specs.List.{AllByRecursion, Contains, cons_option, flat_map}
 use Rattle.std.proofs.lemmas.List.Sorted.{Contains-permutation}
 use Rattle.std.proofs.lemmas.Option.{same_Some}
+use Rattle.cb_member.specs.declared.names.Code.{Code}
 use Rattle.cb_member.specs.declared.names.Epoch.{Epoch}
 use Rattle.cb_member.specs.declared.names.Loss.{Loss}
 use Rattle.cb_member.specs.declared.names.NodeId.{NodeId}
@@ -48,7 +49,7 @@ use Rattle.cb_lanes.specs.Asked.{HasLineReply}
 use Rattle.cb_lanes.specs.Lost.{told_loss, losses_of}
 use Rattle.cb_app.specs.Telling.{TellsLost, TellsRoom}
 use Rattle.cb_app.specs.Threaded.{AreLosses}
-use Rattle.cb_app.proofs.TurnHistory.{found_codes}
+use Rattle.cb_app.proofs.TurnHistory.{PutsNone, found_codes}
 use Rattle.cb_app.proofs.CrashesTold.{IsLoss, lost_told, room_told}
 use Rattle.cb_app.proofs.OfLane.{has_either}
 
@@ -104,12 +105,20 @@ no_join n (answer.EpochAt e) node epoch (inl same) =
 no_join n (answer.EpochAt e) node epoch (inr later) = later
 no_join n r node epoch there = there
 
+no_recode : (code : Code) (r : Reply) (node : NodeId) (epoch : Epoch)
+    → Has (crashing node epoch) (happening (job.Recode code) (Some r)) → ⊥
+no_recode code (answer.Coded now) node epoch (inl same) =
+    absurd (let f = ap (λ (d : Deed). d.job) same in cc)
+no_recode code (answer.Coded now) node epoch (inr later) = later
+no_recode code r node epoch there = there
+
 line_found : (q : Request) (r : Reply) (node : NodeId) (epoch : Epoch)
     → Has (crashing node epoch) (happened_at q r)
     → told_loss q r ≡ Some (record { node = node; epoch = epoch })
 line_found (line.Make name bytes) r node epoch there = absurd (no_make bytes r node epoch there)
 line_found (line.Crash n) r node epoch there = crash_found n r node epoch there
 line_found (line.Join n) r node epoch there = absurd (no_join n r node epoch there)
+line_found (line.Recode code) r node epoch there = absurd (no_recode code r node epoch there)
 line_found q r node epoch there = absurd there
 
 has_more : (o : Option Loss) (l : Loss) (ls : List Loss) → (o ≡ Some l) ⊎ Has l ls
@@ -264,12 +273,13 @@ nodes_line c h q n runs may tells = absurd may
 -- ---- all answers of a closed record
 module _ (first : ℕ) (c : Config) (ok : IsAccepted c) (v : View) (count : ℕ) (last : FarState)
     (one : IsOneHistory Did first c (v ∷ []) count last) (answers : List Answer)
-    (backs : Backs (as_part v) (tolds [] answers)) where
+    (backs : Backs (as_part v) (tolds [] answers))
+    (none : (t : Turn) → Has t v.turns → PutsNone t) where
   lost_reply : (losses : List Loss) → AreLosses losses answers → (h : Option ℕ) (q : Request) (r : Reply)
       → Meets (as_part v) (need_of h q r) → TellsLost c losses r
   lost_reply losses are h q (answer.Unavailable id ls) x =
       let z = lost_turn (as_part v) h q id ls x in
-      let t = lost_told first c ok v count last one z.0 id ls z.1 z.2 in
+      let t = lost_told first c ok v count last one none z.0 id ls z.1 z.2 in
       record { many = t.0; apart = t.1; among = all_losses v answers losses backs are ls t.2 }
   lost_reply losses are h q r x = tt
 
@@ -280,7 +290,7 @@ module _ (first : ℕ) (c : Config) (ok : IsAccepted c) (v : View) (count : ℕ)
   room_reply h q (answer.NoNodes n) runs may tells x = nodes_line c h q n runs may tells
   room_reply h q (answer.NoRoom f l n) runs may tells x =
       let z = room_turn (as_part v) h q f l n x in
-      let t = room_told first c ok v count last one z.0 f l n z.1 z.2.0 in (t.frames_are, t.few)
+      let t = room_told first c ok v count last one none z.0 f l n z.1 z.2.0 in (t.frames_are, t.few)
   room_reply h q r runs may tells x = tt
 
   losts : (losses : List Loss) → AreLosses losses answers → (before after : List Answer)
@@ -316,7 +326,7 @@ module _ (first : ℕ) (c : Config) (ok : IsAccepted c) (v : View) (count : ℕ)
   pub answers_room : AllByRecursion HasLineReply answers → AllByRecursion InThreads answers
       → AllByRecursion (λ a. TellsRoom c a.reply) answers
   answers_room replies runs = rooms [] answers replies runs (λ d there. all_evict c v.turns
-      (λ t in_it. turn_evicts c t (found_codes first c v count last one ok t in_it).force
+      (λ t in_it. turn_evicts c t (found_codes first c v count last one none ok t in_it).force
       (one.did t (v, (0, refl), in_it))) d
       (has_among (newest_first turn_needed (tolds [] answers)) (map deed v.turns) d backs.turned
       there))

@@ -60,7 +60,7 @@ use Rattle.cb_app.proofs.MadeTurns.{few_given}
 use Rattle.cb_app.proofs.NarrowTurns.{gave_narrow}
 use Rattle.cb_app.proofs.NeverWide.{comes_again, never_wide}
 use Rattle.cb_app.proofs.PairsApart.{given_joins}
-use Rattle.cb_app.proofs.TurnHistory.{each_gave, gave_codes}
+use Rattle.cb_app.proofs.TurnHistory.{PutsNone, each_gave, gave_codes}
 use Rattle.cb_app.proofs.RoomyLines.{AreOfNodes, crashed_named, few_makes, fulls, is_full}
 
 -- ---- losses of different nodes, which are among some
@@ -122,7 +122,7 @@ module _ (first : ℕ) (s : Script) (ok : IsAccepted s.config) (v : View) (count
     (backs : Backs (as_part v) (tolds [] answers)) (losses : List Loss)
     (are_losses : AreLosses losses answers) (are : AreLines s.config.nodes [] s.lines)
     (by : map asked answers ≡ by_lane s.lines) (roomy : IsRoomy s) (few : count < 2 ^ 40)
-    (end : StandsSound s.config last) where
+    (end : StandsSound s.config last) (none : (t : Turn) → Has t v.turns → PutsNone t) where
   abbrev c : Config
   c = s.config
 
@@ -196,7 +196,7 @@ module _ (first : ℕ) (s : Script) (ok : IsAccepted s.config) (v : View) (count
       → t.reply ≡ Some (answer.NoRoom frames loose nodes) → frames ≡ c.frames → loose < c.k
       → MakesShortIf t.job → tries_again t ≡ true
   tried t there frames loose nodes told all few short =
-      let k = (gave_codes first c v count last one ok t there).force.0 in
+      let k = (gave_codes first c v count last one none ok t there).force.0 in
       let least = roomy.frames in
       ap (is_to_try_again t.gave t.order t.job) told
       ∙ comes_again t.gave (job_pages t.gave t.order t.job) frames loose (omega (arith, few, k))
@@ -205,7 +205,7 @@ module _ (first : ℕ) (s : Script) (ok : IsAccepted s.config) (v : View) (count
       holes : (wide t ≡ false) ⊎ (28 * c.k + 2600 ≤ c.frames)
           → (wide t ≡ false) ⊎ (28 * t.gave.code.k + 2600 ≤ frames)
       holes (inl narrow) = inl narrow
-      holes (inr room) = let k = (gave_codes first c v count last one ok t there).force.0 in
+      holes (inr room) = let k = (gave_codes first c v count last one none ok t there).force.0 in
           inr (omega (arith, room, k, all))
 
   no_room : (h : Option ℕ) (q : Request) (frames loose roomy_nodes : ℕ)
@@ -213,7 +213,7 @@ module _ (first : ℕ) (s : Script) (ok : IsAccepted s.config) (v : View) (count
       → Meets (as_part v) (need_of h q (answer.NoRoom frames loose roomy_nodes)) → ⊥
   no_room h q frames loose roomy_nodes short meets =
       let z = room_turn (as_part v) h q frames loose roomy_nodes meets in
-      let told = room_told first c ok v count last one z.0 frames loose roomy_nodes z.1 z.2.0 in
+      let told = room_told first c ok v count last one none z.0 frames loose roomy_nodes z.1 z.2.0 in
       elim told.few [
         | inl spans ↦ false≢true (sym z.2.2 ∙ tried z.0 z.1 frames loose roomy_nodes z.2.0
             told.frames_are spans (λ none. job_short h q z.0.job (short none) z.2.1))

@@ -12,7 +12,7 @@ use Rattle.cb_types.specs.declared.reply.Reply.{Reply}
 use Rattle.cb_types.specs.declared.reply.Reply.TheVariants as answer
 use Rattle.cb_world.specs.declared.entry.Entry.{Entry}
 use Rattle.cb_world.specs.World.{WorldState}
-use Rattle.cb_core.proofs.Laws.{WritesNone, made_by}
+use Rattle.cb_core.proofs.Laws.{WritesNone, made_by, no_code_told}
 use Rattle.cb_core.specs.Narrow.{IsLong, IsLongMadeIf, IsNarrow}
 use Rattle.cb_rule.specs.declared.turn.Turn.{Turn}
 use Rattle.cb_rule.specs.declared.view.View.{View}
@@ -25,11 +25,13 @@ use Rattle.cb_map_text.specs.Plain.{Plain, needs_object, objects}
 use Rattle.cb_map_text.specs.declared.command.FarCommand.{FarCommand}
 use Rattle.cb_shared.specs.Turning.{Did, DidAs, DidBy, made_by_turn}
 use Rattle.cb_core.specs.Jobs.{NeedsNoOrder}
+use Rattle.cb_core.specs.Recoding.{PutsNoCode}
 use Rattle.cb_shared.proofs.Laws.{asked_alone, makes_full}
 use Rattle.cb_farmap.specs.Commands.{HasOneHistory, IsMake, IsOnObject, IsToldByTurn, made_by_all}
 use Rattle.cb_app.specs.Mapped.{HasTurn, IsCause}
 use Rattle.cb_app.specs.Telling.{AreOfOtherNodes}
 use Rattle.cb_app.proofs.CrashesTold.{IsLoss, lost_told, room_told}
+use Rattle.cb_app.proofs.TurnHistory.{PutsNone}
 use Rattle.cb_app.proofs.FramesTold.{IsShort, fetch_lacks, frames_taken, land_lacks, make_counted}
 use Rattle.cb_app.proofs.FramesTold.{make_lacks, read_lacks, swap_lacks, write_lacks}
 use Rattle.cb_app.proofs.MadeTurns.{adds, few_made, made_before, made_in}
@@ -73,6 +75,12 @@ no_crash : (v : View) (node : NodeId) → IsForObject v (job.Crash node) → ⊥
 no_crash v node (inl x) = x
 no_crash v node (inr x) = x
 
+-- and none puts a code in force
+no_recode : (v : View) (j : Job) → IsForObject v j → PutsNoCode j
+no_recode v (job.Recode code) (inl x) = x
+no_recode v (job.Recode code) (inr x) = x
+no_recode v j x = tt
+
 -- the record of one view has all that another one wrote
 abbrev pub WroteAll : View → View → Type 0
 WroteAll v w = (e : Entry) → Has e v.written → Has e w.written
@@ -99,6 +107,10 @@ module _ (c : Config) (ok : IsAccepted c) (v : View) (w : WorldState) (closed : 
   abbrev one : IsOneHistory Did 1 c (v ∷ []) count w.far
   one = closed.turns
 
+  pub codeless : (t : Turn) → Has t v.turns → PutsNone t
+  codeless t there =
+      no_code_told t.job t.reply t.took (no_recode v t.job (jobs_are t there))
+
   module _ (t : Turn) (there : Has t v.turns) where
     did : (j : Job) (r : Reply) → NeedsNoOrder j → t.job ≡ j → t.reply ≡ Some r
         → DidAs c j (Some r) t.start t.acts t.took t.gave
@@ -117,7 +129,7 @@ module _ (c : Config) (ok : IsAccepted c) (v : View) (w : WorldState) (closed : 
 
     -- no set lost more shards than it has parities, since no node crashed
     never_lost : (id : SetId) (losses : List Loss) → t.reply ≡ Some (answer.Unavailable id losses) → ⊥
-    never_lost id losses is = by losses (lost_told 1 c ok v count w.far one t id losses there is)
+    never_lost id losses is = by losses (lost_told 1 c ok v count w.far one codeless t id losses there is)
       where
         by : (ls : List Loss)
             → (c.r < length ls) × AreOfOtherNodes ls × AllByRecursion (IsLoss v.turns) ls → ⊥
@@ -257,7 +269,7 @@ module _ (c : Config) (ok : IsAccepted c) (v : View) (w : WorldState) (closed : 
     cause_room : (frames loose nodes : ℕ) → r ≡ answer.NoRoom frames loose nodes
         → IsCause c v w s a (answer.NoRoom frames loose nodes)
     cause_room frames loose nodes e =
-        let z = room_told 1 c ok v count w.far one t frames loose nodes in_v reply in
+        let z = room_told 1 c ok v count w.far one codeless t frames loose nodes in_v reply in
         let all = all_taken t in_v frames loose nodes reply in
         let low = took_few in (z.frames_are, z.few, omega (arith, all, low), by for_object)
       where

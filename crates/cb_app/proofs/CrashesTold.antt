@@ -32,7 +32,7 @@ use Rattle.cb_rule.specs.Locking.{turn_number}
 use Rattle.cb_rule.specs.OneHistory.{IsOneHistory}
 use Rattle.cb_shared.specs.Turning.{Did}
 use Rattle.cb_app.specs.Telling.{AreOfOtherNodes}
-use Rattle.cb_app.proofs.TurnHistory.{at_gave, at_turn, each_leaves, each_tells}
+use Rattle.cb_app.proofs.TurnHistory.{PutsNone, at_gave, at_turn, each_leaves, each_tells}
 
 -- ---- the members, where one node has a new state
 -- a node is that one, or has the state that it had
@@ -236,12 +236,13 @@ module _ (first : ℕ) (c : Config) (ok : IsAccepted c) (v : View) (count : ℕ)
       (λ far. AreCrashes v.turns far.members) (λ n far are. are) t there
 
   -- what a turn that was answered Unavailable tells
-  pub lost_told : (t : Turn) (id : SetId) (losses : List Loss) → Has t v.turns
+  pub lost_told : ((t : Turn) → Has t v.turns → PutsNone t) → (t : Turn) (id : SetId)
+      (losses : List Loss) → Has t v.turns
       → t.reply ≡ Some (answer.Unavailable id losses)
       → (c.r < length losses) × AreOfOtherNodes losses × AllByRecursion (IsLoss v.turns) losses
-  lost_told t id losses there is =
+  lost_told none t id losses there is =
       let tells = subst (TellsIf c t.took t.gave) is
-      (each_tells first c v count last one ok t there) in (
+      (each_tells first c v count last one none ok t there) in (
         tells.many,
         subst AreOfOtherNodes (sym tells.all)
             (lost_apart t.took.members tells.shards (apart_rec tells.shards tells.apart)),
@@ -250,8 +251,9 @@ module _ (first : ℕ) (c : Config) (ok : IsAccepted c) (v : View) (count : ℕ)
       )
 
   -- and one that was answered NoRoom
-  pub room_told : (t : Turn) (frames loose nodes : ℕ) → Has t v.turns
+  pub room_told : ((t : Turn) → Has t v.turns → PutsNone t) → (t : Turn) (frames loose nodes : ℕ)
+      → Has t v.turns
       → t.reply ≡ Some (answer.NoRoom frames loose nodes)
       → IsShortOfRoom c (room_count t.gave.nodes t.gave.members) frames loose nodes
-  room_told t frames loose nodes there is =
-      subst (TellsIf c t.took t.gave) is (each_tells first c v count last one ok t there)
+  room_told none t frames loose nodes there is =
+      subst (TellsIf c t.took t.gave) is (each_tells first c v count last one none ok t there)

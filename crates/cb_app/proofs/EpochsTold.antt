@@ -2,6 +2,7 @@
 use Rattle.std.proofs.Common.{◌≡◌, ◌≢◌, ◌⊎◌, ℕ, suc, ◌+◌, ◌<◌, cond, eqb, List, [], ◌∷◌, ◌++◌, Option, None, Some, refl, sym, ap, ◌∙◌, subst, inl, inr, arith, eq-eqb, eqb-true, true≢false}
 use Rattle.std.specs.List.{AllByRecursion, cons_option, flat_map, range_with_len}
 use Rattle.std.proofs.lemmas.Grind.{flat_map-append}
+use Rattle.cb_member.specs.declared.names.Code.{Code}
 use Rattle.cb_member.specs.declared.names.Epoch.{Epoch}
 use Rattle.cb_member.specs.declared.names.NodeId.{NodeId}
 use Rattle.cb_member.specs.Membership.{Membership}
@@ -135,11 +136,18 @@ join_epochs node None = refl
 join_epochs node (Some (answer.EpochAt epoch)) = refl
 join_epochs node (Some r) = refl
 
+recode_epochs : (code : Code) (r : Option Reply)
+    → flat_map deed_epochs (happening (job.Recode code) r) ≡ []
+recode_epochs code None = refl
+recode_epochs code (Some (answer.Coded now)) = refl
+recode_epochs code (Some r) = refl
+
 -- what had happen by a deed tells what the deed does
 deed_tells : (j : Job) (r : Option Reply) → flat_map deed_epochs (happening j r) ≡ epochs_in j r
 deed_tells (job.Make bytes) r = make_epochs bytes r
 deed_tells (job.Crash node) r = crash_epochs node r
 deed_tells (job.Join node) r = join_epochs node r
+deed_tells (job.Recode code) r = recode_epochs code r
 deed_tells j r = refl
 
 turn_deeds : (e : ℕ) (ts : List Turn)
@@ -174,12 +182,18 @@ join_line : (node : NodeId) (r : Reply)
 join_line node (answer.EpochAt epoch) = refl
 join_line node r = refl
 
+recode_line : (code : Code) (r : Reply) → IsReplyOf (line.Recode code) r
+    → flat_map deed_epochs (happened_at (line.Recode code) r) ≡ cons_option (epoch_of r) []
+recode_line code r x = recode_epochs code (Some r) ∙ sym (ap (λ (o : Option ℕ). cons_option o [])
+    (no_epoch r (λ epoch is. subst (IsReplyOf (line.Recode code)) is x)))
+
 -- what an answered line had happen tells the epoch of its answer
 line_tells : (q : Request) (r : Reply) → IsReplyOf q r
     → flat_map deed_epochs (happened_at q r) ≡ cons_option (epoch_of r) []
 line_tells (line.Make name bytes) r x = make_line name bytes r x
 line_tells (line.Crash node) r x = crash_epochs node (Some r) ∙ crash_line node r
 line_tells (line.Join node) r x = join_epochs node (Some r) ∙ join_line node r
+line_tells (line.Recode code) r x = recode_line code r x
 line_tells q r x =
     sym (ap (λ (o : Option ℕ). cons_option o []) (no_epoch r (λ epoch is. subst (IsReplyOf q) is x)))
 

@@ -37,6 +37,7 @@ mod RoomyLines
 mod RangeTold
 mod UpheldTold
 mod LongMakes
+mod RecodesTold
 mod NeverWide
 mod CalmTold
 mod FramesTold

@@ -3,6 +3,7 @@
 use Rattle.std.proofs.Common.{◌≡◌, ℕ, ◌≤◌, Bool, false, ◌||◌, nat_lt, List, [], ◌∷◌, ◌++◌, length, map, Option, None, Some, sym, ap, ◌∙◌, subst, inl, inr, arith, refl}
 use Rattle.std.specs.List.{AllByRecursion}
 use Rattle.std.proofs.lemmas.Bool.{cases_Bool, cases_lt, false≢true, lt-ltb}
+use Rattle.cb_member.specs.declared.names.Code.{Code}
 use Rattle.cb_member.specs.declared.names.NodeId.{NodeId}
 use Rattle.cb_types.specs.declared.answer.Answer.{Answer}
 use Rattle.cb_types.specs.declared.handle.Handle.{Handle}
@@ -96,11 +97,19 @@ join_short node (answer.EpochAt epoch) d (inl is) =
 join_short node (answer.EpochAt epoch) d (inr later) = absurd later
 join_short node r d there = absurd there
 
+recode_short : (code : Code) (r : Reply) (d : Deed) → Has d (happening (job.Recode code) (Some r))
+    → MakesShort d.job
+recode_short code (answer.Coded now) d (inl is) =
+    subst (λ (x : Deed). MakesShort x.job) is (omega arith)
+recode_short code (answer.Coded now) d (inr later) = absurd later
+recode_short code r d there = absurd there
+
 line_short : (q : Request) (r : Reply) (d : Deed) → MakesNoneLong q → Has d (happened_at q r)
     → MakesShort d.job
 line_short (line.Make name bytes) r d short there = made_short bytes r d short there
 line_short (line.Crash node) r d short there = crash_short node r d there
 line_short (line.Join node) r d short there = join_short node r d there
+line_short (line.Recode code) r d short there = recode_short code r d there
 line_short q r d short there = absurd there
 
 lines_short : (before after : List Answer) (d : Deed)

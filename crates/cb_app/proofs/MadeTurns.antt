@@ -2,6 +2,7 @@
 -- of one.
 use Rattle.std.proofs.Common.{◌≡◌, ◌⊎◌, ℕ, suc, ◌+◌, ◌<◌, ◌≤◌, nat_lt, cond, List, [], ◌∷◌, ◌++◌, Option, None, Some, refl, sym, ap, ◌∙◌, inl, inr, arith}
 use Rattle.std.specs.List.{flat_map}
+use Rattle.cb_member.specs.declared.names.Code.{Code}
 use Rattle.cb_member.specs.declared.names.NodeId.{NodeId}
 use Rattle.cb_types.specs.declared.answer.Answer.{Answer}
 use Rattle.cb_types.specs.declared.config.Config.{Config}
@@ -136,10 +137,17 @@ join_counts node None = refl
 join_counts node (Some (answer.EpochAt epoch)) = refl
 join_counts node (Some r) = refl
 
+pub recode_counts : (code : Code) (r : Option Reply)
+    → total makes_in (happening (job.Recode code) r) ≡ 0
+recode_counts code None = refl
+recode_counts code (Some (answer.Coded now)) = refl
+recode_counts code (Some r) = refl
+
 deed_counts : (j : Job) (r : Option Reply) → total makes_in (happening j r) ≡ made_by j r
 deed_counts (job.Make bytes) r = make_counts bytes r
 deed_counts (job.Crash node) r = crash_counts node r
 deed_counts (job.Join node) r = join_counts node r
+deed_counts (job.Recode code) r = recode_counts code r
 deed_counts j r = refl
 
 turns_count : (ts : List Turn)
@@ -200,6 +208,7 @@ line_counts (line.Unpin name) r = sym (refusal_none Other r)
 line_counts (line.Filter name) r = sym (refusal_none Other r)
 line_counts (line.Crash node) r = crash_counts node (Some r) ∙ sym (refusal_none Nothing r)
 line_counts (line.Join node) r = join_counts node (Some r) ∙ sym (refusal_none Nothing r)
+line_counts (line.Recode code) r = recode_counts code (Some r) ∙ sym (refusal_none Nothing r)
 line_counts q r = sym (refusal_none Nothing r)
 
 lines_count : (before after : List Answer)

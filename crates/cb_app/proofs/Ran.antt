@@ -1,5 +1,5 @@
 -- A run by threads: what was told, and what the runtime was closed with.
-use Rattle.std.proofs.Common.{◌≡◌, ℕ, ◌^◌, ◌<◌, ◌≤◌, List, [], ◌∷◌, length, Result, Ok, Err, refl, sym, ap, ◌∙◌, subst}
+use Rattle.std.proofs.Common.{◌≡◌, ℕ, ◌^◌, ◌<◌, ◌≤◌, false, List, [], ◌∷◌, length, Result, Ok, Err, refl, sym, ap, ◌∙◌, subst}
 use Rattle.std.specs.Prelude.{IfOk, map}
 use Rattle.std.specs.List.{AllByRecursion}
 use Rattle.cb_member.specs.declared.no_memory.NoMemory.{NoMemory}
@@ -9,10 +9,12 @@ use Rattle.cb_types.specs.Config.{IsAccepted}
 use Rattle.cb_world.specs.World.{IsConfigured, WorldState}
 use Rattle.cb_script.specs.Form.{AreInMode, AreLines, FitsMode}
 use Rattle.cb_script.specs.Phrase.{phrase_of}
-use Rattle.cb_script.specs.Roomy.{IsRoomy}
+use Rattle.cb_script.specs.Roomy.{IsRoomy, has_recode_line}
 use Rattle.cb_script.specs.declared.script.Mode.TheVariants as modes
 use Rattle.cb_script.specs.declared.script.Script.{Script}
+use Rattle.cb_rule.specs.declared.turn.Turn.{Turn}
 use Rattle.cb_rule.specs.declared.view.View.{View}
+use Rattle.cb_rule.specs.Lists.{Has}
 use Rattle.cb_rule.specs.Closing.{IsClosed}
 use Rattle.cb_model.specs.Legal.{IsLegal}
 use Rattle.cb_record.specs.Backs.{Backs}
@@ -39,6 +41,7 @@ use Rattle.cb_app.specs.Calm.{IsCalmTo}
 use Rattle.cb_workers.specs.declared.worker.Worker.{Worker}
 use Rattle.cb_app.specs.Crew.{IsLaneTold, NeverFall, work_in}
 use Rattle.cb_app.specs.OwnLines.{AreAllOf, KeepAloneWith}
+use Rattle.cb_app.specs.Telling.{TellsLost}
 use Rattle.cb_app.specs.Threaded.{AreLosses, IsRun}
 use Rattle.cb_app.specs.declared.threads.ThreadsEnd.{ThreadsEnd}
 use Rattle.cb_app.proofs.CalmTold.{StandsSound, all_calm, calm_lack_none}
@@ -46,6 +49,8 @@ use Rattle.cb_app.proofs.AnswersTold.{InThreads, answers_lost, answers_room}
 use Rattle.cb_app.proofs.EpochsTold.{are_epochs}
 use Rattle.cb_app.proofs.Lanes.{by_lane_all}
 use Rattle.cb_app.proofs.OneToOne.{one_to_one}
+use Rattle.cb_app.proofs.RecodesTold.{answers_codeless, none_recoded}
+use Rattle.cb_app.proofs.TurnHistory.{PutsNone}
 use Rattle.cb_app.proofs.UpheldTold.{all_upheld}
 use Rattle.cb_app.proofs.WorkCounted.{counts_workers}
 use Rattle.cb_app.proofs.WornTold.{answers_worn, few_answers}
@@ -77,7 +82,12 @@ is_run script end mode few are lines replies last seal closed backs suits rises 
     let upheld = all_upheld 1 c v end.world closed end.answers backs suits in
     let runs = run_lines end.answers (subst (AreInMode modes.Threads) (sym lines)
     (by_lane_all (λ l. FitsMode (phrase_of l.request) modes.Threads) script.lines mode)) in
-    let lost = answers_lost 1 c ok v far.counts.turns far closed.turns end.answers backs end.losses losses in
+    let codeless : has_recode_line script.lines ≡ false → (t : Turn) → Has t v.turns → PutsNone t =
+    (λ none. none_recoded v end.answers backs (answers_codeless script end.answers lines none)) in
+    let lost : has_recode_line script.lines ≡ false
+    → AllByRecursion (λ a. TellsLost c end.losses a.reply) end.answers =
+    (λ none. answers_lost 1 c ok v far.counts.turns far closed.turns end.answers backs
+    (codeless none) end.losses losses) in
     let worn = answers_worn c v end.world closed end.answers replies runs backs
     (few_answers script.lines end.answers few lines) in
     let sound = closed.sound in
@@ -89,7 +99,8 @@ is_run script end mode few are lines replies last seal closed backs suits rises 
     let calm : IsRoomy script → far.counts.turns < 2 ^ 40
     → AllByRecursion (λ a. IsCalmTo a.request a.reply) end.answers =
     (λ roomy under. all_calm 1 script ok v far.counts.turns far closed.turns end.answers backs
-    end.losses losses are lines roomy under stands replies last worn lost upheld) in
+    end.losses losses are lines roomy under stands (codeless roomy.recodes) replies last worn
+    (lost roomy.recodes) upheld) in
     let legal : IsLegal 1 c.handles end.answers =
     legal_of_backed 1 c.handles v end.answers closed.entries closed.calm backs upheld rises.1 in
     let one = one_to_one 1 c.handles c.nodes script.lines end.answers legal are lines in
@@ -112,7 +123,8 @@ is_run script end mode few are lines replies last seal closed backs suits rises 
       losses = losses;
       epochs = are_epochs 1 c ok v far.counts.turns far closed.turns end.answers replies backs;
       lost = lost;
-      room = answers_room 1 c ok v far.counts.turns far closed.turns end.answers backs replies runs;
+      room = λ none. answers_room 1 c ok v far.counts.turns far closed.turns end.answers backs
+          (codeless none) replies runs;
       worn = worn;
       calm = calm;
       alone = λ roomy under lane own. keep_alone script.lines lane fresh_lane end.answers

@@ -100,6 +100,7 @@ none_happens : (w : Worker) (j : Job) (r : Option Reply) → owner j ≡ Some w 
 none_happens w (job.Make bytes) r is = absurd cc
 none_happens w (job.Crash node) r is = absurd cc
 none_happens w (job.Join node) r is = absurd cc
+none_happens w (job.Recode code) r is = absurd cc
 none_happens w j r is = refl
 
 none_happen : (w : Worker) (ts : List Turn) → AreJobsOf w (map deed ts)

@@ -21,7 +21,7 @@ use Rattle.cb_lanes.specs.Lost.{told_loss, losses_of}
 use Rattle.cb_lanes.proofs.Laws.{crash_below, crash_named, crashed_nodes}
 use Rattle.cb_app.specs.ByLane.{by_lane, lanes_up_to, of_lane}
 use Rattle.cb_app.proofs.Lanes.{by_lane_all}
-use Rattle.cb_app.proofs.MadeTurns.{crash_counts, join_counts, line_counts}
+use Rattle.cb_app.proofs.MadeTurns.{crash_counts, join_counts, recode_counts, line_counts}
 
 -- ---- as many lines make an object by lane as in order
 abbrev makes_one : Line → ℕ
@@ -123,6 +123,9 @@ one_once (line.Crash node) r =
     omega (arith, e, none)
 one_once (line.Join node) r =
     let e = line_counts (line.Join node) r in let none = join_counts node (Some r) in
+    omega (arith, e, none)
+one_once (line.Recode code) r =
+    let e = line_counts (line.Recode code) r in let none = recode_counts code (Some r) in
     omega (arith, e, none)
 one_once q r = let e = line_counts q r in omega (arith, e)
 

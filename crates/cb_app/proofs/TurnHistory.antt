@@ -14,9 +14,10 @@ use Rattle.cb_world.specs.declared.access.Access.{Access}
 use Rattle.cb_world.specs.declared.shown.Shown.{Shown}
 use Rattle.cb_world.specs.Empty.{empty_far}
 use Rattle.cb_world.specs.FarState.{FarState}
+use Rattle.cb_world.specs.KeepCodes.{KeepCodes}
 use Rattle.cb_world.specs.Played.{played}
 use Rattle.cb_core.specs.Parts.{Holding}
-use Rattle.cb_core.proofs.Laws.{AreSetsApart, IsFine, IsPlain, LeavesFar, TellsIf, ordered_leaves, ordered_stopped_leaves, stopped_leaves, turned_leaves}
+use Rattle.cb_core.proofs.Laws.{AreSetsApart, IsFine, IsPlain, LeavesFar, TellsIf, ordered_leaves, ordered_stopped_leaves, recoded_told, stopped_leaves, turned_leaves}
 use Rattle.cb_rule.specs.declared.turn.Turn.{Turn}
 use Rattle.cb_rule.specs.declared.view.View.{View}
 use Rattle.cb_rule.specs.Lists.{Has, times}
@@ -76,6 +77,10 @@ fine_of c k far stood codes = record {
   codes = codes;
   apart = sets_apart c k far stood;
 }
+
+-- the turn puts no code in force
+abbrev pub PutsNone : Turn → Type 0
+PutsNone t = recoded_told t.job t.reply t.took ≡ t.took
 
 -- ---- all of them
 -- what is counted is there
@@ -182,30 +187,32 @@ module _ (first : ℕ) (c : Config) (v : View) (count : ℕ) (last : FarState)
       by (inl low) = next (cases_lt (turn_number t + 1) count) low
       by (inr e) = subst Q (sym e.2) (took t there)
 
-  -- all codes are the configured one
+  -- all codes are the configured one, where no turn puts another one in force
   abbrev Codes : ℕ → FarState → Type 0
   Codes n far = HaveCodes (IsConfiguredCode c) far
 
   codes_start : Codes 0 (empty_far first c)
   codes_start = empty_codes (IsConfiguredCode c) first c (refl, refl)
 
-  codes_step : IsAccepted c → (t : Turn) → Has t v.turns → turn_number t < count
-      → Codes (turn_number t) t.took → Codes (suc (turn_number t)) t.gave
-  codes_step ok t there low before =
-      let stood = one.sound t (made t there) in
-      have_codes (IsConfiguredCode c) t.took t.gave
-      ((each_leaves t there).codes ok stood.configured t.start stood.sound) before
+  module _ (none : (t : Turn) → Has t v.turns → PutsNone t) where
+    codes_step : IsAccepted c → (t : Turn) → Has t v.turns → turn_number t < count
+        → Codes (turn_number t) t.took → Codes (suc (turn_number t)) t.gave
+    codes_step ok t there low before =
+        let stood = one.sound t (made t there) in
+        have_codes (IsConfiguredCode c) t.took t.gave
+        (subst (λ (far : FarState). KeepCodes far t.gave) (none t there)
+        ((each_leaves t there).codes ok stood.configured t.start stood.sound)) before
 
-  pub found_codes : IsAccepted c → (t : Turn) → Has t v.turns
-      → HaveCodes (IsConfiguredCode c) t.took
-  found_codes ok t there = at_turn Codes codes_start (codes_step ok) t there
+    pub found_codes : IsAccepted c → (t : Turn) → Has t v.turns
+        → HaveCodes (IsConfiguredCode c) t.took
+    found_codes ok t there = at_turn Codes codes_start (codes_step ok) t there
 
-  pub gave_codes : IsAccepted c → (t : Turn) → Has t v.turns
-      → HaveCodes (IsConfiguredCode c) t.gave
-  gave_codes ok t there = at_gave Codes codes_start (codes_step ok)
-      (HaveCodes (IsConfiguredCode c)) (λ n far codes. codes) t there
+    pub gave_codes : IsAccepted c → (t : Turn) → Has t v.turns
+        → HaveCodes (IsConfiguredCode c) t.gave
+    gave_codes ok t there = at_gave Codes codes_start (codes_step ok)
+        (HaveCodes (IsConfiguredCode c)) (λ n far codes. codes) t there
 
-  -- and what its reply tells
-  pub each_tells : IsAccepted c → (t : Turn) → Has t v.turns → TellsIf c t.took t.gave t.reply
-  each_tells ok t there = (each_leaves t there).tells ok
-      (fine_of c t.start t.took (one.sound t (made t there)) (found_codes ok t there))
+    -- and what its reply tells
+    pub each_tells : IsAccepted c → (t : Turn) → Has t v.turns → TellsIf c t.took t.gave t.reply
+    each_tells ok t there = (each_leaves t there).tells ok
+        (fine_of c t.start t.took (one.sound t (made t there)) (found_codes ok t there))

@@ -54,11 +54,11 @@ module _ (first : ℕ) (c : Config) (ok : IsAccepted c) (v : View) (count : ℕ)
     (one : IsOneHistory Did first c (v ∷ []) count last) (few : count < 2 ^ 40) where
   -- the far state counts the turns with a number below n, by job
   abbrev Counted : ℕ → FarState → Type 0
-  Counted n far = (k : ℕ) → k < 23
+  Counted n far = (k : ℕ) → k < 24
       → slice_index far.counts.by_job k ≡ total (below turn_number (weight k) n) v.turns
 
   start : Counted 0 (empty_far first c)
-  start k low = get_or-replicate 23 k 0 0 low ∙ sym (counts_none turn_number (weight k) v.turns)
+  start k low = get_or-replicate 24 k 0 0 low ∙ sym (counts_none turn_number (weight k) v.turns)
 
   counts : (t : Turn) → Has t v.turns → CountsKind t.job t.took t.gave
   counts t there = let z = one.sound t (v, (0, refl), there) in
@@ -68,7 +68,7 @@ module _ (first : ℕ) (c : Config) (ok : IsAccepted c) (v : View) (count : ℕ)
       → Counted (suc (turn_number t)) t.gave
   step t there low before k inside = by (counts t there)
     where
-      sized : length (kinds t.took) ≡ 23
+      sized : length (kinds t.took) ≡ 24
       sized = (one.sound t (v, (0, refl), there)).counted.kinds
 
       by : CountsKind t.job t.took t.gave
@@ -93,13 +93,13 @@ module _ (first : ℕ) (c : Config) (ok : IsAccepted c) (v : View) (count : ℕ)
       by (inr z) = absurd (let e = z.1 in omega (arith, e, few))
 
   -- so of each kind it counts as many as there are
-  pub counted_kind : (k : ℕ) → k < 23
+  pub counted_kind : (k : ℕ) → k < 24
       → slice_index last.counts.by_job k ≡ times (is_kind k) v.turns
   counted_kind k inside = at_end k inside
       ∙ counts_all turn_number (weight k) count v.turns (has_number k)
       ∙ sym (times_total k v.turns)
 
-kind_below : (j : Job) → job_index j < 23
+kind_below : (j : Job) → job_index j < 24
 kind_below (job.Make bytes) = omega arith
 kind_below (job.Read handle) = omega arith
 kind_below (job.Write handle at bytes) = omega arith
@@ -123,6 +123,7 @@ kind_below job.Gather = omega arith
 kind_below job.Install = omega arith
 kind_below (job.Fetch handle) = omega arith
 kind_below job.Land = omega arith
+kind_below (job.Recode code) = omega arith
 
 -- ---- the workers
 pub counts_workers : (first : ℕ) (c : Config) → IsAccepted c → (v : View) (count : ℕ) (last : FarState)

@@ -78,6 +78,7 @@ at_ease = record {
   makes = lit≤ tt;
   crashes = lit≤ tt;
   steps = refl;
+  recodes = refl;
 }
 
 own_lines : HasOwnLines script.lines 1

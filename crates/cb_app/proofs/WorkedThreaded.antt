@@ -174,6 +174,7 @@ roomy = record {
   nodes = omega arith;
   makes = omega arith;
   crashes = omega arith;
+  recodes = refl;
 }
 
 -- the world is one that a pass with a turn of the eviction closed, and the seal shows both
@@ -329,6 +330,7 @@ module _ (t : Turn) (world : WorldState) (seal : Seal) where
     nodes = omega arith;
     makes = omega arith;
     crashes = omega arith;
+    recodes = refl;
   }
 
   not_alone : IsRun (record script { lines = map asked behind_another }) (told_of world seal behind_another [])
@@ -405,34 +407,34 @@ module _ (t : Turn) (world : WorldState) (seal : Seal) where
   -- a set that lost no more than it has parities is told as one that can't be read
   a_set_that_is_whole : (loss : Loss) → IsRun script (told_of world seal (answer 1 3 (Read (codes "a"))
       (replies.Unavailable (record { n = 0 }) (loss ∷ loss ∷ [])) ∷ []) (loss ∷ [])) → ⊥
-  a_set_that_is_whole loss is = let few = is.lost.0.many in omega (arith, few)
+  a_set_that_is_whole loss is = let few = (is.lost refl).0.many in omega (arith, few)
 
   -- or by a crash that did not take place
   a_crash_of_no_line : (a b c : Loss) → IsRun script (told_of world seal (answer 1 3 (Read (codes "a"))
       (replies.Unavailable (record { n = 0 }) (a ∷ b ∷ c ∷ [])) ∷ []) []) → ⊥
-  a_crash_of_no_line a b c is = let low = is.lost.0.among.0.1 in omega (arith, low)
+  a_crash_of_no_line a b c is = let low = (is.lost refl).0.among.0.1 in omega (arith, low)
 
   -- or by crashes of one node
   crashes_of_one_node : (a : Loss) → IsRun script (told_of world seal (answer 1 3 (Read (codes "a"))
       (replies.Unavailable (record { n = 0 }) (a ∷ a ∷ a ∷ [])) ∷ []) (a ∷ [])) → ⊥
-  crashes_of_one_node a is = is.lost.0.apart.0.0 refl
+  crashes_of_one_node a is = (is.lost refl).0.apart.0.0 refl
 
   -- there is no room, with another count of frames, or with spans and nodes enough
   other_frames : IsRun script (told_of world seal (answer 1 3 (Read (codes "a")) (replies.NoRoom 7 0 0) ∷ []) []) → ⊥
-  other_frames is = let e = is.room.0.0 in omega (arith, e)
+  other_frames is = let e = (is.room refl).0.0 in omega (arith, e)
 
   enough_of_both : IsRun script (told_of world seal (answer 1 3 (Read (codes "a")) (replies.NoRoom 8 2 4) ∷ []) []) → ⊥
-  enough_of_both is = elim is.room.0.1 [
+  enough_of_both is = elim (is.room refl).0.1 [
     | inl few ↦ omega (arith, few)
     | inr few ↦ omega (arith, few)
   ]
 
   -- or an eviction finds too few loose spans or nodes with room, with enough of them
   enough_spans : IsRun script (told_of world seal (answer 1 3 Evict (replies.NoSpans 2) ∷ left ∷ []) []) → ⊥
-  enough_spans is = let few = is.room.0 in omega (arith, few)
+  enough_spans is = let few = (is.room refl).0 in omega (arith, few)
 
   enough_nodes : IsRun script (told_of world seal (answer 1 3 Evict (replies.NoNodes 4) ∷ left ∷ []) []) → ⊥
-  enough_nodes is = let few = is.room.0 in omega (arith, few)
+  enough_nodes is = let few = (is.room refl).0 in omega (arith, few)
 
   -- an eviction is worn, and one turn was counted
   worn_too_early : world.far.counts.turns ≡ 1

@@ -1,11 +1,11 @@
 -- What a script is answered by threads.
-use Rattle.std.specs.Prelude.{◌≡◌, ℕ, ◌^◌, ◌<◌, List, [], map, Some}
+use Rattle.std.specs.Prelude.{◌≡◌, ℕ, ◌^◌, ◌<◌, false, List, [], map, Some}
 use Rattle.std.specs.List.{AllByRecursion}
 use Rattle.std.specs.List.Sorted.{IsNonDecreasingBy, IsPermutation}
 use Rattle.cb_types.specs.declared.answer.Answer.{Answer}
 use Rattle.cb_member.specs.declared.names.Loss.{Loss}
 use Rattle.cb_script.specs.declared.script.Script.{Script}
-use Rattle.cb_script.specs.Roomy.{IsRoomy}
+use Rattle.cb_script.specs.Roomy.{IsRoomy, has_recode_line}
 use Rattle.cb_rule.specs.Closing.{IsClosed}
 use Rattle.cb_model.specs.Called.{calls_of}
 use Rattle.cb_model.specs.Legal.{IsLegal}
@@ -67,11 +67,13 @@ pub record IsRun (script : Script) (end : ThreadsEnd) : Type 0 where
   pub losses : AreLosses end.losses end.answers
   -- they and the joins began the epochs up to that of the world, each one of them
   pub epochs : AreEpochs end.world.far.members.epoch end.answers
-  -- what can't be read lost too much by those crashes
-  pub lost : AllByRecursion (λ a. TellsLost script.config end.losses a.reply) end.answers
-  -- where there was no room, too few spans were loose or too few nodes had room; and where an
+  -- where no line puts a code in force, what can't be read lost too much by those crashes
+  pub lost : has_recode_line script.lines ≡ false
+      → AllByRecursion (λ a. TellsLost script.config end.losses a.reply) end.answers
+  -- and where there was no room, too few spans were loose or too few nodes had room; and where an
   -- eviction tells of the one or the other, there were too few of these
-  pub room : AllByRecursion (λ a. TellsRoom script.config a.reply) end.answers
+  pub room : has_recode_line script.lines ≡ false
+      → AllByRecursion (λ a. TellsRoom script.config a.reply) end.answers
   -- no answer is Worn, unless 2^40 turns were counted
   pub worn : AllByRecursion (λ a. TellsWorn end.world.far.counts.turns a.reply) end.answers
   -- on a roomy script, where fewer than 2^40 turns were counted, no line is told of a want of room

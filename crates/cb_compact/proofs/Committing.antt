@@ -28,7 +28,7 @@ use Rattle.cb_types.specs.declared.reply.Reply.TheVariants as answer
 use Rattle.cb_compact.specs.MergeStep.{IsMerged, merged_set, moved_count, replaced_shards}
 use Rattle.cb_compact.specs.PairStep.{set_numbered}
 use Rattle.cb_compact.specs.Merging.{AreSlotTables, IsReadyToMerge}
-use Rattle.cb_compact.specs.Rehoming.{AreNamedOnce, AreRehomed}
+use Rattle.cb_world.specs.Rehoming.{AreNamedOnce, AreRehomed}
 use Rattle.cb_compact.specs.PartStep.{IsFreshPair}
 use Rattle.cb_compact.specs.PatchStep.{AreDone, has_step, is_undone}
 use Rattle.cb_compact.proofs.CompactKeeps.{fresh_is}

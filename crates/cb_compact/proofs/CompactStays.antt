@@ -20,7 +20,7 @@ use Rattle.cb_world.proofs.Laws.{IsCodeIn, KeepCodes, PairHasCode, batch_has, co
 use Rattle.cb_compact.specs.MergeStep.{MergeStep, Merges, merged_set, replaced_shards, with_merged}
 use Rattle.cb_compact.specs.Merging.{IsReadyToMerge}
 use Rattle.cb_compact.specs.PairStep.{IsFirstPair, PairStep, with_pair}
-use Rattle.cb_compact.specs.Rehoming.{AreRehomed}
+use Rattle.cb_world.specs.Rehoming.{AreRehomed}
 use Rattle.cb_compact.specs.PartStep.{PartStep, with_parted}
 use Rattle.cb_compact.specs.PatchStep.{PatchStep, TakesStep, with_stepped}
 use Rattle.cb_compact.proofs.Committing.{ready_data, ready_shards, ready_steps}

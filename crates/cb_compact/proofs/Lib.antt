@@ -1,6 +1,5 @@
 mod Adding
 mod Dropping
-mod Homing
 mod Finding
 mod Looked
 pub mod CompactKeeps

@@ -28,7 +28,7 @@ use Rattle.cb_world.proofs.Laws.{commit_now, committed_whole, drop_count, drop_e
 use Rattle.cb_types.specs.declared.reply.Reply.{Reply}
 use Rattle.cb_compact.specs.MergeStep.{MergeStep, Merges, merged_set, replaced_shards, with_merged}
 use Rattle.cb_compact.specs.Merging.{IsReadyToMerge}
-use Rattle.cb_compact.specs.Rehoming.{AreRehomed}
+use Rattle.cb_world.specs.Rehoming.{AreRehomed}
 use Rattle.cb_compact.specs.PartStep.{IsFreshPair}
 use Rattle.cb_compact.proofs.Committing.{home_a, home_b, is_merged_set, ready_data, ready_fit, ready_join, ready_whole, rows_a, rows_b, tables_a, tables_b}
 use Rattle.cb_compact.proofs.CompactKeeps.{JoinKeeps, dropped_given, keeps_all, leaves_local, local_sound, parted_keeps}

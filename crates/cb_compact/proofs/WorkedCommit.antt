@@ -16,7 +16,7 @@ use Rattle.cb_world.specs.Sets.{set_in}
 use Rattle.cb_world.proofs.Laws.{node, row}
 use Rattle.cb_compact.specs.MergeStep.{IsMerged, IsUnfinished, merged_set, with_merged}
 use Rattle.cb_compact.specs.PairStep.{set_numbered}
-use Rattle.cb_compact.specs.Rehoming.{AreRehomed}
+use Rattle.cb_world.specs.Rehoming.{AreRehomed}
 use Rattle.cb_compact.proofs.WorkedGround.{all_up, far, has_row, homes_in, two}
 use Rattle.cb_compact.proofs.WorkedMerge.{all_done}
 use Rattle.cb_compact.proofs.WorkedPatch.{done_at}

@@ -13,7 +13,7 @@ use Rattle.cb_world.specs.JoinSteps.{with_step}
 use Rattle.cb_compact.specs.MergeStep.{IsMerged, IsUnfinished, merged_positions, merged_set, moved_count, replaced_shards}
 use Rattle.cb_compact.specs.Merging.{AreSlotTables, IsFilledBelow, chosen_position}
 use Rattle.cb_world.specs.Homes.{HasHomes, home_at}
-use Rattle.cb_compact.specs.Rehoming.{AreNamedOnce, AreRehomed}
+use Rattle.cb_world.specs.Rehoming.{AreNamedOnce, AreRehomed}
 use Rattle.cb_compact.specs.PatchStep.{undone}
 use Rattle.cb_compact.proofs.WorkedPair.{begun, dead, live_with, on_node, set_a, set_b, stepped}
 

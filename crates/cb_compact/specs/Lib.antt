@@ -8,7 +8,6 @@ pub mod Candidates
 pub mod Tables
 pub mod Deltas
 pub mod Looking
-pub mod Rehoming
 pub mod Merging
 pub mod Stepping
 pub mod Compaction

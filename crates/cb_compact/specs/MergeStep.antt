@@ -10,7 +10,7 @@ use Rattle.cb_world.specs.Joining.{JoiningState}
 use Rattle.cb_world.specs.Stored.{all_dropped}
 use Rattle.cb_world.specs.FarState.{FarState}
 use Rattle.cb_compact.specs.PairStep.{set_numbered}
-use Rattle.cb_compact.specs.Rehoming.{AreRehomed}
+use Rattle.cb_world.specs.Rehoming.{AreRehomed}
 use Rattle.cb_compact.specs.PartStep.{HasNoPair, IsFreshPair, IsPairGivenUp}
 use Rattle.cb_compact.specs.PatchStep.{AreDone, is_undone, undone}
 

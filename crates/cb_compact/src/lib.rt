@@ -10,7 +10,6 @@ mod deltas;
 mod looking;
 mod merging;
 mod parting;
-mod rehoming;
 mod stepping;
 mod steps;
 mod tables;

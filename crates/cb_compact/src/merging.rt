@@ -5,27 +5,26 @@ ghost use Rattle.cb_set.specs.SetState.{SetState, live_at, with_position};
 ghost use Rattle.cb_world.specs.declared.shown.Shown.{Shown};
 ghost use Rattle.cb_world.specs.Desks.{IsReadyDesk};
 ghost use Rattle.cb_world.specs.Joining.{JoiningState};
+ghost use Rattle.cb_world.specs.Rehoming.{AreNamedOnce, AreRehomed};
 ghost use Rattle.cb_world.specs.Now.{now};
 ghost use Rattle.cb_world.specs.FarSound.{FarSound};
 ghost use Rattle.cb_world.specs.Sound.{Sound};
 ghost use Rattle.cb_world.specs.Stored.{AreThere, all_dropped};
 ghost use Rattle.cb_world.specs.Sets.{set_in};
 ghost use Rattle.cb_compact.specs.PartStep.{IsFreshPair};
-ghost use Rattle.cb_compact.specs.Rehoming.{AreNamedOnce, AreRehomed};
 ghost use Rattle.cb_compact.specs.Merging.{AreSlotTables, IsFilledBelow, IsReadyToMerge, chosen_position};
 ghost use Rattle.cb_compact.specs.MergeStep.{IsMerged, MergeStep, Merges, merged_set, merged_shards, moved_count, replaced_shards};
 ghost use Rattle.cb_compact.specs.PatchStep.{undone};
 
 use crate::compaction::Compaction;
 use crate::looking::{PairStanding, how_it_stands};
-use crate::rehoming::rehome;
 use crate::stepping::next_position;
 use crate::steps::undone_steps;
 use cb_member::Shard;
 use cb_node::Nodes;
 use cb_set::SpanSet;
 use cb_types::{NoMemory, Positions, Reply, SetId};
-use cb_world::{Desk, Far, Joining, KeptSet, Sets, drop_rows, next_number};
+use cb_world::{Desk, Far, Joining, KeptSet, Sets, drop_rows, next_number, rehome};
 use std::alloc::Global;
 
 /// The shards of the merged set: the new one at a position whose step was done, and else the old

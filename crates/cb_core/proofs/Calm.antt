@@ -4,6 +4,7 @@
 use Rattle.std.proofs.Common.{◌≡◌, ℕ, zero, suc, ◌+◌, ◌-◌, ◌^◌, ◌==◌, ◌<◌, ◌≤◌, nat_lt, Bool, true, false, List, length, slice_index, Option, None, Some, if◌then◌else◌, refl, sym, ap, ◌∙◌, subst, arith, inl, inr, ne_eqb}
 use Rattle.std.proofs.lemmas.Bool.{cases_lt, false≢true}
 use Rattle.std.proofs.lemmas.List.{get_or_past}
+use Rattle.cb_member.specs.declared.names.Code.{Code}
 use Rattle.cb_class.specs.declared.class.Class.{Class}
 use Rattle.cb_class.specs.Class.{IsClass, IsClassOf, pages_of}
 use Rattle.cb_frame.specs.Runs.{least_run}
@@ -14,7 +15,7 @@ use Rattle.cb_set.specs.SetState.{SetState}
 use Rattle.cb_set.specs.Lost.{lost}
 use Rattle.cb_types.specs.declared.handle.SetId.{SetId}
 use Rattle.cb_types.specs.declared.job.Job.{Job}
-use Rattle.cb_types.specs.declared.job.Job.TheVariants.{Make, Read, Write, Free, Swap, Filter, Evict, Begin, Ship, Commit, Abort, Pair, Patch, Merge, Part, Compact, Rebuild, Crash, Join, Gather, Install, Fetch, Land}
+use Rattle.cb_types.specs.declared.job.Job.TheVariants.{Make, Read, Write, Free, Swap, Filter, Evict, Begin, Ship, Commit, Abort, Pair, Patch, Merge, Part, Compact, Rebuild, Crash, Join, Gather, Install, Fetch, Land, Recode}
 use Rattle.cb_types.specs.declared.reply.Reply.{Reply}
 use Rattle.cb_types.specs.declared.reply.Reply.TheVariants as answer
 use Rattle.cb_world.specs.declared.shown.Shown.{Shown}
@@ -41,6 +42,7 @@ use Rattle.cb_swapin.proofs.Laws.{step_cases, step_only_no_frame}
 use Rattle.cb_compact.specs.CompactStep.{CompactStep}
 use Rattle.cb_rebuild.specs.RebuildStep.{RebuildStep}
 use Rattle.cb_core.specs.Declining.{write_refusal}
+use Rattle.cb_core.specs.Recoding.{RecodeTurn}
 use Rattle.cb_core.specs.Membership.{CrashTurn, JoinTurn, crashed, is_down, is_up, joined}
 use Rattle.cb_core.specs.Parts.{Holding, NeverDeclined, WithRoom, at_once, no_room, won, most_evictions, WhereItIs, near, declined, stays_far, brought, BringsIn, not_far, was_far}
 use Rattle.cb_core.specs.Pinning.{PinStep, pin_refusal, refused as refused_pin, scope_full, taken}
@@ -469,6 +471,9 @@ join_job : (node : _) (far new : FarState) (r : Reply) → JoinTurn node far r n
 join_job node far new r (joined down reply state) = calm_as r _ tt reply
 join_job node far new r (is_up up reply state) = calm_as r _ tt reply
 
+recode_job : (code : Code) (far new : FarState) (r : Reply) → RecodeTurn code far r new → IsEased r
+recode_job code far new r step = calm_as r _ tt step.reply
+
 works_calm : {most : ℕ} (E : Holding Words → Type 0) → KeepsEasy most E → (job : Job)
     (a b : Holding Words) (r : Reply) (s : Shown) → IsKnown a.desk a.far s → E a → IsWholeJob job
     → MakesWithin most job → StillWorks job a r b → IsEased r
@@ -501,6 +506,8 @@ works_calm E keeps (Crash node) a b r s known good whole within step =
     crash_job node a.far b.far r step.1
 works_calm E keeps (Join node) a b r s known good whole within step =
     join_job node a.far b.far r step.1
+works_calm E keeps (Recode code) a b r s known good whole within step =
+    recode_job code a.far b.far r step.1
 works_calm E keeps Gather a b r s known good whole within step = absurd whole
 works_calm E keeps Install a b r s known good whole within step = absurd whole
 works_calm E keeps (Fetch handle) a b r s known good whole within step = absurd step.1

@@ -4,7 +4,7 @@ use Rattle.std.specs.Prelude.{IfOk, OnErr}
 use Rattle.cb_member.specs.declared.no_memory.NoMemory.{NoMemory}
 use Rattle.cb_types.specs.declared.config.Config.{Config}
 use Rattle.cb_types.specs.declared.job.Job.{Job}
-use Rattle.cb_types.specs.declared.job.Job.TheVariants.{Make, Read, Write, Free, Swap, Filter, Evict, Begin, Ship, Commit, Abort, Pair, Patch, Merge, Part, Compact, Rebuild, Crash, Join, Gather, Install, Fetch, Land}
+use Rattle.cb_types.specs.declared.job.Job.TheVariants.{Make, Read, Write, Free, Swap, Filter, Evict, Begin, Ship, Commit, Abort, Pair, Patch, Merge, Part, Compact, Rebuild, Crash, Join, Gather, Install, Fetch, Land, Recode}
 use Rattle.cb_types.specs.declared.reply.Reply.{Reply}
 use Rattle.cb_world.specs.declared.access.Access.{Access}
 use Rattle.cb_world.specs.declared.shown.Shown.{Shown}
@@ -17,8 +17,8 @@ use Rattle.cb_core.specs.Parts.{Holding}
 use Rattle.cb_core.specs.Turned.{AtFar, AtFarLacks, Does, Stops, Turned, done, Stopped, counted}
 use Rattle.cb_core.proofs.Composing.{err_map, if_map}
 
--- there are twenty-three kinds
-pub job_below : (job : Job) → job_index job < 23
+-- there are twenty-four kinds
+pub job_below : (job : Job) → job_index job < 24
 job_below (Make bytes) = omega arith
 job_below (Read handle) = omega arith
 job_below (Write handle at bytes) = omega arith
@@ -42,6 +42,7 @@ job_below Gather = omega arith
 job_below Install = omega arith
 job_below (Fetch handle) = omega arith
 job_below Land = omega arith
+job_below (Recode code) = omega arith
 
 pub counted_sound : (s : Shown) (far mid : FarState) (job : Job) → mid ≡ counted far job → Sound s far
     → Sound s mid

@@ -4,7 +4,7 @@ use Rattle.cb_member.specs.Membership.{Membership}
 use Rattle.cb_member.specs.declared.names.NodeId.{NodeId}
 use Rattle.cb_types.specs.declared.config.Config.{Config}
 use Rattle.cb_types.specs.declared.job.Job.{Job}
-use Rattle.cb_types.specs.declared.job.Job.TheVariants.{Pair, Patch, Merge, Part, Compact, Rebuild, Crash, Join}
+use Rattle.cb_types.specs.declared.job.Job.TheVariants.{Pair, Patch, Merge, Part, Compact, Rebuild, Crash, Join, Recode}
 use Rattle.cb_types.specs.declared.reply.Reply.{Reply}
 use Rattle.cb_types.specs.declared.reply.Reply.TheVariants as answer
 use Rattle.cb_types.specs.declared.request.Request.{Request}
@@ -16,16 +16,18 @@ use Rattle.cb_world.specs.Now.{now}
 use Rattle.cb_world.specs.Sound.{Sound}
 use Rattle.cb_world.specs.World.{IsConfigured}
 use Rattle.cb_world.specs.Orders.{LeavesWords}
-use Rattle.cb_world.proofs.Laws.{alike_leaves_words, crash_leaves_words, join_leaves_words, words_stay, KeepsHolding, KeepsNote, recounted_sound, rises_more, StaysBy, StaysIfBy, stays_noted, stays_same}
+use Rattle.cb_world.proofs.Laws.{alike_leaves_words, crash_leaves_words, join_leaves_words, words_stay, KeepsHolding, KeepsNote, recounted_sound, rises_more, StaysFrom, StaysIfBy, stays_noted, stays_same}
 use Rattle.cb_compact.proofs.Laws.{AreFarLaws, begin_laws, merge_laws, now_laws, part_laws, patch_laws}
 use Rattle.cb_rebuild.specs.RebuildStep.{RebuildStep, far_given, surveyed}
 use Rattle.cb_rebuild.proofs.Laws.{failed_stays, keeps_first, keeps_step, rebuild_stays, rebuild_step_fixes}
 use Rattle.cb_core.specs.FarJobs.{FarLacks, FarStep, IsWeakGiven}
 use Rattle.cb_core.specs.Jobs.{IsJob}
 use Rattle.cb_core.specs.Membership.{CrashTurn, crashed, is_down, JoinTurn, joined, is_up}
+use Rattle.cb_core.specs.Recoding.{recoded_by}
 use Rattle.cb_core.proofs.Carried.{turn_rise}
 use Rattle.cb_core.proofs.CompactIdle.{now_idle}
 use Rattle.cb_core.proofs.NodesStay.{IsWholeJob, MakesNone, MembersAfter, MembersBatchPair, MembersStand, crash_fixed, crash_line, crash_none, crash_sound, crash_stands, crash_stays, join_fixed, join_line, join_none, join_now, join_sound, join_stands, join_stays, member_of, standing, stands_same, tally}
+use Rattle.cb_core.proofs.Recoded.{recode_fixed, recode_line, recode_now, recode_sound, recode_stays, recode_words}
 use Rattle.cb_core.proofs.RowsHeld.{IsIdle}
 
 -- the replies of the job are those of its line
@@ -38,6 +40,7 @@ AnswersLine Compact r = IsReplyOf line.Compact r
 AnswersLine Rebuild r = IsReplyOf line.Rebuild r
 AnswersLine (Crash node) r = IsReplyOf (line.Crash node) r
 AnswersLine (Join node) r = IsReplyOf (line.Join node) r
+AnswersLine (Recode code) r = IsReplyOf (line.Recode code) r
 AnswersLine job r = ⊥
 
 -- what every object holds stays, but for a crash
@@ -52,12 +55,16 @@ note_of Pair = KeepsHolding
 note_of Compact = KeepsHolding
 note_of job = KeepsNote
 
--- the far state is as it is configured, its numbers rose by no more than those of a job may, and it
--- is sound
-pub record StaysSound (N : FarState → FarState → Type 0) (c : Config) (s : Shown) (far new : FarState)
-    : Type 0 where
-  pub stays : StaysBy N c turn_rise far new
+-- the far state is as it is configured, it has no other code than this one, its numbers rose by no more
+-- than those of a job may, and it is sound
+pub record StaysSoundFrom (from : FarState) (N : FarState → FarState → Type 0) (c : Config)
+    (s : Shown) (far new : FarState) : Type 0 where
+  pub stays : StaysFrom from N c turn_rise far new
   pub sound : Sound s new
+
+-- it has no other code than before
+abbrev pub StaysSound : (FarState → FarState → Type 0) → Config → Shown → FarState → FarState → Type 0
+StaysSound N c s far new = StaysSoundFrom far N c s far new
 
 -- what is owed
 pub record IsFarJob (job : Job) : Type 0 where
@@ -65,7 +72,8 @@ pub record IsFarJob (job : Job) : Type 0 where
   pub stands : (far new : FarState) (r : Reply) → FarStep job far new r → MembersStand job far new
   pub answers : (far new : FarState) (r : Reply) → FarStep job far new r → AnswersLine job r
   pub keeps : (c : Config) (s : Shown) (far new : FarState) (r : Reply) → IsJob c job
-      → IsConfigured c far → Sound s far → FarStep job far new r → StaysSound (note_of job) c s far new
+      → IsConfigured c far → Sound s far → FarStep job far new r
+      → StaysSoundFrom (recoded_by job r far) (note_of job) c s far new
   pub now : KeepsContents job → (c : Config) (s : Shown) (far new : FarState) (r : Reply)
       → IsJob c job
       → IsConfigured c far → Sound s far → FarStep job far new r → (h : ℕ) → now s new h ≡ now s far h
@@ -118,6 +126,7 @@ still_words c s far new is sound = same_words far new
 -- ---- by the laws of a step that leaves the members
 by_laws : (job : Job) (most : ℕ) (asked : Request) → most ≤ turn_rise
     → AreFarLaws (note_of job) most asked (FarStep job)
+    → ((r : Reply) (far : FarState) → recoded_by job r far ≡ far)
     → ((old new : Membership) → new ≡ old → MembersAfter job old new)
     → (IsWholeJob job → (far new : FarState) (r : Reply) → FarStep job far new r → IsIdle far
     → IsIdle new)
@@ -127,7 +136,7 @@ by_laws : (job : Job) (most : ℕ) (asked : Request) → most ≤ turn_rise
     → ((c : Config) (s : Shown) (far new : FarState) → IsConfigured c far → Sound s far
     → FarLacks job far new → LeavesWords far new)
     → IsFarJob job
-by_laws job most asked few laws stay idle answered lacking lacked = record {
+by_laws job most asked few laws codes stay idle answered lacking lacked = record {
   none = λ far new r step. let z = laws.leaves far new r step in
       (λ i. (z.first i, z.made i, z.turns i));
   stands = λ far new r step. record {
@@ -135,8 +144,10 @@ by_laws job most asked few laws stay idle answered lacking lacked = record {
     idle = λ whole none. idle whole far new r step none;
   };
   answers = λ far new r step. answered r (laws.answers far new r step);
-  keeps = λ c s far new r ok is sound step. stays_sound c most s far new few is
-      (laws.stays c s far new r sound step) (laws.keeps s far new r sound step).sound;
+  keeps = λ c s far new r ok is sound step.
+      subst (λ (f : FarState). StaysSoundFrom f (note_of job) c s far new) (sym (codes r far))
+      (stays_sound c most s far new few is (laws.stays c s far new r sound step)
+      (laws.keeps s far new r sound step).sound);
   now = λ holds c s far new r ok is sound step. (laws.keeps s far new r sound step).same_now;
   fixes = laws.fixes;
   lacks = lacking;
@@ -211,16 +222,16 @@ join_words far new node r within (is_up up reply state) = same_words far new sta
 
 -- ---- every job
 pub far_job : (job : Job) → IsFarJob job
-far_job Pair = by_laws Pair 1 line.Pair (omega arith) begin_laws (λ old later e. e)
+far_job Pair = by_laws Pair 1 line.Pair (omega arith) begin_laws (λ r far. refl) (λ old later e. e)
     (λ whole. absurd whole) (λ r x. x) same_looks still_words
-far_job Patch = by_laws Patch 1 line.Patch (omega arith) patch_laws (λ old later e. e)
+far_job Patch = by_laws Patch 1 line.Patch (omega arith) patch_laws (λ r far. refl) (λ old later e. e)
     (λ whole. absurd whole) (λ r x. x) same_lacks still_words
-far_job Merge = by_laws Merge 1 line.Merge (omega arith) merge_laws (λ old later e. e)
+far_job Merge = by_laws Merge 1 line.Merge (omega arith) merge_laws (λ r far. refl) (λ old later e. e)
     (λ whole. absurd whole) (λ r x. x) same_lacks still_words
-far_job Part = by_laws Part 1 line.Part (omega arith) part_laws (λ old later e. e)
+far_job Part = by_laws Part 1 line.Part (omega arith) part_laws (λ r far. refl) (λ old later e. e)
     (λ whole. absurd whole) (λ r x. x)
     (λ c s far new is sound x. absurd x) (λ c s far new is sound x. absurd x)
-far_job Compact = by_laws Compact 20 line.Compact (omega arith) now_laws (λ old later e. e)
+far_job Compact = by_laws Compact 20 line.Compact (omega arith) now_laws (λ r far. refl) (λ old later e. e)
     (λ whole. now_idle) (λ r x. x) same_looks still_words
 far_job Rebuild = rebuild_owes
 far_job (Crash node) = record {
@@ -250,6 +261,21 @@ far_job (Join node) = record {
   lacks = λ c s far new is sound x. absurd x;
   words = λ c s far new r ok is sound step.
       join_words far new node r (member_of c s far node is sound ok) step;
+  lacked = λ c s far new is sound x. absurd x;
+}
+far_job (Recode code) = record {
+  none = λ far new r step. ap tally step.state;
+  stands = λ far new r step. stands_same (Recode code) (λ old later e. e) far new
+      (ap standing step.state);
+  answers = λ far new r step. recode_line code far new r step;
+  keeps = λ c s far new r ok is sound step. record {
+    stays = recode_stays c code turn_rise far new r ok step is;
+    sound = recode_sound s code far new r step sound;
+  };
+  now = λ holds c s far new r ok is sound step h. recode_now s code far new r h step;
+  fixes = λ s far new other r q sound x y. recode_fixed code r q far new other x y;
+  lacks = λ c s far new is sound x. absurd x;
+  words = λ c s far new r ok is sound step. recode_words code far new r step;
   lacked = λ c s far new is sound x. absurd x;
 }
 far_job job = record {

@@ -26,7 +26,7 @@ use Rattle.cb_world.specs.FarState.{FarState}
 use Rattle.cb_world.specs.Fetched.{with_rows_given}
 use Rattle.cb_world.specs.Sound.{Sound}
 use Rattle.cb_world.specs.World.{IsConfigured}
-use Rattle.cb_world.proofs.Laws.{StaysBy, codes_same, codes_stay, codes_then}
+use Rattle.cb_world.proofs.Laws.{StaysFrom, codes_same, codes_stay, codes_then}
 use Rattle.cb_mutate.proofs.Laws.{free_stays, make_stays}
 use Rattle.cb_evict.specs.declared.eviction.Eviction.TheVariants.{Refused, Set}
 use Rattle.cb_evict.specs.declared.eviction.Lack.{Lack}
@@ -52,9 +52,11 @@ use Rattle.cb_core.specs.OrderParts.FetchesBy.{not_far as was_near, was_far as w
 use Rattle.cb_core.specs.Parts.{Holding, RoomStops, WhereItIs, WithRoom, at_once, brought, declined, near, no_room, not_far, stays_far, was_far, won, most_evictions}
 use Rattle.cb_core.specs.Parts.RoomStops.{at_once as lacks_at_once, evicting, after}
 use Rattle.cb_core.specs.Parts.CallStops.{near as call_near, far as call_far, after as call_after}
+use Rattle.cb_core.specs.Recoding.{PutsNoCode, recoded_by}
 use Rattle.cb_core.specs.Turned.{BringLacks, Brings, ComeLacks, ComesIn, Declines, Does, EvictLacks, FindsWhere, MakeLacks, Makes, Stopped, Stops, SwapLacks, Swaps, Turned, WinsRoom, WritesObject, counted, done, once_counted, worn}
-use Rattle.cb_core.proofs.LeavesFar.{IsFine, JobLeaves, KeepsCounts, LeavesFar, MembersGoOn, TellsWant, WritesNone, counted_leaves, epochs_in, fine_evicted, kinds, many_lost, none_told, plain_tells, refused_leaves, stays_on, tells_behind}
+use Rattle.cb_core.proofs.LeavesFar.{IsFine, JobLeaves, KeepsCounts, KeepsCountsFrom, LeavesFar, MembersGoOn, TellsWant, WritesNone, counted_leaves, epochs_in, fine_evicted, kinds, many_lost, none_told, plain_tells, refused_leaves, stays_on, tells_behind}
 use Rattle.cb_core.proofs.NodesStay.{crash_stays, join_stays}
+use Rattle.cb_core.proofs.Recoded.{no_code_told, recode_codes}
 use Rattle.cb_core.proofs.PairGoes.{PairGoes, begin_pair, merge_pair, now_pair, pair_stays, part_pair, patch_pair}
 use Rattle.cb_core.proofs.RulesLeave.{IsPlain, SameCensus, StandsAs, StaysPlain, TellsNoLack, Unworn, abort_plain, answered, begin_plain, brings_census, brings_kinds, census, commit_plain, compact_unworn, declined_plain, evict_plain, fetch_told, filter_plain, free_far, free_plain, gather_plain, install_plain, joining_of, lack_off, made_by, made_of, make_leaves, members_of, off, rebuild_plain, same_census, ship_plain, stands_of, worn_off, write_plain}
 
@@ -134,8 +136,8 @@ counts_then far mid new p q = record {
   codes = codes_then far mid new p.codes q.codes;
 }
 
-counts_of : {N : FarState → FarState → Type 0} (c : Config) (n : ℕ) (far new : FarState)
-    → StaysBy N c n far new → KeepsCounts far new
+counts_of : {from : FarState} {N : FarState → FarState → Type 0} (c : Config) (n : ℕ)
+    (far new : FarState) → StaysFrom from N c n far new → KeepsCountsFrom from far new
 counts_of c n far new z = record { by_job = z.rises.by_job; codes = z.codes }
 
 keeps_same : (c : Config) (far new : FarState) → new ≡ far → Keeps c far new
@@ -301,7 +303,8 @@ module _ (c : Config) (j : Job) where
 
 -- ---- a job that is one call
 module _ (c : Config) (j : Job) (far new : FarState) (r : Reply) (none : made_by j (Some r) ≡ 0)
-    (counts : IsAccepted c → IsConfigured c far → (s : Shown) → Sound s far → KeepsCounts far new)
+    (counts : IsAccepted c → IsConfigured c far → (s : Shown) → Sound s far
+    → KeepsCountsFrom (recoded_by j r far) far new)
   where
     -- it makes no handle
     one_call : new.made ≡ far.made → MembersGoOn j far.members new.members (Some r)
@@ -342,14 +345,15 @@ module _ (c : Config) (j : Job) (far new : FarState) (r : Reply) (none : made_by
 
 -- a job of more than one call
 many : (c : Config) (j : Job) (far new : FarState) (r : Reply)
-    → ((old later : Membership) → later ≡ old → MembersGoOn j old later (Some r))
+    → PutsNoCode j → ((old later : Membership) → later ≡ old → MembersGoOn j old later (Some r))
     → PartLeaves c j far new r → JobLeaves c j far new (Some r)
-many c j far new r on x = record {
+many c j far new r codes on x = record {
   made = x.made;
   few = x.few;
   members = on far.members new.members (members_of far new x.stands);
   pair = pair_stays far new (joining_of far new x.stands);
-  counts = λ ok is s sound. x.counts ok is;
+  counts = λ ok is s sound. subst (λ (f : FarState). KeepsCountsFrom f far new)
+      (sym (no_code_told j (Some r) far codes)) (x.counts ok is);
   tells = x.tells;
   unworn = x.unworn;
 }
@@ -542,15 +546,15 @@ module _ {D : Type 0} (run : D → List Access → D → Type 0) (shows : D → 
         (install_stays c a.far b.far r order keeps x is)) (λ old new e. e)
         (install_plain a.far b.far r order keeps x)
     does_with (job.Fetch handle) order keeps a b r (was_near x never same) =
-        many c (job.Fetch handle) a.far b.far r (λ old new e. e)
+        many c (job.Fetch handle) a.far b.far r tt (λ old new e. e)
         (finds (job.Fetch handle) (λ q. refl) handle.n a b r x)
     does_with (job.Fetch handle) order keeps a b r
         (was_away m g x (home, at, ran, step) told same) =
-        many c (job.Fetch handle) a.far b.far r (λ old new e. e)
+        many c (job.Fetch handle) a.far b.far r tt (λ old new e. e)
         (subst (PartLeaves c (job.Fetch handle) a.far b.far) (sym told)
         (leaves_behind c (job.Fetch handle) a.far m.far b.far (fetching_reply g) x.rule.0
         (rows_leave c (job.Fetch handle) home.set home.position m.far b.far g refl step)))
-    does_with job.Land order keeps a b r (x, same) = many c job.Land a.far b.far r (λ old new e. e)
+    does_with job.Land order keeps a b r (x, same) = many c job.Land a.far b.far r tt (λ old new e. e)
         (lands job.Land (λ q. refl) order a b r x)
     does_with j order keeps a b r x = absurd x
 
@@ -580,15 +584,15 @@ module _ {D : Type 0} (run : D → List Access → D → Type 0) (shows : D → 
 
       does : (j : Job) (a b : Hold) (r : Reply) → Does run shows reads c j a r b
           → JobLeaves c j a.far b.far (Some r)
-      does (job.Make bytes) a b r x = many c (job.Make bytes) a.far b.far r (λ old new e. e)
+      does (job.Make bytes) a b r x = many c (job.Make bytes) a.far b.far r tt (λ old new e. e)
           (room_leaves (job.Make bytes) (Makes run shows c bytes) (make_frameless bytes)
           (makes bytes) most_evictions a b r x)
-      does (job.Read handle) a b r x = many c (job.Read handle) a.far b.far r (λ old new e. e)
+      does (job.Read handle) a b r x = many c (job.Read handle) a.far b.far r tt (λ old new e. e)
           (once handle a b r x)
       does (job.Write handle at bytes) a b r x =
-          many c (job.Write handle at bytes) a.far b.far r (λ old new e. e)
+          many c (job.Write handle at bytes) a.far b.far r tt (λ old new e. e)
           (writes handle at bytes a b r x)
-      does (job.Swap handle) a b r x = many c (job.Swap handle) a.far b.far r (λ old new e. e)
+      does (job.Swap handle) a b r x = many c (job.Swap handle) a.far b.far r tt (λ old new e. e)
           (comes_in (job.Swap handle) (λ q. refl) handle.n a b r x)
       does (job.Free handle) a b r x = alone c (job.Free handle) a.far b.far r refl
           (λ ok is s sound. counts_of c 1 a.far b.far
@@ -650,6 +654,12 @@ module _ {D : Type 0} (run : D → List Access → D → Type 0) (shows : D → 
           (rebuild_plain a.far b.far r x.1)
       does (job.Crash node) a b r x = crash_leaves c node a.far b.far r x.1
       does (job.Join node) a b r x = join_leaves c node a.far b.far r x.1
+      does (job.Recode code) a b r x = changes c (job.Recode code) a.far b.far r refl
+          (λ ok is s sound. record {
+            by_job = ap kinds x.1.state;
+            codes = recode_codes code a.far b.far r x.1;
+          }) _ _ x.1.reply x.1.state refl refl refl
+          (ap (λ (f : FarState). f.members) x.1.state)
       does job.Gather a b r x = absurd x.1
       does job.Install a b r x = absurd x.1
       does (job.Fetch handle) a b r x = absurd x.1
@@ -685,6 +695,7 @@ module _ {D : Type 0} (run : D → List Access → D → Type 0) (shows : D → 
           subst (Keeps c a.far) (sym state) (keeps_looked c a.far id n)
       stops (job.Crash node) a b x = keeps_same c a.far b.far x.1.0
       stops (job.Join node) a b x = absurd x.1
+      stops (job.Recode code) a b x = absurd x.1
       stops job.Gather a b x = absurd x.1
       stops job.Install a b x = absurd x.1
       stops (job.Fetch handle) a b x = absurd x.1

@@ -155,7 +155,7 @@ arrives_step c seats n a b S good stays p orders step keeps =
 
 -- what was counted, after a turn in which the numbers rose by little
 pub counted_rises : {N : FarState → FarState → Type 0} (far mid new : FarState) (kind : ℕ)
-    → AreCounted far → far.counts.turns < 2 ^ 40 → kind < 23
+    → AreCounted far → far.counts.turns < 2 ^ 40 → kind < 24
     → mid ≡ record far { counts = with_turn far.counts kind } → RisesBy N (2 ^ 20) mid new
     → HoldsNoPair new → AreCounted new
 counted_rises far mid new kind c few below is rises holds =

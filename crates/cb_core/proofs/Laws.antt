@@ -19,13 +19,14 @@ pub use Rattle.cb_core.proofs.NarrowOrders.{ordered_narrow, ordered_stops_narrow
 pub use Rattle.cb_core.proofs.NarrowTurns.{evict_step_narrow, narrow_configured, stopped_narrow, turn_keeps_narrow, turn_narrow, turned_narrow}
 pub use Rattle.cb_core.proofs.PinnedStays.{step_pinned, touched, unmoved_same}
 pub use Rattle.cb_core.proofs.PinsKept.{pin_step_sound, unpin_step_sound}
+pub use Rattle.cb_core.proofs.Recoded.{no_code_told, recode_codes, recoded_told, worn_recodes}
 pub use Rattle.cb_core.proofs.RoomEnds.{RoomEnds, operated, room_ends, room_reply, was_refused}
 pub use Rattle.cb_core.proofs.RoomyNodes.{enough_beside, enough_roomy}
 pub use Rattle.cb_core.proofs.RowsHeld.{IsIdle, JoinsApart}
 pub use Rattle.cb_core.proofs.RunEvents.{kept_beside, lost_beside}
 pub use Rattle.cb_core.proofs.Settings.{step_settings, turn_settings}
 pub use Rattle.cb_core.proofs.StepFixed.{newest_fixed, pin_fixed, step_fixes, unpin_fixed}
-pub use Rattle.cb_core.proofs.TurnCalls.{IsQuietJob, abort_turn, begin_turn, commit_turn, compact_turn, crash_turn, evict_turn, filter_turn, free_turn, is_done, join_turn, make_turn, merge_turn, pair_turn, part_turn, patch_turn, read_turn, rebuild_turn, ship_turn, swap_turn, turn_first, turn_turns, write_turn}
+pub use Rattle.cb_core.proofs.TurnCalls.{IsQuietJob, abort_turn, begin_turn, commit_turn, compact_turn, crash_turn, evict_turn, filter_turn, free_turn, is_done, join_turn, make_turn, merge_turn, pair_turn, part_turn, patch_turn, read_turn, rebuild_turn, recode_turn, ship_turn, swap_turn, turn_first, turn_turns, write_turn}
 pub use Rattle.cb_core.proofs.TurnCallsKept.{known_same, once_known}
 pub use Rattle.cb_core.proofs.TurnCallsMap.{IsSameMap, counted_map}
 pub use Rattle.cb_core.proofs.TurnCallsPinned.{IsPinCount, free_counts, write_counts}

@@ -28,8 +28,10 @@ use Rattle.cb_world.specs.World.{IsConfigured}
 use Rattle.cb_world.proofs.Laws.{codes_same, codes_stay, codes_then, have_codes, recounted}
 use Rattle.cb_evict.specs.EvictRule.{EvictRule}
 use Rattle.cb_evict.proofs.Laws.{evict_stays}
+use Rattle.cb_core.specs.Recoding.{recoded_by}
 use Rattle.cb_core.specs.Turned.{counted}
 use Rattle.cb_core.proofs.Counting.{counted_sound}
+use Rattle.cb_core.proofs.Recoded.{recoded_told, told_counted, worn_recodes}
 use Rattle.cb_core.proofs.PairGoes.{AreSetsApart, PairGoes, evicted_apart, pair_stays}
 use Rattle.cb_core.proofs.RulesLeave.{TellsNoLack, Unworn, is_worn, made_by}
 
@@ -151,6 +153,7 @@ WritesNone job.Compact = Unit {0}
 WritesNone job.Rebuild = Unit {0}
 WritesNone (job.Crash node) = Unit {0}
 WritesNone (job.Join node) = Unit {0}
+WritesNone (job.Recode code) = Unit {0}
 WritesNone (job.Fetch handle) = Unit {0}
 WritesNone job.Land = Unit {0}
 WritesNone j = ⊥
@@ -168,21 +171,26 @@ TellsIf c far new (Some r) = TellsWant c far new r
 abbrev pub kinds : FarState → List ℕ
 kinds far = far.counts.by_job
 
--- no turn was counted, and there is no other code
-pub record KeepsCounts (far new : FarState) : Type 0 where
+-- no turn was counted, and there is no other code than this one
+pub record KeepsCountsFrom (from far new : FarState) : Type 0 where
   pub by_job : kinds new ≡ kinds far
-  pub codes : KeepCodes far new
+  pub codes : KeepCodes from new
+
+-- there is no other code than before
+abbrev pub KeepsCounts : FarState → FarState → Type 0
+KeepsCounts far new = KeepsCountsFrom far far new
 
 -- What a job leaves with this reply, or where it found no memory: a make that is answered Made
 -- makes one handle more; a crash and a join that take place change the members; the pair goes on, or
--- begins with a set; no turn is counted, and no other code is made; and the reply tells of a lost
--- set, of want of room and of Worn so.
+-- begins with a set; no turn is counted, and no other code comes up than the job's, where that was put
+-- in force; and the reply tells of a lost set, of want of room and of Worn so.
 pub record JobLeaves (c : Config) (j : Job) (far new : FarState) (r : Option Reply) : Type 0 where
   pub made : new.made ≡ far.made + made_by j r
   pub few : far.made ≤ c.handles → new.made ≤ c.handles
   pub members : MembersGoOn j far.members new.members r
   pub pair : PairGoes far new
-  pub counts : IsAccepted c → IsConfigured c far → (s : Shown) → Sound s far → KeepsCounts far new
+  pub counts : IsAccepted c → IsConfigured c far → (s : Shown) → Sound s far
+      → KeepsCountsFrom (recoded_told j r far) far new
   pub tells : IsAccepted c → IsFine c far → TellsIf c far new r
   pub unworn : WritesNone j → UnwornIf r
 
@@ -199,7 +207,8 @@ pub record LeavesFar (c : Config) (j : Job) (far new : FarState) (r : Option Rep
   pub members : MembersGoOn j far.members new.members r
   pub pair : PairGoes far new
   pub counts : IsAccepted c → IsConfigured c far → (s : Shown) → Sound s far → CountsKind j far new
-  pub codes : IsAccepted c → IsConfigured c far → (s : Shown) → Sound s far → KeepCodes far new
+  pub codes : IsAccepted c → IsConfigured c far → (s : Shown) → Sound s far
+      → KeepCodes (recoded_told j r far) new
   pub tells : IsAccepted c → IsFine c far → TellsIf c far new r
   pub worn : WritesNone j → r ≡ Some answer.Worn → far.counts.turns ≡ 2 ^ 40
 
@@ -223,14 +232,14 @@ counted_leaves c j far new r few x = record {
   members = x.members;
   pair = x.pair;
   counts = λ ok is s sound. inl (few, (at_job ok is s sound).by_job);
-  codes = λ ok is s sound. codes_then far (counted far j) new
-      (codes_stay far (counted far j) refl refl refl refl) (at_job ok is s sound).codes;
+  codes = λ ok is s sound. codes_then (recoded_told j r far) (recoded_told j r (counted far j)) new
+      (told_counted j r far) (at_job ok is s sound).codes;
   tells = λ ok fine. recounted_tells c j far new r (x.tells ok (fine_counted c far j fine));
   worn = λ none is. absurd (unworn_off r (x.unworn none) is);
 }
   where
     at_job : IsAccepted c → IsConfigured c far → (s : Shown) → Sound s far
-        → KeepsCounts (counted far j) new
+        → KeepsCountsFrom (recoded_told j r (counted far j)) (counted far j) new
     at_job ok is s sound = x.counts ok (recounted c far (counted far j).counts is) s
         (counted_sound s far (counted far j) j refl sound)
 
@@ -251,7 +260,8 @@ refused_leaves c j far new r end is same =
           (ap (λ (f : FarState). f.members) same) (worn_told j);
       pair = pair_stays far new (ap (λ (f : FarState). f.joining) same);
       counts = λ ok fine s sound. inr (end, same);
-      codes = λ ok fine s sound. codes_same far new same;
+      codes = λ ok fine s sound. codes_same (recoded_by j answer.Worn far) new
+          (same ∙ sym (worn_recodes j far));
       tells = λ ok fine. tt;
       worn = λ none told. end;
     })

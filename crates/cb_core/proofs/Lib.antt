@@ -13,6 +13,7 @@ pub mod KeptParts
 pub mod FewLost
 pub mod RowsHeld
 pub mod RoomyNodes
+pub mod Recoded
 pub mod NodesStay
 pub mod CompactIdle
 pub mod FarJobs
@@ -71,6 +72,7 @@ pub mod CrashesKept
 pub mod WorkedPins
 mod WorkedClaims
 pub mod WorkedMembership
+mod WorkedRecoding
 pub mod WorkedRoom
 mod WorkedSpans
 pub mod WorkedTurns

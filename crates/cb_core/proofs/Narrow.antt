@@ -234,10 +234,19 @@ empty_narrow first c = record {
 }
 
 -- Nothing gets more pages by a change where nothing had more than one: a batch takes that of its
--- first span, which is there since the code in force has a data position; and that code stays.
+-- first span, which is there since the code in force has a data position.
+abbrev pub EndsNarrow : FarState → FarState → Type 0
+EndsNarrow far new = 1 ≤ far.code.k → IsNarrow far → IsNarrow new
+
+-- and that code stays
 pub record KeepsNarrow (far new : FarState) : Type 0 where
   pub code : new.code ≡ far.code
-  pub narrow : 1 ≤ far.code.k → IsNarrow far → IsNarrow new
+  pub narrow : EndsNarrow far new
+
+pub ends_then : (far mid new : FarState) → KeepsNarrow far mid → EndsNarrow mid new
+    → EndsNarrow far new
+ends_then far mid new x y =
+    λ some is. y (subst (λ (c : _). 1 ≤ c.k) (sym x.code) some) (x.narrow some is)
 
 pub narrow_then : (far mid new : FarState) → KeepsNarrow far mid → KeepsNarrow mid new
     → KeepsNarrow far new

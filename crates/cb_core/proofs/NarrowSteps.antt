@@ -10,7 +10,7 @@ use Rattle.cb_span.specs.Contents.{Contents, span_of}
 use Rattle.cb_class.specs.declared.class.Class.{Class}
 use Rattle.cb_class.specs.Class.{IsClassOf, pages_of}
 use Rattle.cb_types.specs.declared.job.Job.{Job}
-use Rattle.cb_types.specs.declared.job.Job.TheVariants.{Pair, Patch, Merge, Part, Compact, Rebuild, Crash, Join}
+use Rattle.cb_types.specs.declared.job.Job.TheVariants.{Pair, Patch, Merge, Part, Compact, Rebuild, Crash, Join, Recode}
 use Rattle.cb_types.specs.declared.order.EncodeOrder.{EncodeOrder}
 use Rattle.cb_types.specs.declared.order.Kept.{Kept}
 use Rattle.cb_types.specs.declared.order.Kept.TheVariants.{Decode, Encode}
@@ -46,7 +46,8 @@ use Rattle.cb_swapin.specs.SwapRule.{IsSwappedTo}
 use Rattle.cb_core.specs.FarJobs.{FarStep}
 use Rattle.cb_core.specs.Membership.{crashed, is_down, joined, is_up}
 use Rattle.cb_core.specs.Narrow.{IsLong, IsNarrow}
-use Rattle.cb_core.proofs.Narrow.{HaveOneEach, HaveOnePage, KeepsNarrow, batch_page, narrow_same, narrow_stays, narrow_then, one_left, pages_chosen, pages_closed, pages_set, pages_without, sets_put, sets_removed, short_page}
+use Rattle.cb_core.specs.Recoding.{PutsNoCode}
+use Rattle.cb_core.proofs.Narrow.{EndsNarrow, HaveOneEach, HaveOnePage, KeepsNarrow, batch_page, narrow_same, narrow_stays, narrow_then, one_left, pages_chosen, pages_closed, pages_set, pages_without, sets_put, sets_removed, short_page}
 
 inner : {A : Type 0} (x y : A) → Some x ≡ Some y → x ≡ y
 inner x y e = cc
@@ -311,18 +312,26 @@ rebuild_narrow far new r (inl none) =
 rebuild_narrow far new r (inr z) = restored far new z.id z.set r z.first.there z.restores
 
 -- the jobs that work at the far state alone
-pub far_narrow : (job : Job) (far new : FarState) (r : Reply) → FarStep job far new r
-    → KeepsNarrow far new
-far_narrow Pair far new r x = pair_narrow far new r x
-far_narrow Patch far new r x = patch_narrow far new r x
-far_narrow Merge far new r x = merge_narrow far new r x
-far_narrow Part far new r x = part_narrow far new r x
-far_narrow Compact far new r x = compact_narrow far new r x
-far_narrow Rebuild far new r x = rebuild_narrow far new r x
-far_narrow (Crash node) far new r (crashed up reply state) =
+pub far_narrow : (job : Job) (far new : FarState) (r : Reply) → PutsNoCode job
+    → FarStep job far new r → KeepsNarrow far new
+far_narrow Pair far new r none x = pair_narrow far new r x
+far_narrow Patch far new r none x = patch_narrow far new r x
+far_narrow Merge far new r none x = merge_narrow far new r x
+far_narrow Part far new r none x = part_narrow far new r x
+far_narrow Compact far new r none x = compact_narrow far new r x
+far_narrow Rebuild far new r none x = rebuild_narrow far new r x
+far_narrow (Crash node) far new r none (crashed up reply state) =
     subst (KeepsNarrow far) (sym state) (narrow_stays far _ refl refl refl refl)
-far_narrow (Crash node) far new r (is_down down reply state) = narrow_same far new state
-far_narrow (Join node) far new r (joined down reply state) =
+far_narrow (Crash node) far new r none (is_down down reply state) = narrow_same far new state
+far_narrow (Join node) far new r none (joined down reply state) =
     subst (KeepsNarrow far) (sym state) (narrow_stays far _ refl refl refl refl)
-far_narrow (Join node) far new r (is_up up reply state) = narrow_same far new state
-far_narrow job far new r x = absurd x
+far_narrow (Join node) far new r none (is_up up reply state) = narrow_same far new state
+far_narrow (Recode code) far new r none x = absurd none
+far_narrow job far new r none x = absurd x
+
+-- one that puts a code in force too
+pub far_ends_narrow : (job : Job) (far new : FarState) (r : Reply) → FarStep job far new r
+    → EndsNarrow far new
+far_ends_narrow (Recode code) far new r x = λ some is. subst IsNarrow (sym x.state)
+    (record { spans = is.spans; sets = is.sets; leaving = is.leaving })
+far_ends_narrow job far new r x = (far_narrow job far new r tt x).narrow

@@ -6,7 +6,7 @@ use Rattle.cb_ptr.specs.declared.word.State.TheVariants as state
 use Rattle.cb_ptr.specs.Word.{state_of}
 use Rattle.cb_types.specs.declared.config.Config.{Config}
 use Rattle.cb_types.specs.declared.job.Job.{Job}
-use Rattle.cb_types.specs.declared.job.Job.TheVariants.{Make, Free, Filter, Evict, Begin, Ship, Commit, Abort, Pair, Patch, Merge, Part, Compact, Rebuild, Crash, Join}
+use Rattle.cb_types.specs.declared.job.Job.TheVariants.{Make, Free, Filter, Evict, Begin, Ship, Commit, Abort, Pair, Patch, Merge, Part, Compact, Rebuild, Crash, Join, Recode}
 use Rattle.cb_types.specs.declared.reply.Reply.{Reply}
 use Rattle.cb_types.specs.declared.reply.Reply.TheVariants as answer
 use Rattle.cb_world.specs.declared.access.Access.{Access}
@@ -34,14 +34,15 @@ use Rattle.cb_core.specs.FarJobs.{FarLacks}
 use Rattle.cb_core.specs.JobParts.{JobParts, DoesBy, PartLacks, StopsBy}
 use Rattle.cb_core.specs.Narrow.{IsLongMade, IsNarrow}
 use Rattle.cb_core.specs.OnceHere.{OnceHere, OnceHereStops}
+use Rattle.cb_core.specs.Recoding.{PutsNoCode}
 use Rattle.cb_core.specs.Parts.{Holding, WithRoom, at_once, no_room, won, WhereItIs, NeverDeclined, RoomStops, evicting, after}
 use Rattle.cb_core.specs.Parts.RoomStops.{at_once as lacks_now}
 use Rattle.cb_core.specs.Step.{StillAlone, StillBring, StillMake, StillRead, StillFree, StillSwap, StillFilter, TurnStep, done, still_parts, worn}
 use Rattle.cb_core.specs.Turned.{ComesIn, ComeLacks, DoesAlone, LacksAlone, Stopped, Turned, counted, desk_lacks, desk_parts, done as was_done, once_counted, worn as was_worn}
 use Rattle.cb_core.proofs.Carried.{AreAlong, CarriesAlong, KeepsAlong, LackAlong, bring_rise, brings, come_rise, come_stops, comes_in, does, itself, once_here, once_here_stops, stops, turn_rise, where_it_is}
 use Rattle.cb_core.proofs.Changes.{free_leaves}
-use Rattle.cb_core.proofs.Narrow.{KeepsNarrow, narrow_same, narrow_stays, narrow_then}
-use Rattle.cb_core.proofs.NarrowSteps.{begun_narrow, committed_narrow, evicted_narrow, far_narrow, given_up_narrow, made_narrow, moved_narrow, place_narrow, seated_narrow, ships_narrow, swapped_narrow}
+use Rattle.cb_core.proofs.Narrow.{EndsNarrow, ends_then, KeepsNarrow, narrow_same, narrow_stays, narrow_then}
+use Rattle.cb_core.proofs.NarrowSteps.{begun_narrow, committed_narrow, evicted_narrow, far_ends_narrow, far_narrow, given_up_narrow, made_narrow, moved_narrow, place_narrow, seated_narrow, ships_narrow, swapped_narrow}
 
 -- ---- one part after another
 abbrev Anywhere : {D : Type 0} → Holding D → Type 0
@@ -171,9 +172,13 @@ pub counted_narrow : (far : FarState) (job : Job) → KeepsNarrow far (counted f
 counted_narrow far job = narrow_stays far (counted far job) refl refl refl refl
 
 -- a far state as it is configured has a data position
+pub ends_configured : (c : Config) (far new : FarState) → IsConfigured c far → EndsNarrow far new
+    → IsNarrow far → IsNarrow new
+ends_configured c far new is ends = ends is.codes.force.range.data_least
+
 pub narrow_configured : (c : Config) (far new : FarState) → IsConfigured c far → KeepsNarrow far new
     → IsNarrow far → IsNarrow new
-narrow_configured c far new is k = k.narrow is.codes.force.range.data_least
+narrow_configured c far new is k = ends_configured c far new is k.narrow
 
 module _ {D : Type 0} (run : D → List Access → D → Type 0) (shows : D → Shown → Type 0)
     (c : Config) (reads : ℕ → Holding D → Reply → Holding D → Type 0)
@@ -222,16 +227,17 @@ module _ {D : Type 0} (run : D → List Access → D → Type 0) (shows : D → 
       (λ a b r good x. (narrow_same a.far b.far (read h a b r x), x))
 
   alone_narrow : (job : Job) (a b : Hold) (r : Reply) → DoesAlone run shows c job a r b
-      → KeepsNarrow a.far b.far
-  alone_narrow (Free handle) a b r x = free_rule_narrow handle.n a.far b.far r x.events x.rule
+      → EndsNarrow a.far b.far
+  alone_narrow (Free handle) a b r x =
+      (free_rule_narrow handle.n a.far b.far r x.events x.rule).narrow
   alone_narrow (Filter handle) a b r x =
-      filter_rule_narrow c.frames handle.n a.far b.far r x.events x.rule
-  alone_narrow Evict a b r x = evict_rule_narrow a.far b.far r x.events x.rule
-  alone_narrow Begin a b r x = begins_narrow a.far b.far true _ r x.events x.rule
-  alone_narrow Ship a b r x = ships_narrow a.far b.far r x.rule.rows x.rule.ships
-  alone_narrow Commit a b r x = commit_rule_narrow a.far b.far r x.events x.rule
-  alone_narrow Abort a b r x = abort_rule_narrow a.far b.far r x.events x.rule
-  alone_narrow job a b r x = far_narrow job a.far b.far r x.1
+      (filter_rule_narrow c.frames handle.n a.far b.far r x.events x.rule).narrow
+  alone_narrow Evict a b r x = (evict_rule_narrow a.far b.far r x.events x.rule).narrow
+  alone_narrow Begin a b r x = (begins_narrow a.far b.far true _ r x.events x.rule).narrow
+  alone_narrow Ship a b r x = (ships_narrow a.far b.far r x.rule.rows x.rule.ships).narrow
+  alone_narrow Commit a b r x = (commit_rule_narrow a.far b.far r x.events x.rule).narrow
+  alone_narrow Abort a b r x = (abort_rule_narrow a.far b.far r x.events x.rule).narrow
+  alone_narrow job a b r x = far_ends_narrow job a.far b.far r x.1
 
   pub turned_narrow : (job : Job) (a b : Hold) (r : Reply) → IsConfigured c a.far
       → (IsLongMade job r → ⊥) → Turned run shows reads c job a r b → IsNarrow a.far → IsNarrow b.far
@@ -239,9 +245,9 @@ module _ {D : Type 0} (run : D → List Access → D → Type 0) (shows : D → 
       narrow_configured c a.far b.far is (narrow_same a.far b.far stays)
   turned_narrow job a b r is short (was_done few x) =
       let on = once_counted a job in
-      narrow_configured c a.far b.far is (narrow_then a.far (counted a.far job) b.far (counted_narrow a.far job)
-      (does itself Anywhere KeepAs along p p parts (λ j d e Z. KeepsNarrow d.far e.far) _ _ job
-      (λ two d e Z z. z.0) reading (λ d e q good y. alone_narrow job d e q y) on b r tt
+      ends_configured c a.far b.far is (ends_then a.far (counted a.far job) b.far (counted_narrow a.far job)
+      (does itself Anywhere KeepAs along p p parts (λ j d e Z. EndsNarrow d.far e.far) _ _ job
+      (λ two d e Z z. z.0.narrow) reading (λ d e q good y. alone_narrow job d e q y) on b r tt
       (mild_does (desk_parts run shows c) _ job on b r short x)))
 
   -- one that found no memory
@@ -376,39 +382,41 @@ still_reads h = where_it_is itself Anywhere KeepAs along 1 1 bring_rise turn_ris
     (λ a b r good x. (narrow_same a.far b.far (ap (λ (z : Holding Words). z.far) x.1), x))
     (brings itself Anywhere KeepAs along still still still_along h)
 
-still_alone : (job : Job) (a b : Holding Words) (r : Reply) → StillAlone job a r b
+still_alone : (job : Job) (a b : Holding Words) (r : Reply) → PutsNoCode job → StillAlone job a r b
     → KeepsNarrow a.far b.far
-still_alone (Free handle) a b r x = still_free handle.n a b r x
-still_alone (Filter handle) a b r x = still_filter handle.n a b r x
-still_alone Evict a b r x = evict_step_narrow a.desk b.desk a.far b.far r x.0
-still_alone Begin a b r x = still_begin a.desk b.desk a.far b.far r x.0
-still_alone Ship a b r x = ships_narrow a.far b.far r _ x.0.ships
-still_alone Commit a b r x = still_commit a.desk b.desk a.far b.far r x.0
-still_alone Abort a b r x = still_abort a.desk b.desk a.far b.far r x.0
-still_alone (Crash node) a b r x = far_narrow (Crash node) a.far b.far r x.1
-still_alone Pair a b r x = far_narrow Pair a.far b.far r x.1
-still_alone Patch a b r x = far_narrow Patch a.far b.far r x.1
-still_alone Merge a b r x = far_narrow Merge a.far b.far r x.1
-still_alone Part a b r x = far_narrow Part a.far b.far r x.1
-still_alone Compact a b r x = far_narrow Compact a.far b.far r x.1
-still_alone Rebuild a b r x = far_narrow Rebuild a.far b.far r x.1
-still_alone (Join node) a b r x = far_narrow (Join node) a.far b.far r x.1
-still_alone job a b r x = absurd x.1
+still_alone (Free handle) a b r none x = still_free handle.n a b r x
+still_alone (Filter handle) a b r none x = still_filter handle.n a b r x
+still_alone Evict a b r none x = evict_step_narrow a.desk b.desk a.far b.far r x.0
+still_alone Begin a b r none x = still_begin a.desk b.desk a.far b.far r x.0
+still_alone Ship a b r none x = ships_narrow a.far b.far r _ x.0.ships
+still_alone Commit a b r none x = still_commit a.desk b.desk a.far b.far r x.0
+still_alone Abort a b r none x = still_abort a.desk b.desk a.far b.far r x.0
+still_alone (Crash node) a b r none x = far_narrow (Crash node) a.far b.far r tt x.1
+still_alone Pair a b r none x = far_narrow Pair a.far b.far r tt x.1
+still_alone Patch a b r none x = far_narrow Patch a.far b.far r tt x.1
+still_alone Merge a b r none x = far_narrow Merge a.far b.far r tt x.1
+still_alone Part a b r none x = far_narrow Part a.far b.far r tt x.1
+still_alone Compact a b r none x = far_narrow Compact a.far b.far r tt x.1
+still_alone Rebuild a b r none x = far_narrow Rebuild a.far b.far r tt x.1
+still_alone (Join node) a b r none x = far_narrow (Join node) a.far b.far r tt x.1
+still_alone (Recode code) a b r none x = absurd none
+still_alone job a b r none x = absurd x.1
 
 pub turn_keeps_narrow : (w new : WorldState) (job : Job) (r : Reply) → (IsLongMade job r → ⊥)
-    → TurnStep job w r new → KeepsNarrow w.far new.far
-turn_keeps_narrow w new job r short (worn end e same) =
+    → PutsNoCode job → TurnStep job w r new → KeepsNarrow w.far new.far
+turn_keeps_narrow w new job r short none (worn end e same) =
     narrow_same w.far new.far (ap (λ (v : WorldState). v.far) same)
-turn_keeps_narrow w new job r short (done few works seats) =
+turn_keeps_narrow w new job r short none (done few works seats) =
     let a : Holding Words = record { desk = w.desk; far = counted w.far job } in
     let b : Holding Words = record { desk = new.desk; far = new.far } in
     narrow_then w.far (counted w.far job) new.far (counted_narrow w.far job)
     (does itself Anywhere KeepAs along still still still_along (λ j d e Z. KeepsNarrow d.far e.far) _ _ job
-    (λ two d e Z z. z.0) still_reads (λ d e q good y. still_alone job d e q y) a b r tt
+    (λ two d e Z z. z.0) still_reads (λ d e q good y. still_alone job d e q none y) a b r tt
     (mild_does still_parts _ job a b r short works))
 
 pub turn_narrow : (w new : WorldState) (job : Job) (r : Reply) → IsSoundWorld w
-    → (IsLongMade job r → ⊥) → TurnStep job w r new → IsNarrow w.far → IsNarrow new.far
-turn_narrow w new job r sound short step =
+    → (IsLongMade job r → ⊥) → PutsNoCode job → TurnStep job w r new → IsNarrow w.far
+    → IsNarrow new.far
+turn_narrow w new job r sound short none step =
     narrow_configured w.desk.settings w.far new.far sound.configured
-    (turn_keeps_narrow w new job r short step)
+    (turn_keeps_narrow w new job r short none step)

@@ -1,7 +1,7 @@
 -- What is noted of a search for a pair holds after each job.
 use Rattle.std.proofs.Common.{◌≡◌, ◌≢◌, ℕ, arith}
 use Rattle.cb_types.specs.declared.job.Job.{Job}
-use Rattle.cb_types.specs.declared.job.Job.TheVariants.{Make, Read, Write, Free, Swap, Filter, Evict, Begin, Ship, Commit, Abort, Pair, Patch, Merge, Part, Compact, Rebuild, Crash, Join, Gather, Install, Fetch, Land}
+use Rattle.cb_types.specs.declared.job.Job.TheVariants.{Make, Read, Write, Free, Swap, Filter, Evict, Begin, Ship, Commit, Abort, Pair, Patch, Merge, Part, Compact, Rebuild, Crash, Join, Gather, Install, Fetch, Land, Recode}
 use Rattle.cb_world.specs.Counts.{with_turn}
 use Rattle.cb_world.specs.FarState.{FarState}
 use Rattle.cb_world.specs.Pairs.{HoldsNoPair, others}
@@ -65,6 +65,8 @@ after (Fetch handle) far new c same note =
     plain far new 21 c (λ e. omega (arith, e)) (λ e. omega (arith, e)) same note
 after Land far new c same note =
     plain far new 22 c (λ e. omega (arith, e)) (λ e. omega (arith, e)) same note
+after (Recode code) far new c same note =
+    plain far new 23 c (λ e. omega (arith, e)) (λ e. omega (arith, e)) same note
 
 pub noted_after : (job : Job) (n : ℕ) (far new : FarState) → AreCounted far
     → RisesBy (note_of job) n (counted far job) new → HoldsNoPair new

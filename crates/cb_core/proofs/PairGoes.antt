@@ -22,7 +22,8 @@ use Rattle.cb_world.specs.Joining.{JoiningState}
 use Rattle.cb_world.specs.Sets.{Kept, SetMap, if_committed, set_in}
 use Rattle.cb_evict.specs.EvictRule.{EvictRule, HasBoth, HasFewNodes, HasFewSpans}
 use Rattle.cb_evict.specs.Lengths.{loose_of}
-use Rattle.cb_evict.specs.Storing.{AreShards, set_for}
+use Rattle.cb_world.specs.NewShards.{AreShards}
+use Rattle.cb_evict.specs.Storing.{set_for}
 use Rattle.cb_compact.specs.MergeStep.{MergeStep, Merges}
 use Rattle.cb_compact.specs.CompactStep.{CompactStep, PairEnds}
 use Rattle.cb_compact.specs.PairStep.{PairStep}

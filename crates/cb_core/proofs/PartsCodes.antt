@@ -1,9 +1,10 @@
--- No job makes another code: what its parts leave of the codes of the far state, at the still desk.
-use Rattle.std.proofs.Common.{◌⊎◌, ℕ, List, refl, sym, ap, subst, arith, inl, inr}
+-- No job makes another code but a Recode: what its parts leave of the codes of the far state, at the
+-- still desk.
+use Rattle.std.proofs.Common.{◌⊎◌, ℕ, List, refl, sym, ap, ◌∙◌, subst, arith, inl, inr}
 use Rattle.cb_ptr.specs.Word.{state_of}
 use Rattle.cb_types.specs.declared.config.Config.{Config}
 use Rattle.cb_types.specs.declared.job.Job.{Job}
-use Rattle.cb_types.specs.declared.job.Job.TheVariants.{Free, Filter, Evict, Begin, Ship, Commit, Abort, Pair, Patch, Merge, Part, Compact, Rebuild, Crash, Join}
+use Rattle.cb_types.specs.declared.job.Job.TheVariants.{Free, Filter, Evict, Begin, Ship, Commit, Abort, Pair, Patch, Merge, Part, Compact, Rebuild, Crash, Join, Recode}
 use Rattle.cb_types.specs.declared.reply.Reply.{Reply}
 use Rattle.cb_world.specs.declared.shown.Shown.{Shown}
 use Rattle.cb_world.specs.KeepCodes.{KeepCodes}
@@ -20,12 +21,14 @@ use Rattle.cb_filter.specs.FilterStep.{refused as refuses, cools, without_slot, 
 use Rattle.cb_rebuild.proofs.Laws.{rebuild_stays}
 use Rattle.cb_swapin.proofs.Laws.{swap_step_codes}
 use Rattle.cb_core.specs.Parts.{Holding, WhereItIs, NeverDeclined}
+use Rattle.cb_core.specs.Recoding.{recoded_by}
 use Rattle.cb_core.specs.Step.{StillAlone, StillMake, StillRead, StillFree, StillSwap, StillBring, StillFilter, StillWorks, TurnStep, done, still_parts, worn}
 use Rattle.cb_core.specs.Turned.{counted}
 use Rattle.cb_core.proofs.Carried.{AreAlong, CarriesAlong, KeepsAlong, bring_rise, brings, does, itself, turn_rise, where_it_is}
 use Rattle.cb_core.proofs.Changes.{free_leaves}
 use Rattle.cb_core.proofs.Counting.{counted_sound}
 use Rattle.cb_core.proofs.NodesStay.{crash_stays, join_stays}
+use Rattle.cb_core.proofs.Recoded.{recode_codes, recoded_counted, worn_recodes}
 
 -- ---- one part after another
 abbrev Anywhere : Holding Words → Type 0
@@ -106,7 +109,8 @@ works_by job a b r x =
 
 -- one operation
 alone_codes : (job : Job) (c : Config) (s : Shown) (a b : Holding Words) (r : Reply)
-    → IsConfigured c a.far → Sound s a.far → StillAlone job a r b → KeepCodes a.far b.far
+    → IsConfigured c a.far → Sound s a.far → StillAlone job a r b
+    → KeepCodes (recoded_by job r a.far) b.far
 alone_codes (Free handle) c s a b r is sound x = free_codes handle.n a b r x
 alone_codes (Filter handle) c s a b r is sound x = filter_codes handle.n a b r x
 alone_codes Evict c s a b r is sound x = evict_step_codes a.desk b.desk a.far b.far r x.0
@@ -123,22 +127,30 @@ alone_codes Compact c s a b r is sound x = (now_laws.stays c s a.far b.far r sou
 alone_codes Rebuild c s a b r is sound x = (rebuild_stays c s a.far b.far r sound x.1 is).codes
 alone_codes (Crash node) c s a b r is sound x = (crash_stays c node a.far b.far r x.1 is).codes
 alone_codes (Join node) c s a b r is sound x = (join_stays c node a.far b.far r x.1 is).codes
+alone_codes (Recode code) c s a b r is sound x = recode_codes code a.far b.far r x.1
 alone_codes job c s a b r is sound x = absurd x.1
+
+-- a job: no other code but that which it puts in force
+job_codes : (job : Job) (c : Config) (s : Shown) (a b : Holding Words) (r : Reply)
+    → IsConfigured c a.far → Sound s a.far → StillWorks job a r b
+    → KeepCodes (recoded_by job r a.far) b.far
+job_codes (Recode code) c s a b r is sound x = recode_codes code a.far b.far r x.1
+job_codes job c s a b r is sound x = elim (works_by job a b r x) [
+  | inl keep ↦ keep
+  | inr one ↦ alone_codes job c s a b one.0 is sound one.1
+]
 
 -- ---- a turn
 pub turn_codes : (w new : WorldState) (job : Job) (r : Reply) → IsSoundWorld w
-    → TurnStep job w r new → KeepCodes w.far new.far
+    → TurnStep job w r new → KeepCodes (recoded_by job r w.far) new.far
 turn_codes w new job r sound (worn end e same) =
-    codes_same w.far new.far (ap (λ (v : WorldState). v.far) same)
+    codes_same (recoded_by job r w.far) new.far (ap (λ (v : WorldState). v.far) same
+    ∙ sym (ap (λ (q : Reply). recoded_by job q w.far) e ∙ worn_recodes job w.far))
 turn_codes w new job r sound (done few works seats) =
     let a : Holding Words = record { desk = w.desk; far = counted w.far job } in
     let b : Holding Words = record { desk = new.desk; far = new.far } in
     let is = recounted w.desk.settings w.far (counted w.far job).counts sound.configured in
     let s = sound.shown in
     let then = counted_sound s w.far (counted w.far job) job refl sound.known.sound in
-    codes_then w.far (counted w.far job) new.far
-    (codes_stay w.far (counted w.far job) refl refl refl refl)
-    (elim (works_by job a b r works) [
-      | inl keep ↦ keep
-      | inr one ↦ alone_codes job w.desk.settings s a b one.0 is then one.1
-    ])
+    codes_then (recoded_by job r w.far) (recoded_by job r (counted w.far job)) new.far
+    (recoded_counted job r w.far) (job_codes job w.desk.settings s a b r is then works)

@@ -18,7 +18,7 @@ use Rattle.cb_core.specs.Parts.{Holding}
 use Rattle.cb_core.specs.Step.{StillFar, StillFarLacks}
 use Rattle.cb_core.specs.Turned.{AtFar, AtFarLacks}
 use Rattle.cb_core.proofs.Carried.{turn_rise}
-use Rattle.cb_core.proofs.FarJobs.{KeepsContents, StaysSound, far_job, note_of}
+use Rattle.cb_core.proofs.FarJobs.{KeepsContents, StaysSoundFrom, far_job, note_of}
 use Rattle.cb_core.proofs.KeptParts.{IsGood, ArrivesBy}
 use Rattle.cb_core.proofs.StillOrders.{Ran}
 use Rattle.cb_core.proofs.WordsTold.{far_orders}
@@ -49,9 +49,9 @@ open_after a b s seats same k sound ongoing =
     (open_same a.desk a.far b.far s seats k (known_far a.desk a.far b.far s k sound) ongoing)
 
 -- what a change of the far state alone comes to
-pub arrives_far : {N : FarState → FarState → Type 0} (c : Config) (seats : List SeatState)
+pub arrives_far : {from : FarState} {N : FarState → FarState → Type 0} (c : Config) (seats : List SeatState)
     (a b : Holding Words) (Z : Type 0)
-    → (good : IsGood c seats a) → b.desk ≡ a.desk → StaysSound N c good.shown a.far b.far
+    → (good : IsGood c seats a) → b.desk ≡ a.desk → StaysSoundFrom from N c good.shown a.far b.far
     → LeavesWords a.far b.far → Z → ArrivesBy N c seats turn_rise a b Z
 arrives_far c seats a b Z good same x leaves z = record {
   is = z;

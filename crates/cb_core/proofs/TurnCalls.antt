@@ -1,10 +1,11 @@
 -- Each turn is a call of the plain map, or leaves it as it is.
 use Rattle.std.proofs.Common.{◌≡◌, ℕ, ◌+◌, ◌^◌, ◌<◌, List, length, sym, ◌∙◌, subst, inl, inr, arith}
+use Rattle.cb_member.specs.declared.names.Code.{Code}
 use Rattle.cb_member.specs.declared.names.NodeId.{NodeId}
 use Rattle.cb_types.specs.declared.job.Job.{Job}
 use Rattle.cb_types.specs.declared.job.Job.TheVariants as job
 use Rattle.cb_types.specs.declared.request.Request.{Request}
-use Rattle.cb_types.specs.declared.request.Request.TheVariants.{Make, Read, Write, Free, Filter, Evict, Begin, Ship, Commit, Abort, Pair, Patch, Merge, Part, Compact, Rebuild, Crash, Join}
+use Rattle.cb_types.specs.declared.request.Request.TheVariants.{Make, Read, Write, Free, Filter, Evict, Begin, Ship, Commit, Abort, Pair, Patch, Merge, Part, Compact, Rebuild, Crash, Join, Recode}
 use Rattle.cb_types.specs.declared.reply.Reply.{Reply}
 use Rattle.cb_types.specs.Table.{IsReplyOf}
 use Rattle.cb_world.specs.declared.shown.Shown.{Shown}
@@ -251,6 +252,9 @@ rebuild_turn = far_turn job.Rebuild Rebuild (λ a b q x. x) (λ q x. x)
 
 pub join_turn : (node : NodeId) → IsQuietJob (job.Join node) (Join node)
 join_turn node = far_turn (job.Join node) (Join node) (λ a b q x. x) (λ q x. x)
+
+pub recode_turn : (code : Code) → IsQuietJob (job.Recode code) (Recode code)
+recode_turn code = far_turn (job.Recode code) (Recode code) (λ a b q x. x) (λ q x. x)
 
 -- A crash: each object holds what it held, or is gone.
 pub crash_turn : (w new : WorldState) (node : NodeId) (r : Reply) → (before : IsSoundWorld w)

@@ -22,7 +22,7 @@ use Rattle.std.proofs.lemmas.Option.{same_Some}
 use Rattle.cb_world.specs.Sound.{Sound}
 use Rattle.cb_world.specs.World.{IsConfigured}
 use Rattle.cb_world.specs.Written.{Writes, entry, gone}
-use Rattle.cb_world.proofs.Laws.{recounted_sound, StaysIf, StaysIfBy, stays_same, words_stay}
+use Rattle.cb_world.proofs.Laws.{recounted_sound, StaysFrom, StaysIf, stays_same, words_stay}
 use Rattle.cb_mutate.specs.FreeRule.{FreeEffect}
 use Rattle.cb_mutate.specs.MakeRule.{MakeEffect}
 use Rattle.cb_mutate.specs.ReadRule.{ReadEffect}
@@ -41,6 +41,7 @@ use Rattle.cb_swapin.specs.SwapRule.{SwapRule}
 use Rattle.cb_swapin.proofs.Laws.{given_leaves_words, swap_leaves_words, given_stays, swap_stays, by_answer, swap_unwritten}
 use Rattle.cb_core.specs.Declining.{far_refusal}
 use Rattle.cb_core.specs.Jobs.{IsJob}
+use Rattle.cb_core.specs.Recoding.{recoded_by}
 use Rattle.cb_core.specs.Parts.{Holding, WithRoom, NeverDeclined, NeverLacks, at_once, no_room, won, most_evictions}
 use Rattle.cb_core.specs.Turned.{Swaps, SwapLacks, Brings, BringLacks, ComesIn, ComeLacks, Evicts, WinsRoom, EvictLacks, Makes, MakeLacks, Reads, ReadLacks, WritesObject, Declines, FindsWhere, Does, Stops, IsDeclined}
 use Rattle.cb_mutate.specs.JobWrites.{MakeWrites, WriteWrites, FreeWrites, TurnWrites}
@@ -49,8 +50,8 @@ use Rattle.cb_core.proofs.PartsFar.{live_home}
 use Rattle.cb_core.proofs.SwapRows.{swap_rows}
 use Rattle.cb_core.proofs.WordsOwned.{abort_words, begin_words, commit_words, evict_words, filter_words, free_words, make_words, read_words, still_words, write_words}
 use Rattle.cb_core.proofs.WordsTold.{KeepsBatch, by_words}
-use Rattle.cb_core.proofs.FarJobs.{StaysSound, far_job, note_of}
-use Rattle.cb_core.proofs.TurnComes.{AreLaws, CarriesWrites, CarriesNoWrites, Comes, ComesBy, Good, WritesNothing, IsQuietReply, Nil, comes_by, comes_far, comes_more, comes_none, then_none, good_then, with_room, room_stops, where_it_is, brings_in, call_stops, once_here, once_here_stops}
+use Rattle.cb_core.proofs.FarJobs.{StaysSoundFrom, far_job, note_of}
+use Rattle.cb_core.proofs.TurnComes.{AreLaws, CarriesWrites, CarriesNoWrites, Comes, ComesBy, ComesFrom, Good, WritesNothing, IsQuietReply, Nil, comes_by, comes_far, comes_more, comes_none, then_none, good_then, with_room, room_stops, where_it_is, brings_in, call_stops, once_here, once_here_stops}
 
 -- ---- what the calls write
 make_writes : (bytes : List ℕ) (far new : FarState) (r : Reply) (es : List Access) (s t : Shown)
@@ -281,16 +282,16 @@ module _ {D : Type 0} (run : D → List Access → D → Type 0) (shows : D → 
   in_job W n a b most z = comes_more run shows laws c W n turn_rise a b most z
 
   -- a change of the far state alone
-  far_leaves : {N : FarState → FarState → Type 0} (s : Shown) (a b : Hold)
-      → (IsConfigured c a.far → StaysSound N c s a.far b.far)
-      → Good shows c a → StaysIfBy N c turn_rise a.far b.far × Sound s b.far
+  far_leaves : {from : FarState} {N : FarState → FarState → Type 0} (s : Shown) (a b : Hold)
+      → (IsConfigured c a.far → StaysSoundFrom from N c s a.far b.far) → Good shows c a
+      → (IsConfigured c a.far → StaysFrom from N c turn_rise a.far b.far) × Sound s b.far
   far_leaves s a b keeps good = ((λ is. (keeps is).stays), (keeps good.configured).sound)
 
   -- however an object is read
   pub does_comes : (reading : ℕ → Hold → Reply → Hold → Type 0) → ((h : ℕ) → Leads 1 Nil (reading h))
       → (job : Job) (a b : Hold) (r : Reply) → IsJob c job → Good shows c a
       → Does run shows reading c job a r b
-      → ComesBy (note_of job) run shows c turn_rise (TurnWrites job r) a b
+      → ComesFrom (recoded_by job r a.far) (note_of job) run shows c turn_rise (TurnWrites job r) a b
   does_comes reading read (Make bytes) a b r ok good x =
       with_room run shows laws c (MakeWrites bytes) (make_quiet bytes) c.frames
       (λ loose nodes. refl) 1 24 (Makes run shows c bytes) (WinsRoom run shows c) (makes bytes) wins

@@ -13,7 +13,7 @@ use Rattle.cb_world.specs.Played.{Agree, played}
 use Rattle.cb_world.specs.Sound.{Sound}
 use Rattle.cb_world.specs.World.{IsConfigured}
 use Rattle.cb_world.specs.Written.{Writes, written_by}
-use Rattle.cb_world.proofs.Laws.{KeepCodes, KeepsNote, RisesBy, StaysIf, StaysIfBy, codes_then, orders_left, rises_more, rises_then, played_append, written_append}
+use Rattle.cb_world.proofs.Laws.{KeepCodes, KeepsNote, RisesBy, StaysFrom, StaysIf, codes_then, orders_left, rises_more, rises_then, played_append, written_append}
 use Rattle.cb_evict.specs.declared.eviction.Eviction.{Eviction}
 use Rattle.cb_evict.specs.declared.eviction.Eviction.TheVariants.{Refused, Set}
 use Rattle.cb_core.specs.OnceHere.{OnceHere, away, here, OnceHereStops, bringing_stops, call_stops as lacks_here}
@@ -45,23 +45,28 @@ pub record Good {D : Type 0} (shows : D → Shown → Type 0) (c : Config) (a : 
   pub configured : IsConfigured c a.far
   pub shown : (s : Shown) × shows a.desk s × Sound s a.far
 
--- what a part comes to: events of the desk, a far state that is configured, has no other code and
--- whose numbers rose by at most n, which does so to what is noted of a search for a pair, sound where
--- it was, and these versions
-pub record ComesBy (N : FarState → FarState → Type 0) {D : Type 0} (run : D → List Access → D → Type 0)
-    (shows : D → Shown → Type 0) (c : Config) (n : ℕ) (W : List Entry → Type 0) (a b : Holding D)
-    : Type 0 where
+-- what a part comes to: events of the desk, a far state that is configured, has no other code than this
+-- one and whose numbers rose by at most n, which does so to what is noted of a search for a pair, sound
+-- where it was, and these versions
+pub record ComesFrom (from : FarState) (N : FarState → FarState → Type 0) {D : Type 0}
+    (run : D → List Access → D → Type 0) (shows : D → Shown → Type 0) (c : Config) (n : ℕ)
+    (W : List Entry → Type 0) (a b : Holding D) : Type 0 where
   pub events : List Access
   pub ran : run a.desk events b.desk
   pub configured : IsConfigured c b.far
-  pub codes : KeepCodes a.far b.far
+  pub codes : KeepCodes from b.far
   pub rises : RisesBy N n a.far b.far
   pub after : (s : Shown) → shows a.desk s → Sound s a.far → SoundAfter events s a.far b.far W
 
--- by a part that looks for no pair
+-- by a part that puts no code in force
+abbrev pub ComesBy : {D : Type 0} → (FarState → FarState → Type 0) → (D → List Access → D → Type 0)
+    → (D → Shown → Type 0) → Config → ℕ → (List Entry → Type 0) → Holding D → Holding D → Type 0
+ComesBy N run shows c n W a b = ComesFrom a.far N run shows c n W a b
+
+-- and looks for no pair
 abbrev pub Comes : {D : Type 0} → (D → List Access → D → Type 0) → (D → Shown → Type 0) → Config → ℕ
     → (List Entry → Type 0) → Holding D → Holding D → Type 0
-Comes = ComesBy KeepsNote
+Comes run shows c n W a b = ComesFrom a.far KeepsNote run shows c n W a b
 
 -- the laws of a desk's relations that are used here
 pub record AreLaws {D : Type 0} (run : D → List Access → D → Type 0) (shows : D → Shown → Type 0)
@@ -194,11 +199,12 @@ module _ {D : Type 0} (run : D → List Access → D → Type 0) (shows : D → 
       comes_by WritesNothing n a b rules does good stays leaves p rows (λ s e. ([], refl, wrote s e))
 
   -- nothing is done at the desk
-  pub comes_far : {N : FarState → FarState → Type 0} (n : ℕ) (a b : Hold) → Good shows c a
-      → run a.desk [] b.desk
-      → ((s : Shown) → Sound s a.far → StaysIfBy N c n a.far b.far × Sound s b.far)
+  pub comes_far : {from : FarState} {N : FarState → FarState → Type 0} (n : ℕ) (a b : Hold)
+      → Good shows c a → run a.desk [] b.desk
+      → ((s : Shown) → Sound s a.far
+      → (IsConfigured c a.far → StaysFrom from N c n a.far b.far) × Sound s b.far)
       → ((s : Shown) → Sound s a.far → LeavesWords a.far b.far)
-      → ComesBy N run shows c n WritesNothing a b
+      → ComesFrom from N run shows c n WritesNothing a b
   comes_far n a b good ran stays leaves =
       let k = good.shown in let z = (stays k.0 k.2).0 good.configured in record {
         events = [];

@@ -1,5 +1,5 @@
 -- A turn over any desk leaves what its contract says.
-use Rattle.std.proofs.Common.{◌≡◌, ℕ, ◌^◌, ◌<◌, List, [], ◌++◌, refl, sym, subst, arith, inl, inr}
+use Rattle.std.proofs.Common.{◌≡◌, ℕ, ◌^◌, ◌<◌, List, [], ◌++◌, refl, sym, ap, ◌∙◌, subst, arith, inl, inr}
 use Rattle.std.specs.Prelude.{Result, Ok, Err, IfOk, OnErr}
 use Rattle.cb_member.specs.declared.no_memory.NoMemory.{NoMemory}
 use Rattle.cb_types.specs.declared.config.Config.{Config}
@@ -14,6 +14,7 @@ use Rattle.cb_world.specs.declared.entry.Entry.{Entry}
 use Rattle.cb_world.specs.declared.access.Access.{Access}
 use Rattle.cb_world.specs.declared.shown.Shown.{Shown}
 use Rattle.cb_world.specs.FarState.{FarState}
+use Rattle.cb_world.specs.KeepCodes.{KeepCodes}
 use Rattle.cb_world.specs.Orders.{IsOrderKept}
 use Rattle.cb_world.specs.Played.{Agree, played}
 use Rattle.cb_world.specs.Sound.{Sound}
@@ -25,15 +26,17 @@ use Rattle.cb_core.specs.ReadTurn.{BroughtToRead, StoppedToRead}
 use Rattle.cb_core.specs.ReadTurn.BroughtToRead.{worn as first_worn, done as first_done}
 use Rattle.cb_core.specs.Turned.{Reads, ReadLacks, Turned, Stopped, counted, once_counted, worn, done}
 use Rattle.cb_mutate.specs.JobWrites.{TurnWrites}
-use Rattle.cb_core.specs.TurnLeaves.{OutcomeWrites, TurnLeaves}
+use Rattle.cb_core.specs.Recoding.{recoded, recoded_by}
+use Rattle.cb_core.specs.TurnLeaves.{OutcomeWrites, TurnLeaves, TurnLeavesFrom}
 use Rattle.cb_core.proofs.Carried.{come_rise, turn_rise}
 use Rattle.cb_core.proofs.Counting.{counted_sound, job_below}
 use Rattle.cb_core.proofs.FarJobs.{note_of}
 use Rattle.cb_core.proofs.KeptParts.{counted_rises}
 use Rattle.cb_core.proofs.Noted.{noted_after}
 use Rattle.cb_core.proofs.OrdersCounted.{still_kept}
+use Rattle.cb_core.proofs.Recoded.{recoded_counted, worn_recodes}
 use Rattle.cb_core.proofs.TurnCarries.{come_lacks, comes_in, does_comes, in_job, reads, read_lacks, stops_comes}
-use Rattle.cb_core.proofs.TurnComes.{AreLaws, CarriesNoWrites, CarriesWrites, ComesBy, Good, Nil, WritesNothing}
+use Rattle.cb_core.proofs.TurnComes.{AreLaws, CarriesNoWrites, CarriesWrites, ComesBy, ComesFrom, Good, Nil, WritesNothing}
 
 -- those of a desk
 pub laws_of : {D : Type 0} → (run : D → List Access → D → Type 0) → (shows : D → Shown → Type 0)
@@ -68,16 +71,15 @@ module _ {D : Type 0} (run : D → List Access → D → Type 0) (shows : D → 
   }
 
   -- a counted turn
-  pub counted_leaves : (W : List Entry → Type 0) (job : Job) (a b : Hold) → AreCounted a.far
-      → a.far.counts.turns < 2 ^ 40 → ComesBy (note_of job) run shows c turn_rise W
-      (once_counted a job) b
-      → TurnLeaves run shows c a b W
-  counted_leaves W job a b counts few z = record {
+  counted_from : (from mid : FarState) → KeepCodes from mid → (W : List Entry → Type 0) (job : Job)
+      (a b : Hold) → AreCounted a.far → a.far.counts.turns < 2 ^ 40
+      → ComesFrom mid (note_of job) run shows c turn_rise W (once_counted a job) b
+      → TurnLeavesFrom run shows c a b from W
+  counted_from from mid keep W job a b counts few z = record {
     events = z.events;
     ran = z.ran;
     configured = z.configured;
-    codes = codes_then a.far (counted a.far job) b.far
-        (codes_stay a.far (counted a.far job) refl refl refl refl) z.codes;
+    codes = codes_then from mid b.far keep z.codes;
     counted = counted_rises a.far (counted a.far job) b.far (job_index job) counts few (job_below job)
         refl (rises_more turn_rise (2 ^ 20) (counted a.far job) b.far (omega arith) z.rises)
         (noted_after job turn_rise a.far b.far counts z.rises);
@@ -91,6 +93,13 @@ module _ {D : Type 0} (run : D → List Access → D → Type 0) (shows : D → 
           writes_them = x.writes_them;
         };
   }
+
+  pub counted_leaves : (W : List Entry → Type 0) (job : Job) (a b : Hold) → AreCounted a.far
+      → a.far.counts.turns < 2 ^ 40 → ComesBy (note_of job) run shows c turn_rise W
+      (once_counted a job) b
+      → TurnLeaves run shows c a b W
+  counted_leaves W job a b = counted_from a.far (counted a.far job)
+      (codes_stay a.far (counted a.far job) refl refl refl refl) W job a b
 
   -- one that is refused
   pub refused_leaves : (job : Job) (a b : Hold) (r : Reply) → Good shows c a → AreCounted a.far
@@ -116,11 +125,14 @@ module _ {D : Type 0} (run : D → List Access → D → Type 0) (shows : D → 
   pub turn_leaves : (reading : ℕ → Hold → Reply → Hold → Type 0)
       → ((h : ℕ) → CarriesWrites run shows laws c 1 Nil (reading h)) → (job : Job) (a b : Hold) (r : Reply)
       → IsJob c job → Good shows c a → AreCounted a.far → Turned run shows reading c job a r b
-      → TurnLeaves run shows c a b (TurnWrites job r)
+      → TurnLeavesFrom run shows c a b (recoded_by job r a.far) (TurnWrites job r)
   turn_leaves reading read job a b r ok good counts (worn end reply same ran) =
-      refused_leaves job a b r good counts end reply same ran
+      subst (λ (f : FarState). TurnLeavesFrom run shows c a b f (TurnWrites job r))
+      (sym (ap (λ (q : Reply). recoded_by job q a.far) reply ∙ worn_recodes job a.far))
+      (refused_leaves job a b r good counts end reply same ran)
   turn_leaves reading read job a b r ok good counts (done few x) =
-      counted_leaves (TurnWrites job r) job a b counts few
+      counted_from (recoded_by job r a.far) (recoded_by job r (counted a.far job))
+      (recoded_counted job r a.far) (TurnWrites job r) job a b counts few
       (does_comes run shows laws c accepted reading read job (once_counted a job) b r ok
       (counted_good job a good) x)
 
@@ -138,7 +150,7 @@ module _ {D : Type 0} (run : D → List Access → D → Type 0) (shows : D → 
       → Good shows c a → AreCounted a.far
       → IfOk result (λ r. Turned run shows (Reads run shows) c job a r b)
       → OnErr result (Stopped run shows (ReadLacks run shows) c job a b)
-      → TurnLeaves run shows c a b (OutcomeWrites job result)
+      → TurnLeavesFrom run shows c a b (recoded job result a.far) (OutcomeWrites job result)
   outcome_leaves job a b (Ok r) ok good counts turned stopped =
       turn_leaves (Reads run shows) (reads run shows laws c accepted) job a b r ok good counts turned
   outcome_leaves job a b (Err e) ok good counts turned stopped =

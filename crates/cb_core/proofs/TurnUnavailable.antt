@@ -361,6 +361,8 @@ module _ {D : Type 0} (run : D → List Access → D → Type 0) (shows : D → 
       (far_never (job.Crash node) _ b.far r (λ id l x. x) does.1)
   does_tells (job.Join node) a b r good does = by_never (job.Join node) a.far r refl
       (far_never (job.Join node) _ b.far r (λ id l x. x) does.1)
+  does_tells (job.Recode code) a b r good does = by_never (job.Recode code) a.far r refl
+      (far_never (job.Recode code) _ b.far r (λ id l x. x) does.1)
   does_tells job.Gather a b r good does = absurd does.1
   does_tells job.Install a b r good does = absurd does.1
   does_tells (job.Fetch handle) a b r good does = absurd does.1

@@ -26,7 +26,7 @@ use Rattle.cb_core.specs.Jobs.{IsJob}
 use Rattle.cb_core.specs.Step.{TurnStep, Works, worn, done}
 use Rattle.cb_core.specs.Turned.{counted}
 use Rattle.cb_core.specs.Unavailable.{IsInLost, IsLandLost, IsLost, brought_by, asked_by, TellsUnavailable}
-use Rattle.cb_core.proofs.TurnCalls.{abort_turn, begin_turn, commit_turn, compact_turn, crash_turn, evict_turn, filter_turn, free_turn, join_turn, make_turn, merge_turn, pair_turn, part_turn, patch_turn, rebuild_turn, ship_turn}
+use Rattle.cb_core.proofs.TurnCalls.{abort_turn, begin_turn, commit_turn, compact_turn, crash_turn, evict_turn, filter_turn, free_turn, join_turn, make_turn, merge_turn, pair_turn, part_turn, patch_turn, rebuild_turn, recode_turn, ship_turn}
 use Rattle.cb_core.proofs.TurnCallsFar.{IsLostFar}
 use Rattle.cb_core.proofs.TurnCallsLost.{lost_far}
 use Rattle.cb_core.proofs.TurnCallsUnavailable.{IsUnavailable, read_gone, read_unavailable, swap_is_gone, swap_unavailable, write_gone, write_unavailable}
@@ -206,6 +206,9 @@ turn_tells (job.Crash node) w new seat r sound after ok step =
 turn_tells (job.Join node) w new seat r sound after ok step =
     turn_never w new seat (job.Join node) (line.Join node) r refl (λ e. cc) (λ id l x. x)
     (λ few. (join_turn node w new r sound after few step).1) step
+turn_tells (job.Recode code) w new seat r sound after ok step =
+    turn_never w new seat (job.Recode code) (line.Recode code) r refl (λ e. cc) (λ id l x. x)
+    (λ few. (recode_turn code w new r sound after few step).1) step
 turn_tells job.Gather w new seat r sound after ok step =
     worn_tells job.Gather w new seat r (λ x. x.1) step
 turn_tells job.Install w new seat r sound after ok step =

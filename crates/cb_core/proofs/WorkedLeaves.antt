@@ -2,6 +2,7 @@
 -- one part.
 use Rattle.std.proofs.lemmas.List.{length-replicate}
 use Rattle.std.proofs.Common.{◌≡◌, ℕ, ◌+◌, ◌*◌, ◌^◌, ◌≤◌, List, [], ◌∷◌, ◌++◌, Option, None, length, get_or, replicate, refl, ap, ◌∙◌, subst, arith, inl, inr, lit<}
+use Rattle.cb_member.specs.declared.names.Code.{Code}
 use Rattle.cb_types.specs.declared.config.Config.{Config}
 use Rattle.cb_types.specs.Config.{IsAccepted}
 use Rattle.cb_types.specs.declared.handle.Handle.{Handle}
@@ -10,6 +11,7 @@ use Rattle.cb_types.specs.declared.reply.Reply.TheVariants as answer
 use Rattle.cb_world.specs.declared.entry.Entry.{Entry}
 use Rattle.cb_world.specs.declared.access.Access.{Access}
 use Rattle.cb_world.specs.declared.shown.Shown.{Shown}
+use Rattle.cb_world.specs.Codes.{with_code}
 use Rattle.cb_world.specs.Empty.{empty_far, empty_shown}
 use Rattle.cb_world.specs.FarState.{FarState}
 use Rattle.cb_types.specs.Jobs.{job_index}
@@ -18,7 +20,7 @@ use Rattle.cb_world.specs.Sound.{Sound}
 use Rattle.cb_core.specs.Turned.{counted}
 use Rattle.cb_world.specs.declared.homes.Home.{Home}
 use Rattle.cb_world.specs.Written.{Writes, entry, gone}
-use Rattle.cb_world.proofs.Laws.{codes_stay, counted_holds, empty_world_sound, recounted}
+use Rattle.cb_world.proofs.Laws.{codes_stay, counted_holds, empty_codes, empty_world_sound, have_codes, recounted}
 use Rattle.cb_core.specs.Parts.{Holding}
 use Rattle.cb_mutate.specs.JobWrites.{TurnWrites}
 use Rattle.cb_core.specs.TurnLeaves.{IsOneTurnOn, TurnLeaves}
@@ -167,6 +169,13 @@ module _ (c : Config) (accepted : IsAccepted c) where
 
   counted_twice : Leaves (counted then_ Evict) IsNothing → ⊥
   counted_twice x = two_turns x.next
+
+  -- a code that was nowhere before
+  another_code : Leaves (with_code then_ (record { k = c.k + 1; r = c.r })) IsNothing → ⊥
+  another_code x =
+      let y = have_codes (λ (d : Code). d.k ≡ c.k) far _ x.codes
+      (empty_codes (λ (d : Code). d.k ≡ c.k) 1 c refl) in
+      let e : c.k + 1 ≡ c.k = y.force in omega (arith, e)
 
   -- at another first version nothing that the desk shows is sound
   unsound : Sound (empty_shown 1 c) far → Leaves (record then_ { first = 2 }) IsNothing → ⊥

@@ -6,6 +6,7 @@ pub mod Jobs
 pub mod Parts
 pub mod Declining
 pub mod OnceHere
+pub mod Recoding
 pub mod FarJobs
 pub mod JobParts
 pub mod Turned

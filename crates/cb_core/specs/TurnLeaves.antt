@@ -38,15 +38,21 @@ pub record SoundAfter (es : List Access) (s : Shown) (far new : FarState)
   pub writes_them : Writes es s more
 
 -- A turn leads from one holding to another by events of its desk. The far state is as it is
--- configured and counted, it has no other code, and is at most one turn further. And for all that
--- the desk showed and that was sound: it is sound afterwards, every order that was kept is kept,
--- and these versions are written.
-pub record TurnLeaves {D : Type 0} (run : D → List Access → D → Type 0) (shows : D → Shown → Type 0)
-    (c : Config) (a b : Holding D) (writes : List Entry → Type 0) : Type 0 where
+-- configured and counted, it has no other code than `from` has, and is at most one turn further. And
+-- for all that the desk showed and that was sound: it is sound afterwards, every order that was kept
+-- is kept, and these versions are written.
+pub record TurnLeavesFrom {D : Type 0} (run : D → List Access → D → Type 0)
+    (shows : D → Shown → Type 0) (c : Config) (a b : Holding D) (from : FarState)
+    (writes : List Entry → Type 0) : Type 0 where
   pub events : List Access
   pub ran : run a.desk events b.desk
   pub configured : IsConfigured c b.far
-  pub codes : KeepCodes a.far b.far
+  pub codes : KeepCodes from b.far
   pub counted : AreCounted b.far
   pub next : IsOneTurnOn a.far b.far
   pub after : (s : Shown) → shows a.desk s → Sound s a.far → SoundAfter events s a.far b.far writes
+
+-- a turn that puts no code in force: there is no other code than before
+abbrev pub TurnLeaves : {D : Type 0} → (D → List Access → D → Type 0) → (D → Shown → Type 0) → Config
+    → Holding D → Holding D → (List Entry → Type 0) → Type 0
+TurnLeaves run shows c a b writes = TurnLeavesFrom run shows c a b a.far writes

@@ -14,6 +14,7 @@ mod membership;
 mod ordering;
 mod pinning;
 pub mod reading;
+mod recoding;
 pub mod replies;
 pub mod running;
 pub mod stepping;

@@ -5,13 +5,15 @@ ghost use Rattle.cb_world.specs.Desks.{IsReadyDesk};
 ghost use Rattle.cb_world.specs.Pairs.{HoldsNoPair};
 ghost use Rattle.cb_world.specs.World.{AreCounted, IsConfigured};
 ghost use Rattle.cb_core.specs.Jobs.{IsJob, NeedsNoOrder};
-ghost use Rattle.cb_core.specs.TurnLeaves.{OutcomeWrites, TurnLeaves};
+ghost use Rattle.cb_core.specs.Recoding.{recoded};
+ghost use Rattle.cb_core.specs.TurnLeaves.{OutcomeWrites, TurnLeavesFrom};
 ghost use Rattle.cb_core.specs.Unavailable.{TurnTells};
 ghost use Rattle.cb_core.specs.Turned.{Does, Stops, Turned, Stopped, counted, ReadLacks, Reads};
 
 use crate::bringing::{make_with_room, swap_object, write_anywhere};
 use crate::membership::{crash, join};
 use crate::reading::read_anywhere;
+use crate::recoding::recode;
 use cb_compact::{compact_begin, compact_commit, compact_now, compact_part, compact_step};
 use cb_evict::{abort, begin, commit, evict_now, ship};
 use cb_filter::filter_one;
@@ -37,7 +39,8 @@ pub const MOST_TURNS: u64 = 1 << 40;
 /// rebuild, a compaction and the steps of an eviction (begin, ship, commit, abort) and of a joining
 /// pair (pair, patch, merge, part) win no room: each is one part alone. A job that hands an order
 /// out or takes one is none of these: it has a call of its own. Where there is no memory, the turn
-/// is counted and what its parts did before stays; a commit, an abort and a parting take none.
+/// is counted and what its parts did before stays; a commit, an abort, a parting and a change of the code
+/// in force take none. That change, and no other turn, leaves a code that was not there before it.
 pub fn turn<D: Desk>(
     alloc: Global,
     desk: &mut D,
@@ -59,9 +62,9 @@ pub fn turn<D: Desk>(
     ensures error { OnErr result (Stopped D.run D.shows
         (ReadLacks D.run D.shows) (D.settings desk.old) job.now
         (record { desk = desk.old; far = far.old }) (record { desk = desk.new; far = far.new })) }
-    ensures leaves { TurnLeaves D.run D.shows (D.settings desk.old)
+    ensures leaves { TurnLeavesFrom D.run D.shows (D.settings desk.old)
         (record { desk = desk.old; far = far.old }) (record { desk = desk.new; far = far.new })
-        (OutcomeWrites job.now result) }
+        (recoded job.now result far.old) (OutcomeWrites job.now result) }
 {
     if !count_turn(far, job) {
         return Ok(Reply::Worn);
@@ -121,6 +124,7 @@ fn work<D: Desk>(alloc: Global, desk: &mut D, far: &mut Far, job: &Job) -> Resul
         Job::Rebuild => rebuild_next(desk, far),
         Job::Crash { node } => crash(far, *node),
         Job::Join { node } => Ok(join(far, *node)),
+        Job::Recode { code } => Ok(recode(far, *code)),
         Job::Pair => compact_begin(desk, far),
         Job::Patch => compact_step(desk, far),
         Job::Merge => compact_commit(desk, far),

@@ -3,10 +3,12 @@ use Rattle.std.proofs.Common.{◌≡◌, ℕ, List, [], ◌∷◌, ◌++◌, len
 use Rattle.std.specs.Prelude.{codes}
 use Rattle.std.specs.Fmt.{digits}
 use Rattle.hex.specs.Hex.{encode_with}
+use Rattle.cb_member.specs.declared.names.Code.{Code}
 use Rattle.cb_types.specs.declared.config.Config.{Config}
 use Rattle.cb_types.specs.declared.handle.Handle.{Handle}
-use Rattle.cb_types.specs.declared.job.Job.TheVariants.{Write, Merge, Part, Swap, Fetch}
+use Rattle.cb_types.specs.declared.job.Job.TheVariants.{Write, Merge, Part, Swap, Fetch, Recode}
 use Rattle.cb_types.specs.declared.reply.Reply.TheVariants.{Made, Bytes, Set, Word, Stored, Stays, NoOrder, Direct, Fetched}
+use Rattle.cb_world.specs.Codes.{IsCodeOf}
 use Rattle.cb_core.specs.declared.event.Atomic.TheVariants.{Claim, Store}
 use Rattle.cb_core.specs.declared.event.Event.{Event}
 use Rattle.cb_core.specs.declared.event.Event.TheVariants as event
@@ -117,6 +119,43 @@ swaps is = let e = is.said.1.0 in cc
 
 fetches_first : IsListed few fetch (event.Turn 0 (Fetch first)) → ⊥
 fetches_first is = let e = ap (λ (h : Handle). h.n) is.said.1.1 in cc
+
+-- the code of three data positions and two parities is put in force
+abbrev pub wide : Code
+wide = record { k = 3; r = 2 }
+
+is_wide : IsCodeOf few wide
+is_wide = record {
+  range = record {
+    data_least = lit≤ tt;
+    data_most = lit≤ tt;
+    parities_least = lit≤ tt;
+    parities_most = lit≤ tt;
+  };
+  places = lit≤ tt;
+}
+
+abbrev recode : List ℕ
+recode = 0 ∷ 23 ∷ 0 ∷ 3 ∷ 2 ∷ 0 ∷ 0 ∷ 0 ∷ []
+
+recodes : IsListed few recode (event.Turn 0 (Recode wide))
+recodes = record {
+  whole = lit≤ tt;
+  within = (lit< tt, lit< tt);
+  said = (refl, (refl, (refl, refl)));
+  may = (lit< tt, is_wide);
+}
+
+-- another code, or other parities, is not said there
+wider : IsListed few recode (event.Turn 0 (Recode (record { k = 4; r = 2 }))) → ⊥
+wider is = let e = is.said.1.1.0 in cc
+
+fewer : IsListed few recode (event.Turn 0 (Recode (record { k = 3; r = 1 }))) → ⊥
+fewer is = let e = is.said.1.1.1 in cc
+
+-- and a code of more positions than nodes is not listed, though each of the two numbers may be
+too_wide : IsListed few (0 ∷ 23 ∷ 0 ∷ 5 ∷ 2 ∷ 0 ∷ 0 ∷ 0 ∷ []) (event.Turn 0 (Recode (record { k = 5; r = 2 }))) → ⊥
+too_wide is = omega (arith, is.may.1.places)
 
 -- what is told of replies, and of bytes that were not read
 made : told_line (Made third 1) ≡ codes "reply made 3 v1\n"

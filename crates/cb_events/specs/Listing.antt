@@ -3,7 +3,7 @@ use Rattle.std.specs.Prelude.{◌≡◌, ℕ, ◌+◌, ◌*◌, ◌<◌, ◌≤�
 use Rattle.cb_types.specs.Jobs.{job_index}
 use Rattle.cb_types.specs.declared.config.Config.{Config}
 use Rattle.cb_types.specs.declared.job.Job.{Job}
-use Rattle.cb_types.specs.declared.job.Job.TheVariants.{Make, Read, Write, Free, Swap, Filter, Crash, Join, Fetch}
+use Rattle.cb_types.specs.declared.job.Job.TheVariants.{Make, Read, Write, Free, Swap, Filter, Crash, Join, Fetch, Recode}
 use Rattle.cb_core.specs.declared.event.Atomic.{Atomic}
 use Rattle.cb_core.specs.declared.event.Atomic.TheVariants.{Load, Pin, Unpin, Claim, Store, Settle, Take, Give}
 use Rattle.cb_core.specs.declared.event.Event.{Event}
@@ -29,7 +29,7 @@ config_in bytes = record {
 }
 
 -- The first six bytes of an event: its seat, its kind, its handle, its node, and in two bytes where a
--- write begins.
+-- write begins. Of a code the node counts the data positions, and the two bytes the parities.
 abbrev pub head_in : List ℕ → Head
 head_in bytes = record {
   seat = slice_index bytes 0;
@@ -58,7 +58,7 @@ step_index (Settle handle) = 37
 step_index Take = 38
 step_index Give = 39
 
--- a job has the handle, the node, the place and the bytes that it speaks of
+-- a job has the handle, the node, the code, the place and the bytes that it speaks of
 abbrev pub HasOfJob : Head → List ℕ → Job → Type 0
 HasOfJob head written (Make bytes) = bytes ≡ written
 HasOfJob head written (Read handle) = handle ≡ head.handle
@@ -70,6 +70,7 @@ HasOfJob head written (Filter handle) = handle ≡ head.handle
 HasOfJob head written (Crash node) = node ≡ head.node
 HasOfJob head written (Join node) = node ≡ head.node
 HasOfJob head written (Fetch handle) = handle ≡ head.handle
+HasOfJob head written (Recode code) = (code.k ≡ head.node.n) × (code.r ≡ head.at)
 HasOfJob head written job = Unit {0}
 
 -- and so has a step

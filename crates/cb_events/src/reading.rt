@@ -2,12 +2,13 @@ ghost use Rattle.std.specs.Prelude.{◌≡◌, ◌≢◌, ◌+◌, ◌<◌, ◌�
 ghost use Rattle.cb_types.specs.Config.{most_bytes};
 ghost use Rattle.cb_core.specs.Events.{IsAtomic, IsEvent};
 ghost use Rattle.cb_core.specs.Jobs.{IsJob};
+ghost use Rattle.cb_world.specs.Codes.{IsCodeOf};
 ghost use Rattle.cb_events.specs.Listing.{IsEventOf, IsHeadWithin, IsJobOf, IsListed, IsStepOf, NoJob, NoneListed, SaysNoStep, SaysNone};
 ghost use Rattle.cb_events.specs.Listing.{event_len as len_of_event, head_in, number_in};
 
 use cb_core::{Atomic, Event};
-use cb_member::NodeId;
-use cb_types::{Bytes, Config, Handle, Job, MOST_BYTES, NoMemory};
+use cb_member::{Code, NodeId};
+use cb_types::{Bytes, Config, Handle, Job, MOST_BYTES, NoMemory, is_code_for};
 use std::alloc::Global;
 
 /// The bytes of an event, but for those of a write.
@@ -23,8 +24,9 @@ pub(crate) struct Head {
     /// The number of its job's kind, or one from 32 on for a step.
     pub(crate) kind: u8,
     pub(crate) handle: Handle,
+    /// The node, or how many data positions a code has.
     pub(crate) node: NodeId,
-    /// Where a write begins, in bytes.
+    /// Where a write begins, in bytes, or how many parities a code has.
     pub(crate) at: u32,
 }
 
@@ -190,8 +192,26 @@ fn plain_job(config: Config, head: Head) -> Option<Job>
         20 => Some(Job::Install),
         21 => Some(Job::Fetch { handle }),
         22 => Some(Job::Land),
+        23 => recode_of(config, node, head.at),
         _ => None,
     }
+}
+
+/// The job that puts a code in force, None where the world may have no sets of it.
+fn recode_of(config: Config, node: NodeId, at: u32) -> Option<Job>
+    ensures { MatchOption result
+        (IsCodeOf config (record { k = node.n; r = at }) → ⊥)
+        (λ job. (job ≡ Job.Recode (record { k = node.n; r = at }))
+        × IsCodeOf config (record { k = node.n; r = at })) }
+{
+    let code = Code {
+        k: u32::from(node.n),
+        r: at,
+    };
+    if is_code_for(code, config.nodes) {
+        return Some(Job::Recode { code });
+    }
+    None
 }
 
 /// The step that these say.

@@ -18,7 +18,8 @@ use Rattle.cb_evict.specs.BeginRule.{blank_shard}
 use Rattle.cb_evict.specs.Closing.{HaveHomes, with_homes}
 use Rattle.cb_evict.specs.EvictStep.{AreFrameRows, AreSentOff, IsEvictedTo, IsEvictStep, IsSetMade, loose_frames, few_spans, few_nodes, made}
 use Rattle.cb_evict.specs.Loading.{AreOfLength}
-use Rattle.cb_evict.specs.Storing.{AreShards, with_set}
+use Rattle.cb_world.specs.NewShards.{AreShards}
+use Rattle.cb_evict.specs.Storing.{with_set}
 use Rattle.cb_evict.specs.Lengths.{loose_of}
 use Rattle.cb_evict.proofs.LooseLengths.{none_not_one, none_not_some, one_longest, taken_count}
 use Rattle.cb_evict.proofs.EvictKeeps.{in_or_not}

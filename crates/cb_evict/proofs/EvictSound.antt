@@ -32,14 +32,15 @@ use Rattle.cb_evict.specs.EvictEffect.{HasLeft, HaveFrameRows, IsEvicted}
 use Rattle.cb_evict.specs.EvictRule.{HasEvicted}
 use Rattle.cb_evict.specs.Events.{TouchesOnly}
 use Rattle.cb_evict.specs.Sending.{IsSent, IsFormerTold, AreSent}
-use Rattle.cb_evict.specs.Storing.{AreShards, set_for, with_set}
+use Rattle.cb_world.specs.NewShards.{AreShards}
+use Rattle.cb_evict.specs.Storing.{set_for, with_set}
 use Rattle.cb_evict.proofs.Events.{quiet_told}
 use Rattle.cb_evict.proofs.Gone.{closed_in, in_or_out}
 use Rattle.cb_evict.proofs.Group.{out_none}
 use Rattle.cb_evict.proofs.Homing.{closed_else}
 use Rattle.cb_evict.proofs.NewSet.{shards_within, shards_apart, keys_apart, shards_distinct, shards_up, shards_current, set_added_in, set_others, fresh_number}
 use Rattle.cb_evict.proofs.PutAway.{IsGroupPutAway, is_sent, now_away, sound_away}
-use Rattle.cb_evict.proofs.Putting.{put_count}
+use Rattle.cb_world.proofs.Laws.{put_count}
 use Rattle.cb_evict.proofs.Standing.{names_span}
 use Rattle.cb_evict.proofs.TakenGroup.{AreRowsCoded, frame_rows, group_range, group_word, now_told, row_at_frame, rows_told, span_word, taken_group, told_one}
 use Rattle.cb_evict.proofs.Options.{some_none}

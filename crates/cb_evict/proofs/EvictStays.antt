@@ -36,7 +36,7 @@ use Rattle.cb_evict.specs.Storing.{set_for, with_set}
 use Rattle.cb_evict.proofs.Commits.{all_put as all_shards_put}
 use Rattle.cb_evict.proofs.Homing.{length_closed}
 use Rattle.cb_evict.proofs.NamesShards.{put_count as shards_count}
-use Rattle.cb_evict.proofs.Putting.{put_count, put_room}
+use Rattle.cb_world.proofs.Laws.{put_count, put_room}
 use Rattle.cb_evict.proofs.Options.{none_some, some_same}
 
 -- the set of spans in k frames, with k + r shards, has the code

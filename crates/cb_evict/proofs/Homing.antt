@@ -16,8 +16,8 @@ use Rattle.cb_world.proofs.Laws.{frames_as, frames_closed, has_pages, span_busy}
 use Rattle.cb_evict.specs.Candidates.{AreUnique}
 use Rattle.cb_world.specs.Reserved.{table_of}
 use Rattle.cb_evict.specs.Closing.{all_given, all_closed, HaveHomes, with_homes, ClosesSpan}
-use Rattle.cb_evict.proofs.Putting.{taken_at}
-use Rattle.cb_evict.proofs.Sharing.{get_pushed}
+use Rattle.cb_world.proofs.Laws.{taken_at}
+use Rattle.cb_world.proofs.Laws.{get_pushed}
 use Rattle.cb_evict.proofs.Options.{none_some}
 
 pub closed_last : (spans : List (Option Contents)) (xs : List ℕ) (x : ℕ)

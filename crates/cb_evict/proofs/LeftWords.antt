@@ -28,7 +28,8 @@ use Rattle.cb_evict.specs.CommitRule.{CommitRule, HasCommitted}
 use Rattle.cb_evict.specs.EvictRule.{EvictRule}
 use Rattle.cb_evict.specs.InstallRule.{with_made, with_parities}
 use Rattle.cb_evict.specs.ShipRule.{IsShardFor, MadeFor, ShipsRow, is_data, made_before, made_here, with_shipped}
-use Rattle.cb_evict.specs.Storing.{AreShards, set_for, with_set}
+use Rattle.cb_world.specs.NewShards.{AreShards}
+use Rattle.cb_evict.specs.Storing.{set_for, with_set}
 use Rattle.cb_evict.specs.Waiting.{least_waiting}
 use Rattle.cb_evict.proofs.BeginSound.{reserved_kept, reserved_others}
 use Rattle.cb_evict.proofs.InstallKeeps.{made_leaves_words}

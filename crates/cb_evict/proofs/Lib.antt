@@ -3,9 +3,7 @@ mod ChangedWords
 mod ChangedObjects
 mod Still
 mod Framing
-pub mod Putting
 mod Filling
-mod Sharing
 pub mod Homing
 mod Events
 mod CallParts

@@ -23,7 +23,8 @@ use Rattle.cb_world.specs.SetWord.{AreCurrent}
 use Rattle.cb_world.specs.Reserved.{table_of, position_for}
 use Rattle.cb_world.specs.Sets.{Kept, SetMap, set_in, if_committed}
 use Rattle.cb_world.proofs.Laws.{IsUpShard, fits_on_least, undrawn_is_fresh, up_is_current, up_is_kept, up_on_least, InRange, KeysApart}
-use Rattle.cb_evict.specs.Storing.{AreShards, CanPut, HasRoomFor, set_for}
+use Rattle.cb_world.specs.NewShards.{AreShards, CanPut, HasRoomFor}
+use Rattle.cb_evict.specs.Storing.{set_for}
 use Rattle.cb_evict.proofs.Options.{none_some}
 
 -- ---- the shards

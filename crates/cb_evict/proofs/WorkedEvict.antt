@@ -29,7 +29,8 @@ use Rattle.cb_world.specs.Survey.{no_survey}
 use Rattle.cb_evict.specs.EvictRule.{IsInRow, HasFewSpans, HasFewNodes, HasBoth}
 use Rattle.cb_evict.specs.EvictEffect.{IsAway, EvictEffect}
 use Rattle.cb_evict.specs.Lengths.{batch_pages, most_loose}
-use Rattle.cb_evict.specs.Storing.{CanStore, HasRoomFor, HasSpans, with_kept}
+use Rattle.cb_world.specs.NewShards.{CanStore, HasRoomFor}
+use Rattle.cb_evict.specs.Storing.{HasSpans, with_kept}
 use Rattle.cb_evict.proofs.Composed.{few_spans}
 use Rattle.cb_evict.proofs.Options.{none_some, some_none, some_same}
 

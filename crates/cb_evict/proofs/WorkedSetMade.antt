@@ -26,7 +26,8 @@ use Rattle.cb_evict.specs.Closing.{all_given, with_homes}
 use Rattle.cb_evict.specs.EvictStep.{loose_frames, AreFrameRows, AreSentOff, IsEvictedTo, IsSetMade, IsEvictStep, made, IsCountedStep}
 use Rattle.cb_evict.specs.declared.eviction.Eviction.TheVariants.{Refused}
 use Rattle.cb_evict.specs.declared.eviction.Lack.TheVariants.{Spans, Nodes}
-use Rattle.cb_evict.specs.Storing.{IsShardAt, AreShards, set_for, with_set}
+use Rattle.cb_world.specs.NewShards.{IsShardAt, AreShards}
+use Rattle.cb_evict.specs.Storing.{set_for, with_set}
 use Rattle.cb_evict.proofs.NewSet.{set_added_in}
 use Rattle.cb_evict.proofs.WorkedEvictStep.{no_nodes, no_spans, sent_off, not_here, contents_in, first_word}
 use Rattle.cb_evict.proofs.Options.{none_some, some_same}

@@ -19,7 +19,8 @@ use Rattle.cb_evict.specs.Events.{TouchesOnly}
 use Rattle.cb_evict.specs.Looking.{IsIn}
 use Rattle.cb_evict.specs.Lengths.{batch_pages, loose_of, most_loose}
 use Rattle.cb_evict.specs.Loading.{AreOfLength, LiesInOne}
-use Rattle.cb_evict.specs.Storing.{AreShards, with_set}
+use Rattle.cb_world.specs.NewShards.{AreShards}
+use Rattle.cb_evict.specs.Storing.{with_set}
 use Rattle.cb_evict.specs.Closing.{HaveHomes, with_homes}
 
 -- the object was claimed, and the words that the claim told stand in its slot of the row

@@ -24,7 +24,8 @@ use Rattle.cb_evict.specs.Candidates.{candidates}
 use Rattle.cb_evict.specs.ChangesWords.{ChangesWords}
 use Rattle.cb_evict.specs.Eviction.{reply_of, TellsCounts}
 use Rattle.cb_evict.specs.Looking.{IsIn}
-use Rattle.cb_evict.specs.Storing.{AreShards, with_set}
+use Rattle.cb_world.specs.NewShards.{AreShards}
+use Rattle.cb_evict.specs.Storing.{with_set}
 use Rattle.cb_evict.specs.Closing.{HaveHomes, with_homes}
 use Rattle.cb_evict.specs.EvictRule.{HasFewSpans, HasFewNodes}
 use Rattle.cb_evict.specs.Lengths.{batch_pages, loose_of}

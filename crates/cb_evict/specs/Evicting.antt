@@ -20,7 +20,8 @@ use Rattle.cb_evict.specs.Claiming.{AreOf}
 use Rattle.cb_evict.specs.Looking.{IsIn}
 use Rattle.cb_evict.specs.Order.{noted_of, objects_of}
 use Rattle.cb_evict.specs.Loading.{AreOfLength, LiesInOne, LoadsRuns, OnlyLoads}
-use Rattle.cb_evict.specs.Storing.{AreShards, KeepsSet}
+use Rattle.cb_world.specs.NewShards.{AreShards}
+use Rattle.cb_evict.specs.Storing.{KeepsSet}
 use Rattle.cb_evict.specs.EvictRule.{HasEvicted}
 use Rattle.cb_evict.specs.EvictEffect.{IsEvicted}
 

@@ -23,12 +23,12 @@ use crate::claiming::give_back;
 use crate::eviction::refusal;
 use crate::gathering::Gathered;
 use crate::loading::load_spans;
-use crate::storing::{make_parities, next_set, span_pages};
+use crate::storing::{next_set, span_pages};
 use crate::taking::{Taken, take_spans};
 use cb_class::PAGE_BYTES;
 use cb_member::{NodeId, Shard};
 use cb_types::{EncodeOrder, NoMemory, Reply, Rows, SetId};
-use cb_world::{Desk, Far, Former, KeptSet, Leaving, Parities};
+use cb_world::{Desk, Far, Former, KeptSet, Leaving, Parities, make_parities};
 use std::alloc::Global;
 
 /// The shard of a position whose row was not put yet.

@@ -21,11 +21,11 @@ use crate::closing::close_spans;
 use crate::eviction::{Eviction, reply_of};
 use crate::loading::load_spans;
 use crate::sending::send;
-use crate::storing::{choose_shards, keep_set, span_pages};
+use crate::storing::{keep_set, span_pages};
 use crate::taking::{Taken, take_spans};
 use cb_class::PAGE_BYTES;
 use cb_types::{NoMemory, Reply, Rows, SetId};
-use cb_world::{Desk, Far, Former, next_number};
+use cb_world::{Desk, Far, Former, choose_shards, next_number};
 
 /// Evicts k spans at once, as many as the code in force has data positions. Of the spans none of
 /// whose objects is pinned or claimed, and which are not leaving, the first k go, the cold ones

@@ -1,92 +1,18 @@
-ghost use Rattle.std.specs.Prelude.{◌≡◌, ℕ, ◌+◌, ◌-◌, ◌^◌, ◌<◌, ◌≤◌, ◌++◌, All, IfOk, List, OnErr, OnOk, Some, length, map};
-ghost use Rattle.cb_gf256.specs.CodeWord.{IsCodeWord};
+ghost use Rattle.std.specs.Prelude.{◌≡◌, ◌+◌, ◌-◌, ◌^◌, ◌<◌, ◌≤◌, ◌++◌, All, IfOk, OnErr, OnOk, Some, length, map};
 ghost use Rattle.cb_gf256.specs.InRange.{IsInRange};
-ghost use Rattle.cb_gf256.specs.Rows.{row_at, HoldBytes};
-ghost use Rattle.cb_node.specs.NodesState.{NodesState};
 ghost use Rattle.cb_span.specs.Contents.{Contents};
-ghost use Rattle.cb_world.specs.Choices.{room_count};
 ghost use Rattle.cb_world.specs.FarState.{pages_at, span_in};
+ghost use Rattle.cb_world.specs.NewShards.{CanPut, CanStore, HasRoomFor};
 ghost use Rattle.cb_world.specs.Reserved.{position_for, set_from};
 ghost use Rattle.cb_world.specs.Stored.{all_put};
-ghost use Rattle.cb_evict.specs.Storing.{AreShards, CanPut, CanStore, HasRoomFor, HasSpans, KeepsSet, set_for, with_kept};
+ghost use Rattle.cb_evict.specs.Storing.{HasSpans, KeepsSet, set_for, with_kept};
 
 use cb_class::pages;
-use cb_code::{coefficients, encode};
 use cb_member::Shard;
-use cb_node::Nodes;
 use cb_set::SpanSet;
 use cb_types::{NoMemory, Rows};
-use cb_world::{Far, KeptSet, Spans, least_node, next_number, put_row};
+use cb_world::{Far, KeptSet, Spans, make_parities, next_number, put_rows, take_rows_back};
 use std::alloc::Global;
-
-/// The shards of a new set: for each of `n` positions, in order, the node with the fewest rows of
-/// those that have room and are not taken yet, and the next row key. At least `n` nodes have room.
-pub(crate) fn choose_shards(far: &Far, n: u32) -> Result<Vec<Shard>, NoMemory>
-    requires counted { length far.now.nodes.nodes ≡ length far.now.members.nodes }
-    requires few { length far.now.nodes.nodes ≤ 256 }
-    requires room { n ≤ room_count far.now.nodes far.now.members }
-    requires keys { far.now.counts.keys + n < 2 ^ 64 }
-    ensures shards { IfOk result (λ shards. AreShards far.now n shards.items) }
-{
-    let mut shards = Vec::with_capacity(far.alloc, n as usize)?;
-    for p in 0..n {
-        let node = least_node(&far.nodes, &far.members, &shards).unwrap();
-        shards.push(Shard {
-            node,
-            incarnation: far.members.incarnation(node),
-            key: far.counts.keys + u64::from(p),
-        })?;
-    }
-    Ok(shards)
-}
-
-/// The row at a position: the data rows come first, and then the parities.
-fn row_at<'a>(rows: &'a Rows, parities: &'a Rows, p: u32) -> &'a [u8]
-    requires { p < length rows.now + length parities.now }
-    ensures { result.now ≡ row_at (rows.now ++ parities.now) p }
-{
-    let k = rows.count();
-    if p < k {
-        rows.row(p)
-    } else {
-        parities.row(p - k)
-    }
-}
-
-/// Takes the rows back that were put for these shards, the last one first. Takes no memory.
-fn take_rows_back(nodes: &mut Nodes, shards: &[Shard])
-    requires within { All (λ shard. shard.node.n < length nodes.old.nodes) shards.now }
-    ensures dropped { (before : NodesState) (rows : List (List ℕ)) → CanPut before shards.now
-        → length shards.now ≤ length rows → nodes.old ≡ all_put before shards.now rows
-        → nodes.new ≡ before }
-{
-    for p in (0..shards.len()).rev() {
-        nodes.drop_row(shards[p].node, shards[p].key);
-    }
-}
-
-/// Puts the rows of a set at its shards' nodes, which have room. Where there is no memory, no row
-/// is left there.
-fn put_rows(
-    nodes: &mut Nodes,
-    shards: &[Shard],
-    rows: &Rows,
-    parities: &Rows,
-) -> Result<(), NoMemory>
-    requires stores { CanStore nodes.old shards.now rows.now parities.now }
-    ensures ok { OnOk result
-        (nodes.new ≡ all_put nodes.old shards.now (rows.now ++ parities.now)) }
-    ensures err { OnErr result (nodes.new ≡ nodes.old) }
-{
-    for (p, shard) in shards.iter().enumerate() {
-        let row = row_at(rows, parities, p as u32);
-        let Ok(()) = put_row(nodes, *shard, row) else {
-            take_rows_back(nodes, &shards[..p]);
-            return Err(NoMemory);
-        };
-    }
-    Ok(())
-}
 
 /// The pages of the span in a frame.
 pub(crate) fn span_pages(far: &Far, frame: u32) -> u32
@@ -148,20 +74,6 @@ pub(crate) fn next_set(
         &far.spans,
         frames,
     )
-}
-
-/// The parities of some data rows.
-pub(crate) fn make_parities(alloc: Global, rows: &Rows, r: u32) -> Result<Rows, NoMemory>
-    requires range { IsInRange (length rows.now) r }
-    ensures count { IfOk result (λ parities. length parities ≡ r) }
-    ensures word { IfOk result (λ parities. IsCodeWord (length rows.now) r (rows.now ++ parities)) }
-    ensures bytes { IfOk result (λ parities. HoldBytes (rows.now ++ parities)) }
-{
-    let _ = rows.row_len();
-    match encode(alloc, &coefficients(rows.count(), r), rows) {
-        Ok(parities) => Ok(parities),
-        Err(_) => Err(NoMemory),
-    }
 }
 
 /// Keeps the set as committed under the next set number, and draws that number and the keys of as

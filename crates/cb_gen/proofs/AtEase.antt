@@ -1,4 +1,5 @@
--- A drawn script is at ease: it pins nothing, makes no long object, and crashes two nodes at the most.
+-- A drawn script is at ease: it pins nothing, makes no long object, puts no code in force, and crashes
+-- two nodes at the most.
 use Rattle.std.proofs.Common.{◌≡◌, ℕ, zero, suc, ◌+◌, ◌≤◌, ◌==◌, ◌&&◌, ◌||◌, nat_eq, nat_lt, Bool, true, false, cond, List, [], ◌∷◌, ◌++◌, length, refl, sym, ap, ap₂, ◌∙◌, arith}
 use Rattle.std.proofs.lemmas.Bool.Decides.{nat_tests}
 use Rattle.std.specs.List.{count_by, list_any, range_with_len}
@@ -7,23 +8,26 @@ use Rattle.std.proofs.lemmas.List.Folds.{list_any-append}
 use Rattle.std.proofs.lemmas.List.Sums.{count_by-le-length}
 use Rattle.cb_types.specs.declared.request.Request.{Request}
 use Rattle.cb_script.specs.declared.script.Line.{Line}
-use Rattle.cb_script.specs.Roomy.{IsAtEase, crashing, has_crash, has_long_make, has_pin, has_step_line, is_crash, is_long_make, is_make, is_pin, is_step, makes_in, page_bytes, pinning}
+use Rattle.cb_script.specs.Roomy.{IsAtEase, crashing, has_crash, has_long_make, has_pin, has_recode_line, has_step_line, is_crash, is_long_make, is_make, is_pin, is_recode, is_step, makes_in, page_bytes, pinning}
 use Rattle.cb_gen.specs.Draws.{drawn, state_after}
 use Rattle.cb_gen.specs.Drawn.{drawn_lines, lengths_of, made_script}
 use Rattle.cb_gen.proofs.Grammar.{drawn_all}
 use Rattle.cb_gen.proofs.RequestKinds.{IsKind, kind_of}
 use Rattle.cb_gen.proofs.RequestKinds.IsKind.{makes, reads, writes, frees, filters, evicts, crashes, joins, rebuilds, compacts}
 
--- no line pins, none is a part of an operation or makes a long object, and only nodes 0 and 1 crash
+-- no line pins, none is a part of an operation, puts a code in force or makes a long object, and only
+-- nodes 0 and 1 crash
 record AreGentle (lines : List Line) : Type 0 where
   pins : (lane : ℕ) → has_pin lines lane ≡ false
   steps : has_step_line lines ≡ false
+  recodes : has_recode_line lines ≡ false
   short : has_long_make lines ≡ false
   others : (n : ℕ) → 2 ≤ n → has_crash lines n ≡ false
 
 record IsGentle (r : Request) : Type 0 where
   pin : is_pin r ≡ false
   step : is_step r ≡ false
+  recode : is_recode r ≡ false
   short : is_long_make r ≡ false
   other : (n : ℕ) → 2 ≤ n → is_crash n r ≡ false
 
@@ -33,18 +37,18 @@ not_long n few = grind (arith, nat_tests)
 
 module _ (lane : ℕ) (lengths : List ℕ) where
   gentle : (r : Request) → IsKind lane lengths r → IsGentle r
-  gentle _ (makes bytes some few each) = record { pin = refl; step = refl; short = not_long (length bytes) few; other = λ n past. refl }
-  gentle _ (reads object within) = record { pin = refl; step = refl; short = refl; other = λ n past. refl }
+  gentle _ (makes bytes some few each) = record { pin = refl; step = refl; recode = refl; short = not_long (length bytes) few; other = λ n past. refl }
+  gentle _ (reads object within) = record { pin = refl; step = refl; recode = refl; short = refl; other = λ n past. refl }
   gentle _ (writes object at bytes within low few each) =
-      record { pin = refl; step = refl; short = refl; other = λ n past. refl }
-  gentle _ (frees object within) = record { pin = refl; step = refl; short = refl; other = λ n past. refl }
-  gentle _ (filters object within) = record { pin = refl; step = refl; short = refl; other = λ n past. refl }
-  gentle _ evicts = record { pin = refl; step = refl; short = refl; other = λ n past. refl }
+      record { pin = refl; step = refl; recode = refl; short = refl; other = λ n past. refl }
+  gentle _ (frees object within) = record { pin = refl; step = refl; recode = refl; short = refl; other = λ n past. refl }
+  gentle _ (filters object within) = record { pin = refl; step = refl; recode = refl; short = refl; other = λ n past. refl }
+  gentle _ evicts = record { pin = refl; step = refl; recode = refl; short = refl; other = λ n past. refl }
   gentle _ (crashes node low) =
-      record { pin = refl; step = refl; short = refl; other = λ n past. ne_eqb n node (λ e. omega (arith, past, low, e)) }
-  gentle _ (joins node low) = record { pin = refl; step = refl; short = refl; other = λ n past. refl }
-  gentle _ rebuilds = record { pin = refl; step = refl; short = refl; other = λ n past. refl }
-  gentle _ compacts = record { pin = refl; step = refl; short = refl; other = λ n past. refl }
+      record { pin = refl; step = refl; recode = refl; short = refl; other = λ n past. ne_eqb n node (λ e. omega (arith, past, low, e)) }
+  gentle _ (joins node low) = record { pin = refl; step = refl; recode = refl; short = refl; other = λ n past. refl }
+  gentle _ rebuilds = record { pin = refl; step = refl; recode = refl; short = refl; other = λ n past. refl }
+  gentle _ compacts = record { pin = refl; step = refl; recode = refl; short = refl; other = λ n past. refl }
 
 no_more : (test : Line → Bool) (lines : List Line) (l : Line) → list_any test lines ≡ false
     → test l ≡ false → list_any test (lines ++ l ∷ []) ≡ false
@@ -61,6 +65,7 @@ gentle_then lines l are is = record {
   pins = λ lane. no_more (λ m. nat_eq lane m.lane.n && is_pin m.request) lines l (are.pins lane)
       (and_false (nat_eq lane l.lane.n) (is_pin l.request) is.pin);
   steps = no_more (λ m. is_step m.request) lines l are.steps is.step;
+  recodes = no_more (λ m. is_recode m.request) lines l are.recodes is.recode;
   short = no_more (λ m. is_long_make m.request) lines l are.short is.short;
   others = λ n past. no_more (λ m. is_crash n m.request) lines l (are.others n past)
       (is.other n past);
@@ -69,7 +74,7 @@ gentle_then lines l are is = record {
 gentle_all : (seed lanes n : ℕ) → n ≤ 4000 → 1 ≤ lanes → lanes ≤ 15
     → AreGentle (drawn_lines seed lanes n).lines
 gentle_all seed lanes zero few some low =
-    record { pins = λ lane. refl; steps = refl; short = refl; others = λ n past. refl }
+    record { pins = λ lane. refl; steps = refl; recodes = refl; short = refl; others = λ n past. refl }
 gentle_all seed lanes (suc n) few some low =
     let d = drawn_lines seed lanes n in
     let lane = 1 + drawn d.left 0 lanes in
@@ -124,4 +129,5 @@ made_at_ease seed lines lanes few some low =
       makes = omega (arith, most, count, few);
       crashes = two;
       steps = all.steps;
+      recodes = all.recodes;
     }

@@ -40,7 +40,7 @@ of_nothing : summary 0 0 15 [] ≡
 unfolding digits
 of_nothing = refl
 
--- the seventeen replies of what was done, and the nearest of the others
+-- the nineteen replies of what was done, and the nearest of the others
 abbrev done : List Bool
 done =
     is_refusal (replies.Made (record { n = 0 }) 1) ∷ is_refusal (replies.Version 1) ∷ is_refusal
@@ -53,11 +53,12 @@ done =
     (record { n = 1 })) ∷ is_refusal (replies.Stepped 0)
     ∷ is_refusal replies.AllStepped ∷ is_refusal (replies.Merged (record { n = 0 }) 1)
     ∷ is_refusal (replies.Rebuilt (record { n = 0 }) 1 (record { n = 2 })) ∷ is_refusal
-    (replies.EpochAt (record { n = 1 })) ∷ []
+    (replies.EpochAt (record { n = 1 })) ∷ is_refusal (replies.Coded (record { k = 2; r = 1 }))
+    ∷ is_refusal (replies.Recoded (record { n = 0 }) (record { n = 1 })) ∷ []
 
-seventeen : done ≡ false ∷ false ∷ false ∷ false ∷ false ∷ false ∷ false ∷ false ∷ false ∷ false ∷
-    false ∷ false ∷ false ∷ false ∷ false ∷ false ∷ false ∷ []
-seventeen = refl
+nineteen : done ≡ false ∷ false ∷ false ∷ false ∷ false ∷ false ∷ false ∷ false ∷ false ∷ false ∷
+    false ∷ false ∷ false ∷ false ∷ false ∷ false ∷ false ∷ false ∷ false ∷ []
+nineteen = refl
 
 whole_is_none : is_refusal (replies.Whole 0) ≡ true
 whole_is_none = refl

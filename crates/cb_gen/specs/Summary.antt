@@ -4,7 +4,7 @@ use Rattle.cb_types.specs.declared.answer.Answer.{Answer}
 use Rattle.cb_types.specs.declared.request.Request.{Request}
 use Rattle.cb_types.specs.declared.request.Request.TheVariants as request
 use Rattle.cb_types.specs.declared.reply.Reply.{Reply}
-use Rattle.cb_types.specs.declared.reply.Reply.TheVariants.{Made, Version, Bytes, Done, Left, Moved, Same, Set, Batch, Shipped, AllShipped, Pair, Stepped, AllStepped, Merged, Rebuilt, EpochAt}
+use Rattle.cb_types.specs.declared.reply.Reply.TheVariants.{Made, Version, Bytes, Done, Left, Moved, Same, Set, Batch, Shipped, AllShipped, Pair, Stepped, AllStepped, Merged, Rebuilt, EpochAt, Coded, Recoded}
 use Rattle.cb_script.specs.Roomy.{is_make}
 use Rattle.cb_text.specs.Line.{text_of}
 use Rattle.cb_gen.specs.declared.summary.Kind.{Kind}
@@ -45,6 +45,8 @@ is_refusal AllStepped = false
 is_refusal (Merged set moved) = false
 is_refusal (Rebuilt set position node) = false
 is_refusal (EpochAt epoch) = false
+is_refusal (Coded code) = false
+is_refusal (Recoded set fresh) = false
 is_refusal _ = true
 
 -- how many answers have a request of the verb

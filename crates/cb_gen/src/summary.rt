@@ -168,5 +168,7 @@ fn is_refusal(reply: &Reply) -> bool
             | Reply::Merged { .. }
             | Reply::Rebuilt { .. }
             | Reply::EpochAt { .. }
+            | Reply::Coded { .. }
+            | Reply::Recoded { .. }
     )
 }

@@ -16,7 +16,7 @@ use Rattle.cb_types.specs.declared.request.Request.{Request}
 use Rattle.cb_types.specs.declared.request.Request.TheVariants.{Make, Read, Write, Free, Pin, Peek}
 use Rattle.cb_types.specs.declared.request.Request.TheVariants.{Unpin, Filter, Evict, Begin, Ship}
 use Rattle.cb_types.specs.declared.request.Request.TheVariants.{Commit, Abort, Pair, Patch, Merge}
-use Rattle.cb_types.specs.declared.request.Request.TheVariants.{Part, Compact, Rebuild, Crash, Join}
+use Rattle.cb_types.specs.declared.request.Request.TheVariants.{Part, Compact, Rebuild, Crash, Join, Recode}
 use Rattle.cb_types.specs.declared.request.Request.TheVariants.{Leave}
 use Rattle.cb_types.specs.declared.reply.Reply.{Reply}
 use Rattle.cb_types.specs.declared.reply.Reply.TheVariants as answer
@@ -39,7 +39,7 @@ use Rattle.cb_mutate.specs.MapBeside.{IsMapBeside}
 use Rattle.cb_mutate.proofs.Laws.{is_map_reply, is_map_make, beside_kept, empty_beside}
 use Rattle.cb_core.proofs.Laws.{are_gone, evict_turn, begin_turn, ship_turn, commit_turn}
 use Rattle.cb_core.proofs.Laws.{abort_turn, pair_turn, patch_turn, merge_turn, part_turn}
-use Rattle.cb_core.proofs.Laws.{rebuild_turn}
+use Rattle.cb_core.proofs.Laws.{rebuild_turn, recode_turn}
 use Rattle.cb_world.specs.Empty.{empty_words, empty_far, empty_shown}
 use Rattle.cb_world.proofs.Laws.{empty_shows, empty_sound, now_same, empty_world_sound}
 use Rattle.cb_lanes.specs.Asked.{answer_to, asked, HasLineReply}
@@ -144,6 +144,9 @@ line_goes side answers l (Crash node) r w new handle c is named ready lt made fe
 line_goes side answers l (Join node) r w new handle c is named ready lt made few step =
     join_goes answers l node r w new c is
     (turn_alone l.lane.n (job.Join node) w new r tt c.lone step)
+line_goes side answers l (Recode code) r w new handle c is named ready lt made few step =
+    still_goes (job.Recode code) (Recode code) (recode_turn code) refl (λ xs q. refl) answers l r w new
+    c (turn_alone l.lane.n (job.Recode code) w new r tt c.lone step)
 line_goes side answers l (Read name) r w new None c is named ready lt made few step =
     unmade_line answers l (Read name) name r w new (around answers w new c) named refl refl tt step
 line_goes side answers l (Read name) r w new (Some h) c is named ready lt made few step =

@@ -37,6 +37,7 @@ job_within c (job.Swap handle) v rest may = known_below c handle.n v rest may
 job_within c (job.Filter handle) v rest may = known_below c handle.n v rest may
 job_within c (job.Crash node) v rest may = may
 job_within c (job.Join node) v rest may = may
+job_within c (job.Recode code) v rest may = may
 job_within c job.Gather v rest may = absurd may
 job_within c job.Install v rest may = absurd may
 job_within c (job.Fetch handle) v rest may = absurd may
@@ -78,6 +79,7 @@ call_knows c (job.Swap handle) r v w x = swap_knows c (job.Swap handle) r v w x
 call_knows c (job.Filter handle) r v w x = swap_knows c (job.Filter handle) r v w x
 call_knows c (job.Crash node) r v w x = swap_knows c (job.Crash node) r v w x
 call_knows c (job.Join node) r v w x = swap_knows c (job.Join node) r v w x
+call_knows c (job.Recode code) r v w x = swap_knows c (job.Recode code) r v w x
 call_knows c j r v w x = swap_knows c j r v w x
 
 pub ask_knows : (c : Config) (ask : Ask) (r : Reply) (v w : View) → goes_in c ask v r w

@@ -25,7 +25,7 @@ use Rattle.cb_model.proofs.Laws.{calls_of-push}
 use Rattle.cb_script.specs.declared.script.Line.{Line}
 use Rattle.cb_script.specs.declared.script.Script.{Script}
 use Rattle.cb_script.specs.Form.{IsRequest, IsScript}
-use Rattle.cb_script.specs.Roomy.{IsAtEase, has_long_make, is_long_make, is_make, page_bytes}
+use Rattle.cb_script.specs.Roomy.{IsAtEase, has_long_make, is_long_make, is_make, page_bytes, is_recode}
 use Rattle.cb_world.specs.Codes.{HaveCodes, IsConfiguredCode}
 use Rattle.cb_world.specs.World.{WorldState, IsSoundWorld, empty_world}
 use Rattle.cb_core.specs.Narrow.{IsNarrow}
@@ -236,14 +236,14 @@ module _ (side : Side) (s : Script) (i : ℕ) (later : List ℕ) (answers : List
         (sym (rests_far (lines_by l.lane.n later) l.lane.n between rested rests))
         (have_codes (IsConfiguredCode s.config) w.far between.far
         (line_codes w along.sound side l.lane.n (request_handle names l.request) l.request between r
-        step)
+        codeless step)
         eases.codes);
     narrow = λ none. same_narrow between.far rested.far
         (rests_far (lines_by l.lane.n later) l.lane.n between rested rests)
         (line_narrow w along.sound side l.lane.n
         (request_handle names l.request) l.request between r
         (never_long l.request r
-        (any_at (λ (x : Line). is_long_make x.request) s.lines i l none lt at)) step
+        (any_at (λ (x : Line). is_long_make x.request) s.lines i l none lt at)) codeless step
         (eases.narrow none));
     young = λ h.
         let z = version_more s.config.handles (calls_of answers) (called answers next_answer) h
@@ -257,6 +257,9 @@ module _ (side : Side) (s : Script) (i : ℕ) (later : List ℕ) (answers : List
         (telling turning step calm) has (eases.alone lane has);
   }
     where
+      codeless : is_recode l.request ≡ false
+      codeless = any_at (λ (x : Line). is_recode x.request) s.lines i l ease.recodes lt at
+
       turning : Turning answers w between
       turning = record {
         before = along.sound;

@@ -1,25 +1,29 @@
--- No line makes another code: each makes one turn at the most, from the world in which it began.
-use Rattle.std.proofs.Common.{◌≡◌, ℕ, zero, suc, List, [], ◌∷◌, map, Option, refl, sym}
+-- No line but a recode makes another code: each makes one turn at the most, from the world in which it
+-- began.
+use Rattle.std.proofs.Common.{◌≡◌, ℕ, zero, suc, false, List, [], ◌∷◌, map, Option, Some, refl, sym}
 use Rattle.std.proofs.Common.{ap, ◌∙◌, subst}
 use Rattle.cb_types.specs.declared.job.Job.{Job}
 use Rattle.cb_types.specs.declared.job.Job.TheVariants as job
 use Rattle.cb_types.specs.declared.request.Request.{Request}
 use Rattle.cb_types.specs.declared.reply.Reply.{Reply}
 use Rattle.cb_world.specs.declared.seats.SeatPin.{SeatPin}
+use Rattle.cb_script.specs.Roomy.{is_recode}
+use Rattle.cb_world.specs.FarState.{FarState}
 use Rattle.cb_world.specs.KeepCodes.{KeepCodes}
 use Rattle.cb_world.specs.World.{IsSoundWorld, WorldState}
 use Rattle.cb_world.proofs.Laws.{codes_same, codes_stay, codes_then}
 use Rattle.cb_core.specs.declared.event.Event.TheVariants.{Turn}
 use Rattle.cb_core.specs.Jobs.{NeedsNoOrder}
+use Rattle.cb_core.specs.Recoding.{PutsNoCode}
 use Rattle.cb_core.specs.Step.{Leads, Step, held as other_holds, free, ordered}
-use Rattle.cb_core.proofs.Laws.{pin_far, turn_codes, unpin_far}
+use Rattle.cb_core.proofs.Laws.{no_code_told, pin_far, turn_codes, unpin_far}
 use Rattle.cb_lanes.specs.GivingBack.{unpin_event, GivesAll, Rests}
 use Rattle.cb_lanes.specs.LineGoes.{Ask, Calls, Leaves, Peeks, Pins, Unpins}
 use Rattle.cb_lanes.specs.LineStep.{LineStep, PeekStep, PinLine, TurnAt, at_once, goes_at}
 use Rattle.cb_lanes.specs.LineStep.{not_pinned, shown, stays_far, swapped_in}
 use Rattle.cb_lanes.specs.declared.side.Side.{Side}
 use Rattle.cb_lanes.proofs.ByAsk.{IsAskOf, of_line}
-use Rattle.cb_lanes.proofs.LineJobs.{call_alone}
+use Rattle.cb_lanes.proofs.LineJobs.{call_alone, call_codeless}
 use Rattle.cb_lanes.proofs.Recounting.{IsRecounted, turn_beside}
 
 -- the same world
@@ -43,17 +47,20 @@ recounted_codes w new same =
     subst (KeepCodes w.far) (sym same.far) (codes_stay w.far _ refl refl refl refl)
 
 module _ (w : WorldState) (sound : IsSoundWorld w) where
-  event_codes : (seat : ℕ) (j : Job) (new : WorldState) (r : Reply) → NeedsNoOrder j
+  event_codes : (seat : ℕ) (j : Job) (new : WorldState) (r : Reply) → NeedsNoOrder j → PutsNoCode j
       → Step w (Turn seat j) r new → KeepCodes w.far new.far
-  event_codes seat j new r alone (other_holds holder off holds is same) =
+  event_codes seat j new r alone codeless (other_holds holder off holds is same) =
       codes_same w.far new.far (far_is w new same)
-  event_codes seat j new r alone (free none step) = turn_codes w new j r sound step
-  event_codes seat j new r alone (ordered keeps needs none turn seats) = absurd (needs alone)
+  event_codes seat j new r alone codeless (free none step) =
+      subst (λ (f : FarState). KeepCodes f new.far) (no_code_told j (Some r) w.far codeless)
+      (turn_codes w new j r sound step)
+  event_codes seat j new r alone codeless (ordered keeps needs none turn seats) =
+      absurd (needs alone)
 
   side_codes : (side : Side) (seat : ℕ) (j : Job) (new : WorldState) (r : Reply) → NeedsNoOrder j
-      → TurnAt j side seat w r new → KeepCodes w.far new.far
-  side_codes side seat j new r alone x = let z = turn_beside j side seat w new r x in
-      codes_then w.far z.mid.far new.far (event_codes seat j z.mid r alone z.step)
+      → PutsNoCode j → TurnAt j side seat w r new → KeepCodes w.far new.far
+  side_codes side seat j new r alone codeless x = let z = turn_beside j side seat w new r x in
+      codes_then w.far z.mid.far new.far (event_codes seat j z.mid r alone codeless z.step)
       (recounted_codes z.mid new z.counts)
 
   pin_codes : (seat h : ℕ) (new : WorldState) (r : Reply) → PinLine seat h w r new
@@ -61,9 +68,9 @@ module _ (w : WorldState) (sound : IsSoundWorld w) where
   pin_codes seat h new r (at_once pin never) =
       codes_same w.far new.far (pin_far w new seat h r pin)
   pin_codes seat h new r (stays_far away swap off) =
-      event_codes seat (job.Swap (record { n = h })) new r tt swap
+      event_codes seat (job.Swap (record { n = h })) new r tt tt swap
   pin_codes seat h new r (swapped_in m q away swap is again) =
-      codes_then w.far m.far new.far (event_codes seat (job.Swap (record { n = h })) m q tt swap)
+      codes_then w.far m.far new.far (event_codes seat (job.Swap (record { n = h })) m q tt tt swap)
       (codes_same m.far new.far (pin_far m new seat h r again))
 
   peek_codes : (seat h : ℕ) (new : WorldState) (r : Reply) → PeekStep seat h w r new
@@ -74,23 +81,23 @@ module _ (w : WorldState) (sound : IsSoundWorld w) where
       codes_same w.far new.far (far_is w new same)
 
   ask_codes : (side : Side) (seat : ℕ) (handle : Option ℕ) (request : Request) (ask : Ask)
-      (new : WorldState) (r : Reply) → IsAskOf handle request ask
+      (new : WorldState) (r : Reply) → is_recode request ≡ false → IsAskOf handle request ask
       → goes_at side seat ask w r new → KeepCodes w.far new.far
-  ask_codes side seat handle request (Calls j) new r is x =
-      side_codes side seat j new r (call_alone handle request j is) x
-  ask_codes side seat handle request (Pins h) new r is x = pin_codes seat h new r x
-  ask_codes side seat handle request (Peeks h) new r is x = peek_codes seat h new r x
-  ask_codes side seat handle request (Unpins h) new r is x =
+  ask_codes side seat handle request (Calls j) new r none is x = side_codes side seat j new r
+      (call_alone handle request j is) (call_codeless handle request j none is) x
+  ask_codes side seat handle request (Pins h) new r none is x = pin_codes seat h new r x
+  ask_codes side seat handle request (Peeks h) new r none is x = peek_codes seat h new r x
+  ask_codes side seat handle request (Unpins h) new r none is x =
       codes_same w.far new.far (unpin_far w new seat h r x)
-  ask_codes side seat handle request Leaves new r is x =
+  ask_codes side seat handle request Leaves new r none is x =
       codes_same w.far new.far (all_far seat w new x.1)
 
   pub line_codes : (side : Side) (seat : ℕ) (handle : Option ℕ) (request : Request)
-      (new : WorldState) (r : Reply) → LineStep side seat handle request w r new
-      → KeepCodes w.far new.far
-  line_codes side seat handle request new r x =
+      (new : WorldState) (r : Reply) → is_recode request ≡ false
+      → LineStep side seat handle request w r new → KeepCodes w.far new.far
+  line_codes side seat handle request new r none x =
       of_line (goes_at side seat) w new r (KeepCodes w.far new.far) handle request
-      (λ ask is y. ask_codes side seat handle request ask new r is y)
+      (λ ask is y. ask_codes side seat handle request ask new r none is y)
       (λ unmade same. codes_same w.far new.far (far_is w new same)) x
 
 -- a lane that rests leaves the far state

@@ -1,12 +1,16 @@
 -- What holds of each line and the job of its call holds of whichever it is.
-use Rattle.std.proofs.Common.{◌≡◌, ◌⊎◌, ℕ, List, Option, Some, inl, inr, subst, sym}
+use Rattle.std.proofs.Common.{◌≡◌, ◌⊎◌, ℕ, false, List, Option, Some, inl, inr, subst, sym}
+use Rattle.std.proofs.lemmas.Bool.{true≢false}
 use Rattle.std.proofs.lemmas.Option.{none-some, same_Some}
+use Rattle.cb_member.specs.declared.names.Code.{Code}
 use Rattle.cb_member.specs.declared.names.NodeId.{NodeId}
 use Rattle.cb_types.specs.declared.job.Job.{Job}
 use Rattle.cb_types.specs.declared.job.Job.TheVariants as job
 use Rattle.cb_types.specs.declared.request.Request.{Request}
 use Rattle.cb_types.specs.declared.request.Request.TheVariants as line
+use Rattle.cb_script.specs.Roomy.{is_recode}
 use Rattle.cb_core.specs.Jobs.{NeedsNoOrder}
+use Rattle.cb_core.specs.Recoding.{PutsNoCode}
 use Rattle.cb_lanes.specs.LineGoes.{job_of, job_on}
 
 -- a line about no object
@@ -18,7 +22,8 @@ module _ (P : Request → Job → Type 0)
     (part : P line.Part job.Part) (compact : P line.Compact job.Compact)
     (rebuild : P line.Rebuild job.Rebuild)
     (crash : (node : NodeId) → P (line.Crash node) (job.Crash node))
-    (join : (node : NodeId) → P (line.Join node) (job.Join node)) where
+    (join : (node : NodeId) → P (line.Join node) (job.Join node))
+    (recode : (code : Code) → P (line.Recode code) (job.Recode code)) where
   so : (q : Request) (i j : Job) → P q i → Some i ≡ Some j → P q j
   so q i j x e = subst (P q) (same_Some i j e) x
 
@@ -36,6 +41,7 @@ module _ (P : Request → Job → Type 0)
   by_line_job line.Rebuild j e = so line.Rebuild job.Rebuild j rebuild e
   by_line_job (line.Crash node) j e = so (line.Crash node) (job.Crash node) j (crash node) e
   by_line_job (line.Join node) j e = so (line.Join node) (job.Join node) j (join node) e
+  by_line_job (line.Recode code) j e = so (line.Recode code) (job.Recode code) j (recode code) e
   by_line_job q j e = absurd (none-some j e)
 
 -- a line on the object of this handle
@@ -63,7 +69,7 @@ IsCallOf handle q j =
 -- no line hands an order out or takes one
 pub line_alone : (q : Request) (j : Job) → job_of q ≡ Some j → NeedsNoOrder j
 line_alone = by_line_job (λ (q : Request) (i : Job). NeedsNoOrder i) tt tt tt tt tt tt tt tt tt tt
-    tt (λ node. tt) (λ node. tt)
+    tt (λ node. tt) (λ node. tt) (λ code. tt)
 
 pub call_alone : (handle : Option ℕ) (q : Request) (j : Job) → IsCallOf handle q j → NeedsNoOrder j
 call_alone handle q j (inl (name, bytes, e, is)) = subst NeedsNoOrder (sym is) tt
@@ -71,3 +77,17 @@ call_alone handle q j (inr (inl (h, named, e))) = by_object_job h
     (λ (q : Request) (i : Job). NeedsNoOrder i) (λ name. tt) (λ name at bytes. tt) (λ name. tt)
     (λ name. tt) q j e
 call_alone handle q j (inr (inr e)) = line_alone q j e
+
+-- the job of a line that puts no code in force puts none in force
+line_codeless : (q : Request) (j : Job) → job_of q ≡ Some j → is_recode q ≡ false → PutsNoCode j
+line_codeless = by_line_job (λ (q : Request) (i : Job). is_recode q ≡ false → PutsNoCode i)
+    (λ e. tt) (λ e. tt) (λ e. tt) (λ e. tt) (λ e. tt) (λ e. tt) (λ e. tt) (λ e. tt) (λ e. tt)
+    (λ e. tt) (λ e. tt) (λ node e. tt) (λ node e. tt) (λ code e. absurd (true≢false e))
+
+pub call_codeless : (handle : Option ℕ) (q : Request) (j : Job) → is_recode q ≡ false
+    → IsCallOf handle q j → PutsNoCode j
+call_codeless handle q j none (inl (name, bytes, e, is)) = subst PutsNoCode (sym is) tt
+call_codeless handle q j none (inr (inl (h, named, e))) = by_object_job h
+    (λ (q : Request) (i : Job). PutsNoCode i) (λ name. tt) (λ name at bytes. tt) (λ name. tt)
+    (λ name. tt) q j e
+call_codeless handle q j none (inr (inr e)) = line_codeless q j e none

@@ -225,7 +225,7 @@ module _ (side : Side) (seat : ℕ) (w new : WorldState) (r : Reply) (sound : Is
       (λ (q : Request) (i : Job). IsRequest w.desk.settings.nodes q → IsAsked w.desk.settings i)
       (λ x. (tt, tt)) (λ x. (tt, tt)) (λ x. (tt, tt)) (λ x. (tt, tt)) (λ x. (tt, tt))
       (λ x. (tt, tt)) (λ x. (tt, tt)) (λ x. (tt, tt)) (λ x. (tt, tt)) (λ x. (tt, tt))
-      (λ x. (tt, tt)) (λ node x. (x, tt)) (λ node x. (x, tt)) request j e is
+      (λ x. (tt, tt)) (λ node x. (x, tt)) (λ node x. (x, tt)) (λ code x. (x, tt)) request j e is
 
   call_asked : (handle : Option ℕ) (request : Request) (j : Job)
       → IsRequest w.desk.settings.nodes request → Ready handle → IsCallOf handle request j

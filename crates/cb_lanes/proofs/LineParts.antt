@@ -184,6 +184,9 @@ turn_line (line.Crash node) = line_of (line.Crash node) (job.Crash node) tt refl
 turn_line (line.Join node) = line_of (line.Join node) (job.Join node) tt refl (λ r es x. x)
     (λ r. refl)
     (λ r. deed_turned (line.Join node) (job.Join node) r refl) (λ r. refl)
+turn_line (line.Recode code) = line_of (line.Recode code) (job.Recode code) tt refl (λ r es x. x)
+    (λ r. refl)
+    (λ r. deed_turned (line.Recode code) (job.Recode code) r refl) (λ r. refl)
 turn_line line.Begin = line_of line.Begin job.Begin tt refl (λ r es x. x) (λ r. refl)
     (λ r. step_turned line.Begin job.Begin r refl) (λ r. refl)
 turn_line line.Ship = line_of line.Ship job.Ship tt refl (λ r es x. x) (λ r. refl)
@@ -723,5 +726,7 @@ line_adds c h (line.Crash node) r v w x = own_line c (line.Crash node) _ r v w r
     (line_of_no_room c h (line.Crash node) r v w (λ f l n z. z) x) x
 line_adds c h (line.Join node) r v w x = own_line c (line.Join node) _ r v w refl
     (line_of_no_room c h (line.Join node) r v w (λ f l n z. z) x) x
+line_adds c h (line.Recode code) r v w x = own_line c (line.Recode code) _ r v w refl
+    (line_of_no_room c h (line.Recode code) r v w (λ f l n z. z) x) x
 line_adds c None q r v w x = unmade_line q v w r x.0 x.1 tt
 line_adds c (Some h) q r v w x = call_adds c h q r v w x

@@ -37,7 +37,7 @@ use Rattle.cb_lanes.specs.Passing.{PeekGoes, PinEnds, PinGoes, UnpinGoes, goes_i
 use Rattle.cb_lanes.proofs.Lacks.{by_lack}
 use Rattle.cb_lanes.proofs.TurnReplies.{so, room_for, write_where, turned_so, free_as, filter_as}
 use Rattle.cb_lanes.proofs.TurnReplies.{evict_rule, begin_rule, ship_rule, commit_rule, abort_rule}
-use Rattle.cb_lanes.proofs.TurnReplies.{rebuild_step, crash_turn, join_turn}
+use Rattle.cb_lanes.proofs.TurnReplies.{rebuild_step, crash_turn, join_turn, recode_turn}
 
 module _ (c : Config) where
   -- ---- a turn
@@ -198,6 +198,8 @@ module _ (c : Config) where
       (λ a b y. crash_turn a.far b.far node r y.1) tt x
   line_reply h (line.Join node) r v w x = by_turn (job.Join node) (line.Join node) r v w tt
       (λ a b y. join_turn a.far b.far node r y.1) tt x
+  line_reply h (line.Recode code) r v w x = by_turn (job.Recode code) (line.Recode code) r v w tt
+      (λ a b y. recode_turn a.far b.far code r y.1) tt x
   line_reply None (Read name) r v w x = so (Read name) r answer.Unmade tt x.0
   line_reply None (Write name at bytes) r v w x = so (Write name at bytes) r answer.Unmade tt x.0
   line_reply None (Free name) r v w x = so (Free name) r answer.Unmade tt x.0

@@ -178,6 +178,7 @@ module _ (goes : Goes View) (v w : View) (r : Reply) (T : ℕ → Event → Type
   by_line o line.Rebuild x h is = absurd (none-some h is)
   by_line o (line.Crash node) x h is = absurd (none-some h is)
   by_line o (line.Join node) x h is = absurd (none-some h is)
+  by_line o (line.Recode code) x h is = absurd (none-some h is)
   by_line None q x h is = absurd (none-some h is)
   by_line (Some k) q x h is =
       subst (λ (n : ℕ). T n (event_of q r)) (same_Some k h is) (on k q x)

@@ -369,6 +369,8 @@ module _ (c : Config) (v w : View) (r : Reply) where
       silent_suits w.seen _ (nothing_told (line.Crash node) r refl reply)
   line_suits o (line.Join node) knows read all reply x =
       silent_suits w.seen _ (nothing_told (line.Join node) r refl reply)
+  line_suits o (line.Recode code) knows read all reply x =
+      silent_suits w.seen _ (nothing_told (line.Recode code) r refl reply)
   line_suits None (Read name) knows read all reply x = unmade_suits w.seen (Read name) r x.0 tt
   line_suits None (Write name at bytes) knows read all reply x =
       unmade_suits w.seen (Write name at bytes) r x.0 tt

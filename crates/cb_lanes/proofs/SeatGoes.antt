@@ -90,6 +90,7 @@ may_ask c (job.Swap handle) may = may
 may_ask c (job.Filter handle) may = may
 may_ask c (job.Crash node) may = may
 may_ask c (job.Join node) may = may
+may_ask c (job.Recode code) may = may
 may_ask c job.Gather may = absurd may
 may_ask c job.Install may = absurd may
 may_ask c (job.Fetch handle) may = absurd may

@@ -6,6 +6,7 @@ use Rattle.std.proofs.lemmas.Option.{same_Some}
 use Rattle.cb_ptr.specs.declared.word.State.{State}
 use Rattle.cb_ptr.specs.declared.word.State.TheVariants as state
 use Rattle.cb_ptr.specs.Word.{len_of, state_of}
+use Rattle.cb_member.specs.declared.names.Code.{Code}
 use Rattle.cb_member.specs.declared.names.NodeId.{NodeId}
 use Rattle.cb_types.specs.declared.config.Config.{Config}
 use Rattle.cb_types.specs.declared.job.Job.{Job}
@@ -30,6 +31,7 @@ use Rattle.cb_filter.specs.FilterRule.{FilterAs}
 use Rattle.cb_rebuild.specs.RebuildStep.{RebuildStep, Restores, surveyed}
 use Rattle.cb_swapin.proofs.Laws.{by_answer}
 use Rattle.cb_core.specs.Membership.{CrashTurn, JoinTurn, crashed, is_down, is_up, joined}
+use Rattle.cb_core.specs.Recoding.{RecodeTurn}
 use Rattle.cb_core.specs.Parts.{Holding, WhereItIs, WithRoom, brought, declined, most_evictions}
 use Rattle.cb_core.specs.Parts.{near}
 use Rattle.cb_core.specs.Parts.{stays_far}
@@ -171,6 +173,10 @@ pub join_turn : (far new : FarState) (node : NodeId) (r : Reply) → JoinTurn no
     → IsReplyOf (line.Join node) r
 join_turn far new node r (joined down is left) = so (line.Join node) r _ tt is
 join_turn far new node r (is_up up is same) = so (line.Join node) r _ tt is
+
+pub recode_turn : (far new : FarState) (code : Code) (r : Reply) → RecodeTurn code far r new
+    → IsReplyOf (line.Recode code) r
+recode_turn far new code r step = so (line.Recode code) r _ tt step.reply
 
 -- ---- the parts of a turn over any desk
 module _ {D : Type 0} (run : D → List Access → D → Type 0) (shows : D → Shown → Type 0)

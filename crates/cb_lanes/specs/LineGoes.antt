@@ -6,7 +6,7 @@ use Rattle.cb_types.specs.declared.request.Request.{Request}
 use Rattle.cb_types.specs.declared.request.Request.TheVariants.{Make, Read, Write, Free, Pin, Peek}
 use Rattle.cb_types.specs.declared.request.Request.TheVariants.{Unpin, Filter, Evict, Begin, Ship}
 use Rattle.cb_types.specs.declared.request.Request.TheVariants.{Commit, Abort, Pair, Patch, Merge}
-use Rattle.cb_types.specs.declared.request.Request.TheVariants.{Part, Compact, Rebuild, Crash, Join}
+use Rattle.cb_types.specs.declared.request.Request.TheVariants.{Part, Compact, Rebuild, Crash, Join, Recode}
 use Rattle.cb_types.specs.declared.request.Request.TheVariants.{Leave}
 use Rattle.cb_types.specs.declared.reply.Reply.{Reply}
 use Rattle.cb_types.specs.declared.reply.Reply.TheVariants as answer
@@ -35,6 +35,7 @@ job_of Compact = Some job.Compact
 job_of Rebuild = Some job.Rebuild
 job_of (Crash node) = Some (job.Crash node)
 job_of (Join node) = Some (job.Join node)
+job_of (Recode code) = Some (job.Recode code)
 job_of request = None
 
 -- the job of a line on an object, where it is one call

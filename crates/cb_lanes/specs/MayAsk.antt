@@ -1,15 +1,17 @@
 -- What a line may ask for.
 use Rattle.std.specs.Prelude.{◌≡◌, ◌<◌, ◌≤◌, ℕ, List, length}
+use Rattle.cb_types.specs.Codes.{IsCodeFor}
 use Rattle.cb_types.specs.Config.{most_bytes}
 use Rattle.cb_types.specs.declared.handle.Handle.{Handle}
 use Rattle.cb_types.specs.declared.job.Job.{Job}
 use Rattle.cb_types.specs.declared.job.Job.TheVariants.{Make, Read, Write, Free, Swap, Filter}
-use Rattle.cb_types.specs.declared.job.Job.TheVariants.{Crash, Join, Gather, Install, Fetch, Land}
+use Rattle.cb_types.specs.declared.job.Job.TheVariants.{Crash, Join, Gather, Install, Fetch, Land, Recode}
 use Rattle.cb_types.specs.declared.reply.Reply.{Reply}
 use Rattle.cb_types.specs.declared.reply.Reply.TheVariants.{Made}
 
 -- A job that may be called, where there are so many nodes and these handles may be named: an object
--- has 1 to `most_bytes` bytes, and no line hands an order out or takes one.
+-- has 1 to `most_bytes` bytes, a code has no more positions than there are nodes, and no line hands an
+-- order out or takes one.
 abbrev pub MayCall : ℕ → (ℕ → Type 0) → Job → Type 0
 MayCall nodes named (Make bytes) = (1 ≤ length bytes) × (length bytes ≤ most_bytes)
 MayCall nodes named (Read handle) = named handle.n
@@ -19,6 +21,7 @@ MayCall nodes named (Swap handle) = named handle.n
 MayCall nodes named (Filter handle) = named handle.n
 MayCall nodes named (Crash node) = node.n < nodes
 MayCall nodes named (Join node) = node.n < nodes
+MayCall nodes named (Recode code) = IsCodeFor nodes code
 MayCall nodes named Gather = ⊥
 MayCall nodes named Install = ⊥
 MayCall nodes named (Fetch handle) = ⊥

@@ -60,6 +60,7 @@ fn job_of(request: &Request) -> Option<Job>
         Request::Rebuild => Some(Job::Rebuild),
         Request::Crash { node } => Some(Job::Crash { node: *node }),
         Request::Join { node } => Some(Job::Join { node: *node }),
+        Request::Recode { code } => Some(Job::Recode { code: *code }),
         _ => None,
     }
 }

@@ -158,6 +158,8 @@ rule_cases x y far new s bytes es answer.NotHeld k l run rule done = absurd rule
 rule_cases x y far new s bytes es answer.NoOrder k l run rule done = absurd rule
 rule_cases x y far new s bytes es answer.Direct k l run rule done = absurd rule
 rule_cases x y far new s bytes es (answer.Fetched a b) k l run rule done = absurd rule
+rule_cases x y far new s bytes es (answer.Coded a) k l run rule done = absurd rule
+rule_cases x y far new s bytes es (answer.Recoded a b) k l run rule done = absurd rule
 
 -- Over a still desk of which all is known a make is a step, and all is known of it afterwards.
 pub make_step : (x y : Words) (far new : FarState) (s : Shown) (bytes : List ℕ) (r : Reply)

@@ -31,6 +31,8 @@ happened_is (job.Crash node) (Some (answer.EpochAt epoch)) d h = the_only d _ h
 happened_is (job.Crash node) r d h = absurd h
 happened_is (job.Join node) (Some (answer.EpochAt epoch)) d h = the_only d _ h
 happened_is (job.Join node) r d h = absurd h
+happened_is (job.Recode code) (Some (answer.Coded now)) d h = the_only d _ h
+happened_is (job.Recode code) r d h = absurd h
 happened_is j r d h = absurd h
 
 split : (d : Deed) (xs ys : List Deed) → Has d (xs ++ ys) → Has d xs ⊎ Has d ys

@@ -46,7 +46,8 @@ own_jobs_of_pairs = (refl, refl, refl, refl, refl)
 own_jobs_of_nodes : (own request.Rebuild ≡ Some job.Rebuild)
     × (own (request.Crash (record { n = 5 })) ≡ Some (job.Crash (record { n = 5 })))
     × (own (request.Join (record { n = 5 })) ≡ Some (job.Join (record { n = 5 })))
-own_jobs_of_nodes = (refl, refl, refl)
+    × (own (request.Recode (record { k = 2; r = 1 })) ≡ Some (job.Recode (record { k = 2; r = 1 })))
+own_jobs_of_nodes = (refl, refl, refl, refl)
 
 -- lines on pins have none, nor a read or a write of a name without a handle
 no_own_jobs : (own (request.Pin name) ≡ None) × (own (request.Peek name) ≡ None)
@@ -137,6 +138,10 @@ pins_taken : (pins_at (request.Pin name) (answer.Version 2) ≡ 1)
     × (pins_at (request.Write name 0 []) (answer.Version 2) ≡ 0)
 pins_taken = (refl, refl, refl, refl, refl)
 
+turn_of_a_code : turn_at None (request.Recode (record { k = 2; r = 1 })) answer.Worn
+    ≡ record { job = job.Recode (record { k = 2; r = 1 }); reply = Some answer.Worn } ∷ []
+turn_of_a_code = refl
+
 turns_of_nodes : (turn_at None (request.Join (record { n = 5 })) answer.Worn
     ≡ record { job = job.Join (record { n = 5 }); reply = Some answer.Worn } ∷ [])
     × (turn_at (Some 3) (request.Read name) (answer.Bytes 1 []) ≡ [])
@@ -146,6 +151,15 @@ turns_of_nodes = (refl, refl, refl)
 joined_happens : happening (job.Join (record { n = 5 })) (Some (answer.EpochAt (record { n = 9 })))
     ≡ record { job = job.Join (record { n = 5 }); reply = Some (answer.EpochAt (record { n = 9 })) } ∷ []
 joined_happens = refl
+
+recoded_happens : (happening (job.Recode (record { k = 2; r = 1 }))
+    (Some (answer.Coded (record { k = 2; r = 1 })))
+    ≡ record {
+      job = job.Recode (record { k = 2; r = 1 });
+      reply = Some (answer.Coded (record { k = 2; r = 1 }));
+    } ∷ [])
+    × (happening (job.Recode (record { k = 2; r = 1 })) (Some answer.Worn) ≡ [])
+recoded_happens = (refl, refl)
 
 refused_happens : (happening (job.Join (record { n = 5 })) (Some answer.Worn) ≡ [])
     × (happening (job.Crash (record { n = 5 })) (Some answer.Worn) ≡ [])

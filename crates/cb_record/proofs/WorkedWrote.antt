@@ -106,6 +106,16 @@ joined_so : happened_at (request.Join (record { n = 5 })) (answer.EpochAt (recor
     } ∷ []
 joined_so = refl
 
+recoded_so : happened_at (request.Recode (record { k = 2; r = 1 })) (answer.Coded (record { k = 2; r = 1 }))
+    ≡ record {
+      job = job.Recode (record { k = 2; r = 1 });
+      reply = Some (answer.Coded (record { k = 2; r = 1 }));
+    } ∷ []
+recoded_so = refl
+
+recoded_none : happened_at (request.Recode (record { k = 2; r = 1 })) answer.Worn ≡ []
+recoded_none = refl
+
 joined_none : happened_at (request.Join (record { n = 5 })) answer.Worn ≡ []
 joined_none = refl
 

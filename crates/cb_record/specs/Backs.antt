@@ -7,7 +7,7 @@ use Rattle.cb_types.specs.declared.reply.Reply.TheVariants as answer
 use Rattle.cb_types.specs.declared.request.Request.{Request}
 use Rattle.cb_types.specs.declared.request.Request.TheVariants.{Make, Read, Write, Free, Pin}
 use Rattle.cb_types.specs.declared.request.Request.TheVariants.{Filter, Evict, Compact, Rebuild}
-use Rattle.cb_types.specs.declared.request.Request.TheVariants.{Crash, Join}
+use Rattle.cb_types.specs.declared.request.Request.TheVariants.{Crash, Join, Recode}
 use Rattle.cb_world.specs.declared.entry.Entry.{Entry}
 use Rattle.cb_mutate.specs.JobWrites.{TurnWrites}
 use Rattle.cb_record.specs.Deeds.{Deed, deed, happened, happening}
@@ -40,6 +40,7 @@ turn_at h Compact r = record { job = job.Compact; reply = Some r } ∷ []
 turn_at h Rebuild r = record { job = job.Rebuild; reply = Some r } ∷ []
 turn_at h (Crash node) r = record { job = job.Crash node; reply = Some r } ∷ []
 turn_at h (Join node) r = record { job = job.Join node; reply = Some r } ∷ []
+turn_at h (Recode code) r = record { job = job.Recode code; reply = Some r } ∷ []
 turn_at h request r = []
 
 abbrev pub turn_needed : Told → List Deed
@@ -54,11 +55,13 @@ pins_at request reply = 0
 abbrev pub pins_for : Told → ℕ
 pins_for t = pins_at t.request t.reply
 
--- the object that a line made, or the crash or the join of a node that it had happen
+-- the object that a line made, the crash or the join of a node that it had happen, or the code that it
+-- put in force
 abbrev pub happened_at : Request → Reply → List Deed
 happened_at (Make name bytes) r = happening (job.Make bytes) (Some r)
 happened_at (Crash node) r = happening (job.Crash node) (Some r)
 happened_at (Join node) r = happening (job.Join node) (Some r)
+happened_at (Recode code) r = happening (job.Recode code) (Some r)
 happened_at request r = []
 
 abbrev pub happened_for : Told → List Deed
@@ -78,5 +81,6 @@ pub record Backs (d : Part) (ts : List Told) : Type 0 where
   pub pins : sum_by pins_for ts ≤ d.ever
   -- the turns are those of the lines that are one turn, each once, and others
   pub turned : IsSublist (newest_first turn_needed ts) (map deed d.turns)
-  -- and no object was made, and no node crashed or joined, but by these lines
+  -- and no object was made, no node crashed or joined, and no code was put in force, but by these
+  -- lines
   pub happens : flat_map (λ turn. happened (deed turn)) d.turns ≡ newest_first happened_for ts

@@ -1,9 +1,9 @@
 -- What the turns of a record did.
 use Rattle.std.specs.Prelude.{List, [], ◌∷◌, Option, Some}
 use Rattle.cb_types.specs.declared.job.Job.{Job}
-use Rattle.cb_types.specs.declared.job.Job.TheVariants.{Make, Crash, Join}
+use Rattle.cb_types.specs.declared.job.Job.TheVariants.{Make, Crash, Join, Recode}
 use Rattle.cb_types.specs.declared.reply.Reply.{Reply}
-use Rattle.cb_types.specs.declared.reply.Reply.TheVariants.{Made, EpochAt}
+use Rattle.cb_types.specs.declared.reply.Reply.TheVariants.{Made, EpochAt, Coded}
 use Rattle.cb_rule.specs.declared.turn.Turn.{Turn}
 
 -- a turn's job and its reply: none where there was no memory
@@ -18,7 +18,7 @@ deed t = record {
   reply = t.reply;
 }
 
--- the deed, where it made an object, or had a node crash or join
+-- the deed, where it made an object, had a node crash or join, or put a code in force
 abbrev pub happening : Job → Option Reply → List Deed
 happening (Make bytes) (Some (Made handle version)) =
     record { job = Make bytes; reply = Some (Made handle version) } ∷ []
@@ -26,6 +26,8 @@ happening (Crash node) (Some (EpochAt epoch)) =
     record { job = Crash node; reply = Some (EpochAt epoch) } ∷ []
 happening (Join node) (Some (EpochAt epoch)) =
     record { job = Join node; reply = Some (EpochAt epoch) } ∷ []
+happening (Recode code) (Some (Coded now)) =
+    record { job = Recode code; reply = Some (Coded now) } ∷ []
 happening job reply = []
 
 abbrev pub happened : Deed → List Deed

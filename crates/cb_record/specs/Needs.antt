@@ -8,7 +8,7 @@ use Rattle.cb_types.specs.declared.job.Job.TheVariants as job
 use Rattle.cb_types.specs.declared.reply.Reply.{Reply}
 use Rattle.cb_types.specs.declared.reply.Reply.TheVariants as answer
 use Rattle.cb_types.specs.declared.request.Request.{Request}
-use Rattle.cb_types.specs.declared.request.Request.TheVariants.{Make, Read, Write, Free, Pin, Peek, Filter, Evict, Begin, Ship, Commit, Abort, Pair, Patch, Merge, Part, Compact, Rebuild, Crash, Join}
+use Rattle.cb_types.specs.declared.request.Request.TheVariants.{Make, Read, Write, Free, Pin, Peek, Filter, Evict, Begin, Ship, Commit, Abort, Pair, Patch, Merge, Part, Compact, Rebuild, Crash, Join, Recode}
 use Rattle.cb_world.specs.Memory.{bytes_in, words_for}
 use Rattle.cb_rule.specs.declared.turn.Turn.{Turn}
 use Rattle.cb_rule.specs.declared.view.Look.{Look}
@@ -56,6 +56,7 @@ own_job h Compact = Some job.Compact
 own_job h Rebuild = Some job.Rebuild
 own_job h (Crash node) = Some (job.Crash node)
 own_job h (Join node) = Some (job.Join node)
+own_job h (Recode code) = Some (job.Recode code)
 own_job h request = None
 
 -- what the line needs, by what it was answered; a write may find in place that its object is worn,

@@ -282,7 +282,7 @@ with_a_seat_too_few k = let e : 63 ≡ 64 = ap length k.idle in omega (arith, e)
 
 -- one turn, which is of no job
 unsound : Closed (opener pair_of) (world_of record (empty_far 3 pair_of) {
-  counts = record { turns = 1; by_job = replicate 23 0; sets = 0; keys = 0 };
+  counts = record { turns = 1; by_job = replicate 24 0; sets = 0; keys = 0 };
 }) → ⊥
 unsound k = let e : 0 ≡ 1 = k.sound.counted.jobs in omega (arith, e)
 

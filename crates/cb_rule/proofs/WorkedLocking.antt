@@ -79,7 +79,7 @@ not_known : Stood pair_of record seen { first = 4 } (far 1) → ⊥
 not_known s = let e : 4 ≡ 3 = s.sound.here.known.first in omega (arith, e)
 
 not_counted : Stood pair_of seen record (far 1) {
-  counts = record { turns = 1; by_job = replicate 23 0; sets = 0; keys = 0 };
+  counts = record { turns = 1; by_job = replicate 24 0; sets = 0; keys = 0 };
 } → ⊥
 not_counted s = let e : 0 ≡ 1 = s.counted.jobs in omega (arith, e)
 

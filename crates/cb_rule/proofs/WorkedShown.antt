@@ -63,7 +63,7 @@ another_size x = let e : 1 ≡ 2 = x.configured.frames in omega (arith, e)
 -- a turn that is of no job
 abbrev miscounted : FarState
 miscounted = record empty {
-  counts = record { turns = 1; by_job = replicate 23 0; sets = 0; keys = 0 };
+  counts = record { turns = 1; by_job = replicate 24 0; sets = 0; keys = 0 };
 }
 
 counts_else : ShowsWorld pair_of (table zeros (home miscounted) (opener pair_of)) miscounted → ⊥

@@ -21,4 +21,5 @@ roomy_at_ease s roomy none = record {
   makes = roomy.makes;
   crashes = roomy.crashes;
   steps = none;
+  recodes = roomy.recodes;
 }

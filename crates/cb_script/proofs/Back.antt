@@ -5,6 +5,8 @@ use Rattle.std.specs.Str.Parse.{digits_value}
 use Rattle.hex.specs.Hex.{decode_of}
 use Rattle.hex.specs.declared.error.FromHexError.{FromHexError}
 use Rattle.hex.proofs.HexLemmas.{decode_of-encode_lower}
+use Rattle.cb_member.specs.declared.names.Code.{Code}
+use Rattle.cb_types.specs.Codes.{IsCodeFor}
 use Rattle.cb_types.specs.Config.{most_bytes}
 use Rattle.cb_types.specs.declared.request.Request.{Request}
 use Rattle.cb_types.specs.declared.request.Request.TheVariants as request
@@ -28,6 +30,7 @@ decoded (Err e) = []
 abbrev back : Phrase → Request
 back (Phrase.Making name hex) = request.Make name (decoded (decode_of hex))
 back (Phrase.Writing name at hex) = request.Write name (digits_value 10 at) (decoded (decode_of hex))
+back (Phrase.Coding k r) = request.Recode (record { k = digits_value 10 k; r = digits_value 10 r })
 back (Phrase.Naming verb name) = naming verb name
 back (Phrase.Facing verb node) = facing verb (digits_value 10 node)
 back (Phrase.Alone verb) = alone verb
@@ -47,6 +50,10 @@ back_request nodes (request.Pin name) few is = refl
 back_request nodes (request.Peek name) few is = refl
 back_request nodes (request.Unpin name) few is = refl
 back_request nodes (request.Filter name) few is = refl
+back_request nodes (request.Recode code) few is = ap (λ (c : Code). request.Recode c) (λ i. record {
+  k = decimal_value code.k (omega (arith, is.range.data_most)) i;
+  r = decimal_value code.r (omega (arith, is.range.parities_most)) i;
+})
 back_request nodes (request.Crash node) few is = ap (λ (n : ℕ). request.Crash (record { n = n })) (decimal_value node.n (omega (arith, few, is)))
 back_request nodes (request.Join node) few is = ap (λ (n : ℕ). request.Join (record { n = n })) (decimal_value node.n (omega (arith, few, is)))
 back_request nodes request.Leave few is = refl
@@ -91,6 +98,14 @@ has_known place lane _ is = tt
 
 has_number : (place : LinePlace) (r : Request) → place.nodes ≤ 64 → IsRequest place.nodes r → HasNumber place (phrase_of r)
 has_number place (request.Write name at bytes) few is = (at, (omega (arith, is.1), refl), is.1)
+has_number place (request.Recode code) few is = (
+  code,
+  record {
+    spells_k = (omega (arith, is.range.data_most), refl);
+    spells_r = (omega (arith, is.range.parities_most), refl);
+  },
+  is,
+)
 has_number place (request.Crash node) few is = (node.n, (omega (arith, few, is), refl), is)
 has_number place (request.Join node) few is = (node.n, (omega (arith, few, is), refl), is)
 has_number place _ few is = tt

@@ -1,8 +1,12 @@
 -- What a word of digits spells.
-use Rattle.std.proofs.Common.{◌≡◌, ℕ, zero, suc, ◌+◌, ◌*◌, ◌^◌, ◌<◌, ◌≤◌, List, [], ◌∷◌, ◌++◌, length, get_or, take, Option, Some, None, refl, sym, ap, ◌∙◌, subst, arith}
+use Rattle.std.proofs.Common.{◌≡◌, ℕ, zero, suc, ◌+◌, ◌*◌, ◌^◌, ◌<◌, ◌≤◌, Bool, true, false, List, [], ◌∷◌, ◌++◌, length, get_or, take, Option, Some, None, refl, sym, ap, ◌∙◌, subst, arith}
+use Rattle.std.proofs.lemmas.Bool.{false≢true}
+use Rattle.std.specs.Prelude.{◌↔◌, IsTrue}
+use Rattle.cb_types.specs.Codes.{IsCodeFor}
 use Rattle.std.proofs.lemmas.List.{append_cancel_left}
 use Rattle.cb_script.specs.Found.{Finds}
-use Rattle.cb_script.specs.Rules.{IsNumber}
+use Rattle.cb_member.specs.declared.names.Code.{Code}
+use Rattle.cb_script.specs.Rules.{IsNumber, SpellCode}
 use Rattle.cb_script.specs.Spelling.{setting}
 use Rattle.std.specs.Fmt.{decimal}
 use Rattle.std.specs.Char.{digit_value}
@@ -94,3 +98,17 @@ setting_from_number word name value number (Some n) at sign some =
 -- a word spells one number
 pub one_number : (word : List ℕ) (m n : ℕ) → IsNumber word m → IsNumber word n → m ≡ n
 one_number word m n is other = decimal_injective m n (omega (arith, is.0)) (omega (arith, other.0)) (sym is.1 ∙ other.1)
+
+-- and two words one code
+pub one_code : (k r : List ℕ) (a b : Code) → SpellCode k r a → SpellCode k r b → a ≡ b
+one_code k r a b is other = λ i. record {
+  k = one_number k a.k b.k is.spells_k other.spells_k i;
+  r = one_number r a.r b.r is.spells_r other.spells_r i;
+}
+
+-- no other code is spelled than the one that was told not to be for so many nodes
+pub no_code : (k r : List ℕ) (a b : Code) (m n : ℕ) (told : Bool) → SpellCode k r a → SpellCode k r b
+    → m ≡ n → (IsTrue told ↔ IsCodeFor n b) → told ≡ false → IsCodeFor m a → ⊥
+no_code k r a b m n told is other same tells off may =
+    false≢true (sym off ∙ tells.1 (subst (λ code. IsCodeFor n code) (one_code k r a b is other)
+    (subst (λ x. IsCodeFor x a) same may)))

@@ -1,5 +1,6 @@
 -- The words of a phrase tell which it is.
 use Rattle.std.proofs.Common.{◌≡◌, ℕ, false, List, refl, sym, ap, ◌∙◌}
+use Rattle.std.specs.Prelude.{codes}
 use Rattle.std.specs.Str.{bytes_eq}
 use Rattle.std.proofs.lemmas.Bool.{true≢false}
 use Rattle.std.proofs.lemmas.Slice.Eq.{bytes_eq-Decides}
@@ -68,6 +69,14 @@ phrase_injective (Phrase.Writing n a x) (Phrase.Writing m b y) e =
     let starts : a ≡ b = cc in
     let texts : x ≡ y = cc in
     cc
+phrase_injective (Phrase.Coding k r) (Phrase.Coding l s) e =
+    let first : k ≡ l = cc in
+    let second : r ≡ s = cc in
+    cc
+phrase_injective (Phrase.Making n x) (Phrase.Coding k r) e =
+    let verbs : codes "make" ≡ codes "recode" = cc in absurd (differ (codes "make") (codes "recode") verbs refl)
+phrase_injective (Phrase.Coding k r) (Phrase.Making n x) e =
+    let verbs : codes "recode" ≡ codes "make" = cc in absurd (differ (codes "recode") (codes "make") verbs refl)
 phrase_injective (Phrase.Naming v n) (Phrase.Naming w m) e =
     let verbs : name_verb v ≡ name_verb w = cc in
     let names : n ≡ m = cc in

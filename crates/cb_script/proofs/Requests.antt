@@ -2,6 +2,8 @@
 use Rattle.std.proofs.Common.{◌≡◌, ℕ, ◌<◌, ◌≤◌, List, length, ◌⊎◌, refl, sym, ap, ◌∙◌, ◌*◌}
 use Rattle.std.specs.Prelude.{codes}
 use Rattle.hex.specs.Hex.{encode_lower}
+use Rattle.cb_member.specs.declared.names.Code.{Code}
+use Rattle.cb_types.specs.Codes.{IsCodeFor}
 use Rattle.cb_types.specs.Config.{most_bytes}
 use Rattle.cb_types.specs.declared.request.Request.TheVariants as request
 use Rattle.cb_script.specs.declared.fault.Reason.{Reason}
@@ -16,7 +18,7 @@ use Rattle.cb_script.specs.Form.{IsName, IsContents, IsChange, IsNameNew, KnowsN
 use Rattle.cb_script.specs.Hexadecimal.{IsHexadecimal}
 use Rattle.cb_script.specs.Phrase.{Phrase, change_text}
 use Rattle.cb_script.specs.Reading.{NameFault, HexFault, MayStand, RefusesBy, naming, facing}
-use Rattle.cb_script.specs.Rules.{LinePlace, Rule, IsLeast, IsNumber}
+use Rattle.cb_script.specs.Rules.{LinePlace, Rule, IsLeast, IsNumber, SpellCode}
 use Rattle.cb_script.proofs.Least.{least_name, least_known, least_number, least_hex, least_length}
 
 module _ (place : LinePlace) (lane : ℕ) where
@@ -43,6 +45,19 @@ module _ (place : LinePlace) (lane : ℕ) where
 
   pub facing_fault : (verb : NodeVerb) (word : List ℕ) → ((n : ℕ) → IsNumber word n × (n < place.nodes) → ⊥) → IsLeast (Rule place lane (Phrase.Facing verb word)) reasons.Number
   facing_fault verb word none = least_number (Rule place lane (Phrase.Facing verb word)) tt tt tt tt tt tt tt tt (λ some. none some.0 (some.1, some.2))
+
+  -- ---- a code
+
+  pub coding_stands : (k r : List ℕ) (code : Code) → SpellCode k r code → IsCodeFor place.nodes code → MayStand place lane (Phrase.Coding k r) (request.Recode code)
+  coding_stands k r code is fits = record {
+    spelled = λ i. Phrase.Coding (sym is.spells_k.1 i) (sym is.spells_r.1 i);
+    request = fits;
+    known = tt;
+    allowed = tt;
+  }
+
+  pub coding_fault : (k r : List ℕ) → ((code : Code) → SpellCode k r code × IsCodeFor place.nodes code → ⊥) → IsLeast (Rule place lane (Phrase.Coding k r)) reasons.Number
+  coding_fault k r none = least_number (Rule place lane (Phrase.Coding k r)) tt tt tt tt tt tt tt tt (λ some. none some.0 (some.1, some.2))
 
   -- ---- a make
 

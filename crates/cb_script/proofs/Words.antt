@@ -136,6 +136,13 @@ phrase_is_words nodes (request.Pin name) few is = (word_from_test 112 (codes "in
 phrase_is_words nodes (request.Peek name) few is = (word_from_test 112 (codes "eek") refl, (IsWord-name name is, tt))
 phrase_is_words nodes (request.Unpin name) few is = (word_from_test 117 (codes "npin") refl, (IsWord-name name is, tt))
 phrase_is_words nodes (request.Filter name) few is = (word_from_test 102 (codes "ilter") refl, (IsWord-name name is, tt))
+phrase_is_words nodes (request.Recode code) few is = (
+  word_from_test 114 (codes "ecode") refl,
+  (
+    IsWord-decimal code.k (omega (arith, is.range.data_most)),
+    (IsWord-decimal code.r (omega (arith, is.range.parities_most)), tt),
+  ),
+)
 phrase_is_words nodes (request.Crash node) few is = (word_from_test 99 (codes "rash") refl, (IsWord-decimal node.n (omega (arith, few, is)), tt))
 phrase_is_words nodes (request.Join node) few is = (word_from_test 106 (codes "oin") refl, (IsWord-decimal node.n (omega (arith, few, is)), tt))
 phrase_is_words nodes request.Leave few is = (word_from_test 108 (codes "eave") refl, tt)

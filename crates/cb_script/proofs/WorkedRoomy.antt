@@ -2,7 +2,7 @@
 use Rattle.std.proofs.Common.{◌≡◌, ℕ, List, [], ◌∷◌, true, false, map, replicate, refl, lit≤, lit<, arith}
 use Rattle.std.proofs.lemmas.Bool.{false≢true}
 use Rattle.cb_types.specs.declared.request.Request.{Request}
-use Rattle.cb_types.specs.declared.request.Request.TheVariants.{Make, Read, Write, Free, Pin, Peek, Unpin, Filter, Evict, Begin, Ship, Commit, Abort, Pair, Patch, Merge, Part, Compact, Rebuild, Crash, Join, Leave}
+use Rattle.cb_types.specs.declared.request.Request.TheVariants.{Make, Read, Write, Free, Pin, Peek, Unpin, Filter, Evict, Begin, Ship, Commit, Abort, Pair, Patch, Merge, Part, Compact, Rebuild, Crash, Join, Leave, Recode}
 use Rattle.cb_script.specs.declared.script.Line.{Line}
 use Rattle.cb_script.specs.declared.script.Script.{Script}
 use Rattle.cb_script.specs.Roomy.{is_step, has_step_line, has_long_make, makes_in, has_pin, pinning, has_crash, crashing, IsRoomy, IsAtEase}
@@ -72,6 +72,7 @@ at_ease = record {
   makes = lit≤ tt;
   crashes = lit≤ tt;
   steps = refl;
+  recodes = refl;
 }
 
 one_frame_less : IsAtEase (sized 2 2 6 33 3 2 lines) → ⊥
@@ -90,6 +91,7 @@ at_ease_with_a_long_one = record {
   makes = lit≤ tt;
   crashes = lit≤ tt;
   steps = refl;
+  recodes = refl;
 }
 
 one_frame_less_for_holes : IsAtEase (sized 2 2 4 265 3 2 longer) → ⊥
@@ -110,6 +112,13 @@ one_parity_less is = let n = is.crashes in omega (arith, n)
 a_step : IsAtEase (sized 2 2 6 34 3 2 (by 0 Begin ∷ [])) → ⊥
 a_step is = absurd (let e = is.steps in cc)
 
+-- also to the header's code
+abbrev recode : Line
+recode = by 0 (Recode (record { k = 2; r = 2 }))
+
+a_recode : IsAtEase (sized 2 2 6 34 3 2 (recode ∷ [])) → ⊥
+a_recode is = absurd (let e = is.recodes in cc)
+
 abbrev all : List Request → List Line
 all [] = []
 all (request ∷ more) = by 0 request ∷ all more
@@ -118,7 +127,8 @@ each_step : map is_step (Begin ∷ Ship ∷ Commit ∷ Abort ∷ Pair ∷ Patch 
 each_step = refl
 
 no_other_line_is_one : has_step_line (all (Make a [] ∷ Read a ∷ Write a 0 [] ∷ Free a ∷ Pin a ∷ Peek a ∷ Unpin a
-    ∷ Leave ∷ Filter a ∷ Evict ∷ Compact ∷ Rebuild ∷ crash 0 ∷ Join (record { n = 0 }) ∷ [])) ≡ false
+    ∷ Leave ∷ Filter a ∷ Evict ∷ Compact ∷ Rebuild ∷ crash 0 ∷ Join (record { n = 0 })
+    ∷ Recode (record { k = 1; r = 1 }) ∷ [])) ≡ false
 no_other_line_is_one = refl
 
 -- ---- roomy
@@ -131,6 +141,7 @@ roomy = record {
   nodes = lit≤ tt;
   makes = lit≤ tt;
   crashes = lit≤ tt;
+  recodes = refl;
 }
 
 roomy_with_a_step : IsRoomy (sized 2 2 6 364 6 2 (by 0 Begin ∷ []))
@@ -141,6 +152,7 @@ roomy_with_a_step = record {
   nodes = lit≤ tt;
   makes = lit≤ tt;
   crashes = lit≤ tt;
+  recodes = refl;
 }
 
 roomy_with_a_long_one : IsRoomy (sized 2 2 6 2656 6 2 longer)
@@ -151,6 +163,7 @@ roomy_with_a_long_one = record {
   nodes = lit≤ tt;
   makes = lit≤ tt;
   crashes = lit≤ tt;
+  recodes = refl;
 }
 
 not_enough_frames : IsRoomy (sized 2 2 6 363 6 2 lines) → ⊥
@@ -170,3 +183,6 @@ not_enough_handles is = let n = is.makes in omega (arith, n)
 
 too_many_crashes : IsRoomy (sized 2 1 6 364 6 2 lines) → ⊥
 too_many_crashes is = let n = is.crashes in omega (arith, n)
+
+a_recode_for_a_roomy_one : IsRoomy (sized 2 2 6 364 6 2 (recode ∷ [])) → ⊥
+a_recode_for_a_roomy_one is = absurd (let e = is.recodes in cc)

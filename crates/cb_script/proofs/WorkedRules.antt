@@ -13,7 +13,7 @@ use Rattle.cb_script.specs.declared.verb.BareVerb.TheVariants as bare
 use Rattle.cb_script.specs.Form.{FitsMode}
 use Rattle.cb_script.specs.Hexadecimal.{IsLowerDigit, IsHexadecimal}
 use Rattle.cb_script.specs.Phrase.{Phrase, bare_verb, phrase_words}
-use Rattle.cb_script.specs.Rules.{LinePlace, IsNumber, IsLineShaped, HasLane, HasName, HasKnown, HasNumber, HasHex, HasLength}
+use Rattle.cb_script.specs.Rules.{LinePlace, IsNumber, IsLineShaped, HasLane, SpellCode, HasName, HasKnown, HasNumber, HasHex, HasLength}
 use Rattle.cb_script.proofs.Decimals.{leading_is_none, one_number}
 use Rattle.cb_script.proofs.Phrases.{differ}
 use Rattle.cb_script.proofs.WorkedForms.{another_lanes_name, bad_byte, made_twice, own_name, two_makes}
@@ -96,6 +96,46 @@ no_start : HasNumber worked_place (Phrase.Writing (codes "b") (codes "4097") (co
 unfolding digits
 no_start some = let same = one_number (codes "4097") some.0 4097 some.1 (omega arith, refl) in omega (arith, same, some.2)
 
+-- ---- K and R
+
+-- as many positions as there are nodes
+widest_code : HasNumber worked_place (Phrase.Coding (codes "4") (codes "2"))
+unfolding digits
+widest_code = (
+  record { k = 4; r = 2 },
+  record { spells_k = (omega arith, refl); spells_r = (omega arith, refl) },
+  record {
+    range = record {
+      data_least = omega arith;
+      data_most = omega arith;
+      parities_least = omega arith;
+      parities_most = omega arith;
+    };
+    places = omega arith;
+  },
+)
+
+code_past_the_nodes : HasNumber worked_place (Phrase.Coding (codes "4") (codes "3")) → ⊥
+unfolding digits
+code_past_the_nodes some =
+    let k = one_number (codes "4") some.0.k 4 some.1.spells_k (omega arith, refl) in
+    let r = one_number (codes "3") some.0.r 3 some.1.spells_r (omega arith, refl) in
+    omega (arith, k, r, some.2.places)
+
+code_without_parities : HasNumber worked_place (Phrase.Coding (codes "1") (codes "0")) → ⊥
+unfolding digits
+code_without_parities some =
+    let r = one_number (codes "0") some.0.r 0 some.1.spells_r (omega arith, refl) in
+    omega (arith, r, some.2.range.parities_least)
+
+code_with_a_leading_zero : HasNumber worked_place (Phrase.Coding (codes "02") (codes "1")) → ⊥
+code_with_a_leading_zero some = leading_is_none (codes "02") (omega arith) refl some.0.k some.1.spells_k
+
+code_of_other_numbers : SpellCode (codes "4") (codes "2") (record { k = 2; r = 4 }) → ⊥
+unfolding digits
+code_of_other_numbers is =
+    let k = one_number (codes "4") 2 4 is.spells_k (omega arith, refl) in omega (arith, k)
+
 -- ---- HEX
 
 lower_case : HasHex (Phrase.Making (codes "c") (codes "a9"))
@@ -139,6 +179,9 @@ part_in_seq = tt
 compact_in_threads : FitsMode (Phrase.Alone bare.Compact) Threads
 compact_in_threads = λ step. step
 
+recode_in_threads : FitsMode (Phrase.Coding (codes "2") (codes "1")) Threads
+recode_in_threads = tt
+
 -- ---- shapes
 
 good_shape : IsLineShaped (codes "7 read a") (codes "7") (Phrase.Naming on_name.Read (codes "a"))
@@ -169,6 +212,7 @@ one_word (Phrase.Alone verb) e = let same : bare_verb verb ≡ codes "recode" = 
 one_word (Phrase.Naming verb name) e = let counts : 2 ≡ 1 = ap (λ (ws : List (List ℕ)). length ws) e in omega (arith, counts)
 one_word (Phrase.Facing verb name) e = let counts : 2 ≡ 1 = ap (λ (ws : List (List ℕ)). length ws) e in omega (arith, counts)
 one_word (Phrase.Making name hex) e = let counts : 3 ≡ 1 = ap (λ (ws : List (List ℕ)). length ws) e in omega (arith, counts)
+one_word (Phrase.Coding k r) e = let counts : 3 ≡ 1 = ap (λ (ws : List (List ℕ)). length ws) e in omega (arith, counts)
 one_word (Phrase.Writing name at hex) e = let counts : 4 ≡ 1 = ap (λ (ws : List (List ℕ)). length ws) e in omega (arith, counts)
 
 abbrev tail_of : List (List ℕ) → List (List ℕ)

@@ -13,6 +13,7 @@ texts pieces = map (λ piece. piece.now) pieces
 abbrev pub phrase : Words → Phrase
 phrase (words.Making name hex) = Phrase.Making name.now hex.now
 phrase (words.Writing name at hex) = Phrase.Writing name.now at.now hex.now
+phrase (words.Coding k r) = Phrase.Coding k.now r.now
 phrase (words.Naming verb name) = Phrase.Naming verb name.now
 phrase (words.Facing verb node) = Phrase.Facing verb node.now
 phrase (words.Alone verb) = Phrase.Alone verb

@@ -1,9 +1,10 @@
 -- Which scripts there are, and which bytes spell one.
 use Rattle.std.specs.Prelude.{◌≡◌, ℕ, ◌+◌, ◌<◌, ◌≤◌, ◌⊎◌, List, [], ◌∷◌, ◌++◌, length, All}
 use Rattle.std.specs.List.{AllByRecursion}
+use Rattle.cb_types.specs.Codes.{IsCodeFor}
 use Rattle.cb_types.specs.Config.{IsAccepted, most_bytes}
 use Rattle.cb_types.specs.declared.request.Request.{Request}
-use Rattle.cb_types.specs.declared.request.Request.TheVariants.{Make, Read, Write, Free, Pin, Peek, Unpin, Filter, Crash, Join}
+use Rattle.cb_types.specs.declared.request.Request.TheVariants.{Make, Read, Write, Free, Pin, Peek, Unpin, Filter, Crash, Join, Recode}
 use Rattle.cb_script.specs.declared.verb.BareVerb.{BareVerb}
 use Rattle.cb_script.specs.declared.verb.BareVerb.TheVariants.{Begin, Ship, Commit, Abort, Pair, Patch, Merge, Part}
 use Rattle.cb_script.specs.declared.script.Line.{Line}
@@ -46,6 +47,7 @@ IsRequest nodes (Unpin name) = IsName name
 IsRequest nodes (Filter name) = IsName name
 IsRequest nodes (Crash node) = node.n < nodes
 IsRequest nodes (Join node) = node.n < nodes
+IsRequest nodes (Recode code) = IsCodeFor nodes code
 IsRequest nodes _ = Unit {0}
 
 -- the name that a request makes, where it makes one

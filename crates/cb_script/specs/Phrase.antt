@@ -11,11 +11,12 @@ use Rattle.cb_script.specs.declared.verb.NodeVerb.TheVariants as on_node
 use Rattle.cb_script.specs.declared.verb.BareVerb.{BareVerb}
 use Rattle.cb_script.specs.declared.verb.BareVerb.TheVariants as bare
 
--- A row of the table of lines: `make NAME HEX`, `write NAME AT HEX`, a verb and NAME, a verb and
--- NODE, or a verb alone. The words have any form yet.
+-- A row of the table of lines: `make NAME HEX`, `write NAME AT HEX`, `recode K R`, a verb and NAME, a
+-- verb and NODE, or a verb alone. The words have any form yet.
 pub data Phrase : Type 0 where
   Making : (name hex : List ℕ) → Phrase
   Writing : (name at hex : List ℕ) → Phrase
+  Coding : (k r : List ℕ) → Phrase
   Naming : (verb : NameVerb) (name : List ℕ) → Phrase
   Facing : (verb : NodeVerb) (node : List ℕ) → Phrase
   Alone : (verb : BareVerb) → Phrase
@@ -53,6 +54,7 @@ bare_verb bare.Rebuild = codes "rebuild"
 abbrev pub phrase_words : Phrase → List (List ℕ)
 phrase_words (Phrase.Making name hex) = codes "make" ∷ name ∷ hex ∷ []
 phrase_words (Phrase.Writing name at hex) = codes "write" ∷ name ∷ at ∷ hex ∷ []
+phrase_words (Phrase.Coding k r) = codes "recode" ∷ k ∷ r ∷ []
 phrase_words (Phrase.Naming verb name) = name_verb verb ∷ name ∷ []
 phrase_words (Phrase.Facing verb node) = node_verb verb ∷ node ∷ []
 phrase_words (Phrase.Alone verb) = bare_verb verb ∷ []
@@ -72,6 +74,7 @@ phrase_of (request.Pin name) = Phrase.Naming on_name.Pin name
 phrase_of (request.Peek name) = Phrase.Naming on_name.Peek name
 phrase_of (request.Unpin name) = Phrase.Naming on_name.Unpin name
 phrase_of (request.Filter name) = Phrase.Naming on_name.Filter name
+phrase_of (request.Recode code) = Phrase.Coding (decimal code.k) (decimal code.r)
 phrase_of (request.Crash node) = Phrase.Facing on_node.Crash (decimal node.n)
 phrase_of (request.Join node) = Phrase.Facing on_node.Join (decimal node.n)
 phrase_of request.Leave = Phrase.Alone bare.Leave

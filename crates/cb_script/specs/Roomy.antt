@@ -2,7 +2,7 @@
 use Rattle.std.specs.Prelude.{◌≡◌, ℕ, ◌+◌, ◌*◌, ◌<◌, ◌≤◌, nat_eq, nat_lt, Bool, true, false, ◌&&◌, List, length, count_by}
 use Rattle.std.specs.List.{list_any, range_with_len}
 use Rattle.cb_types.specs.declared.request.Request.{Request}
-use Rattle.cb_types.specs.declared.request.Request.TheVariants.{Make, Pin, Begin, Ship, Commit, Abort, Pair, Patch, Merge, Part, Crash}
+use Rattle.cb_types.specs.declared.request.Request.TheVariants.{Make, Pin, Begin, Ship, Commit, Abort, Pair, Patch, Merge, Part, Crash, Recode}
 use Rattle.cb_script.specs.declared.script.Line.{Line}
 use Rattle.cb_script.specs.declared.script.Script.{Script}
 
@@ -42,9 +42,18 @@ is_step Merge = true
 is_step Part = true
 is_step request = false
 
--- whether one of the lines is
+-- whether it puts a code in force
+abbrev pub is_recode : Request → Bool
+is_recode (Recode code) = true
+is_recode request = false
+
+-- whether one of the lines is a part of an eviction or of a compaction
 abbrev pub has_step_line : List Line → Bool
 has_step_line lines = list_any (λ l. is_step l.request) lines
+
+-- whether one of the lines puts a code in force
+abbrev pub has_recode_line : List Line → Bool
+has_recode_line lines = list_any (λ l. is_recode l.request) lines
 
 -- whether one of the lines makes a long object
 abbrev pub has_long_make : List Line → Bool
@@ -71,8 +80,8 @@ abbrev pub crashing : ℕ → List Line → ℕ
 crashing nodes lines = count_by (has_crash lines) (range_with_len 0 nodes)
 
 -- A roomy script: frames for two batches beside all that can be pinned or claimed, and for the holes
--- between them where an object is long; nodes with room for each object that can be made, and no
--- more crashed nodes than a set can lose shards.
+-- between them where an object is long; nodes with room for each object that can be made, no more
+-- crashed nodes than a set can lose shards, and one code from the header to the last line.
 pub record IsRoomy (s : Script) : Type 0 where
   pub frames : 2 * s.config.k + 360 ≤ s.config.frames
   pub wide : has_long_make s.lines ≡ true → 28 * s.config.k + 2600 ≤ s.config.frames
@@ -80,12 +89,13 @@ pub record IsRoomy (s : Script) : Type 0 where
   pub nodes : s.config.k + 2 * s.config.r ≤ s.config.nodes
   pub makes : makes_in s.lines ≤ s.config.handles
   pub crashes : crashing s.config.nodes s.lines ≤ s.config.r
+  pub recodes : has_recode_line s.lines ≡ false
 
 -- A script at ease: beside the frames that the pins of its lanes can hold, k are left for a batch,
 -- and where an object is long so many that k spans of one length are loose where no four frames
 -- side by side are free; beside the nodes that it crashes, k + r are left for a set, each with room
 -- for each object that is made; no more nodes crash than a set can lose shards, there is a handle
--- for each make, and no line is a part of an eviction or of a compaction.
+-- for each make, and no line is a part of an eviction or of a compaction or puts a code in force.
 pub record IsAtEase (s : Script) : Type 0 where
   pub frames : s.config.k + 16 * pinning s.lines ≤ s.config.frames
   pub wide : has_long_make s.lines ≡ true
@@ -95,3 +105,4 @@ pub record IsAtEase (s : Script) : Type 0 where
   pub makes : makes_in s.lines ≤ s.config.handles
   pub crashes : crashing s.config.nodes s.lines ≤ s.config.r
   pub steps : has_step_line s.lines ≡ false
+  pub recodes : has_recode_line s.lines ≡ false

@@ -2,6 +2,8 @@
 use Rattle.std.specs.Prelude.{◌≡◌, ℕ, ◌^◌, ◌<◌, ◌≤◌, ◌⊎◌, List, ◌∷◌, length, codes, ◌*◌}
 use Rattle.std.specs.List.{AllByRecursion}
 use Rattle.std.specs.Fmt.{decimal}
+use Rattle.cb_member.specs.declared.names.Code.{Code}
+use Rattle.cb_types.specs.Codes.{IsCodeFor}
 use Rattle.cb_types.specs.Config.{most_bytes}
 use Rattle.cb_script.specs.declared.fault.Reason.{Reason}
 use Rattle.cb_script.specs.declared.fault.Reason.TheVariants as reasons
@@ -41,10 +43,17 @@ HasKnown place lane (Phrase.Writing name at hex) = KnowsName place.before lane n
 HasKnown place lane (Phrase.Naming verb name) = KnowsName place.before lane name
 HasKnown place lane _ = Unit {0}
 
--- NODE is a number below the nodes, and AT a number up to the most bytes of an object
+-- the two words spell a code
+pub record SpellCode (k r : List ℕ) (code : Code) : Type 0 where
+  pub spells_k : IsNumber k code.k
+  pub spells_r : IsNumber r code.r
+
+-- NODE is a number below the nodes, AT a number up to the most bytes of an object, and K and R are those
+-- of a code that so many nodes may have
 abbrev pub HasNumber : LinePlace → Phrase → Type 0
 HasNumber place (Phrase.Facing verb node) = (n : ℕ) × IsNumber node n × (n < place.nodes)
 HasNumber place (Phrase.Writing name at hex) = (n : ℕ) × IsNumber at n × (n ≤ most_bytes)
+HasNumber place (Phrase.Coding k r) = (code : Code) × SpellCode k r code × IsCodeFor place.nodes code
 HasNumber place _ = Unit {0}
 
 -- HEX is lower-case hexadecimal, and may be `-` in a write

@@ -1,11 +1,12 @@
 ghost use Rattle.std.specs.Prelude.{◌≡◌, ◌<◌, ◌≤◌, ◌^◌};
 ghost use Rattle.std.specs.Str.Parse.{AllDigits, digits_value};
+ghost use Rattle.cb_types.specs.Codes.{IsCodeFor};
 ghost use Rattle.cb_types.specs.Config.{most_bytes};
 ghost use Rattle.cb_script.specs.Found.{Finds};
-ghost use Rattle.cb_script.specs.Rules.{IsNumber};
+ghost use Rattle.cb_script.specs.Rules.{IsNumber, SpellCode};
 ghost use Rattle.cb_script.specs.Spelling.{setting};
 
-use cb_types::{Lane, MOST_BYTES, NodeId};
+use cb_types::{Code, Lane, MOST_BYTES, NodeId, is_code_for};
 
 /// The greatest lane.
 const LAST_LANE: u32 = 15;
@@ -56,6 +57,19 @@ pub(crate) fn node_of(word: &[u8], nodes: u8) -> Option<NodeId>
         return None;
     }
     Some(NodeId { n: n as u8 })
+}
+
+/// The code that the words K and R spell, where a world of so many nodes may have it.
+pub(crate) fn code_of(k: &[u8], r: &[u8], nodes: u8) -> Option<Code>
+    ensures { Finds result (λ code. SpellCode k.now r.now code × IsCodeFor nodes code) }
+{
+    let k = number_of(k)?;
+    let r = number_of(r)?;
+    let code = Code { k, r };
+    if !is_code_for(code, u32::from(nodes)) {
+        return None;
+    }
+    Some(code)
 }
 
 /// The place where a write begins, which the word spells: a number up to `MOST_BYTES`.

@@ -20,6 +20,11 @@ pub(crate) enum Words<'a> {
         at: &'a [u8],
         hex: &'a [u8],
     },
+    /// `recode K R`
+    Coding {
+        k: &'a [u8],
+        r: &'a [u8],
+    },
     /// A verb and NAME.
     Naming {
         verb: NameVerb,
@@ -44,6 +49,7 @@ pub(crate) fn phrase_of<'a>(words: &[&'a [u8]]) -> Option<Words<'a>>
     match words {
         [verb, name, hex] if is_word(verb, b"make") => Some(Words::Making { name, hex }),
         [verb, name, at, hex] if is_word(verb, b"write") => Some(Words::Writing { name, at, hex }),
+        [verb, k, r] if is_word(verb, b"recode") => Some(Words::Coding { k, r }),
         [verb, word] => with_operand(verb, word),
         [verb] => Some(Words::Alone {
             verb: bare_verb_of(verb)?,

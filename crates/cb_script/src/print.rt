@@ -83,6 +83,10 @@ fn push_request(alloc: Global, text: &mut Vec<u8>, request: &Request) -> Result<
         }
         Request::Crash { node } => push_number(text, u32::from(node.n)),
         Request::Join { node } => push_number(text, u32::from(node.n)),
+        Request::Recode { code } => {
+            push_number(text, code.k)?;
+            push_number(text, code.r)
+        }
         _ => Ok(()),
     }
 }
@@ -114,6 +118,7 @@ fn verb(request: &Request) -> &'static [u8]
         Request::Filter { .. } => b"filter",
         Request::Crash { .. } => b"crash",
         Request::Join { .. } => b"join",
+        Request::Recode { .. } => b"recode",
         Request::Leave => b"leave",
         Request::Evict => b"evict",
         Request::Begin => b"begin",

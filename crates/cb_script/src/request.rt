@@ -2,14 +2,14 @@ ghost use Rattle.std.specs.Prelude.{◌≡◌, ◌↔◌, [], ℕ, List, IfOk, I
 ghost use Rattle.cb_script.specs.declared.script.Line.{Line};
 ghost use Rattle.cb_script.specs.Cut.{phrase};
 ghost use Rattle.cb_script.specs.Form.{IsStep, names_made};
-ghost use Rattle.cb_script.specs.Phrase.Phrase.{Making, Writing, Naming, Facing, Alone};
+ghost use Rattle.cb_script.specs.Phrase.Phrase.{Making, Writing, Coding, Naming, Facing, Alone};
 ghost use Rattle.cb_script.specs.Reading.{ReadsAs, MayStand, HasNames, StaysNamed, line_place, naming, facing, alone};
 ghost use Rattle.cb_script.specs.Rules.{LinePlace, Rule, IsLeast};
 
 use crate::contents::{change_of, contents_of};
 use crate::fault::{Reason, Refusal};
 use crate::known::{Names, accept_known, accept_new};
-use crate::number::{node_of, start_of};
+use crate::number::{code_of, node_of, start_of};
 use crate::phrase::Words;
 use crate::script::Mode;
 use crate::verb::{BareVerb, NameVerb, NodeVerb};
@@ -41,6 +41,7 @@ pub(crate) fn request_of<'a>(
     match words {
         Words::Making { name, hex } => make_of(alloc, names, lane, name, hex),
         Words::Writing { name, at, hex } => write_of(alloc, names, lane, name, at, hex),
+        Words::Coding { k, r } => Ok(coding_of(limits, k, r)?),
         Words::Naming { verb, name } => named_of(alloc, names, lane, verb, name),
         Words::Facing { verb, node } => Ok(facing_of(limits, verb, node)?),
         Words::Alone { verb } => Ok(alone_of(limits, verb)?),
@@ -103,6 +104,18 @@ fn named_of(
     accept_known(names, lane, name)?;
     let name = Name::copy_of(alloc, name)?;
     Ok(naming(verb, name))
+}
+
+fn coding_of(limits: Limits, k: &[u8], r: &[u8]) -> Result<Request, Reason>
+    ensures request { (lane : ℕ) (before : List Line) → MatchResult result
+        (MayStand (line_place limits before) lane (Coding k.now r.now))
+        (IsLeast (Rule (line_place limits before) lane (Coding k.now r.now))) }
+    ensures names { IfOk result (λ r. names_made r ≡ []) }
+{
+    match code_of(k, r, limits.nodes) {
+        Some(code) => Ok(Request::Recode { code }),
+        None => Err(Reason::Number),
+    }
 }
 
 fn facing_of(limits: Limits, verb: NodeVerb, node: &[u8]) -> Result<Request, Reason>

@@ -387,6 +387,7 @@ none_happened : (job : Job) → happening job None ≡ []
 none_happened (jobs.Make bytes) = refl
 none_happened (jobs.Crash node) = refl
 none_happened (jobs.Join node) = refl
+none_happened (jobs.Recode code) = refl
 none_happened job = refl
 
 none_made : (job : Job) → made_by_turn job None ≡ []

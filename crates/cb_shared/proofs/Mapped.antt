@@ -11,7 +11,7 @@ use Rattle.cb_types.specs.declared.job.Job.{Job}
 use Rattle.cb_types.specs.declared.job.Job.TheVariants.{Make, Read, Write, Free, Swap, Filter}
 use Rattle.cb_types.specs.declared.job.Job.TheVariants.{Evict, Begin, Ship, Commit, Abort, Pair}
 use Rattle.cb_types.specs.declared.job.Job.TheVariants.{Patch, Merge, Part, Compact, Rebuild, Crash}
-use Rattle.cb_types.specs.declared.job.Job.TheVariants.{Join, Gather, Install, Fetch, Land}
+use Rattle.cb_types.specs.declared.job.Job.TheVariants.{Join, Gather, Install, Fetch, Land, Recode}
 use Rattle.cb_types.specs.declared.reply.Reply.{Reply}
 use Rattle.cb_types.specs.declared.reply.Reply.TheVariants as answer
 use Rattle.cb_world.specs.declared.access.Access.{Access}
@@ -204,6 +204,7 @@ module _ {D E : Type 0} (run : D → List Access → D → Type 0) (shows : D �
   does c Rebuild other a b r (ran, step) = (back a.desk b.desk [] ran, step)
   does c (Crash node) other a b r (ran, step) = (back a.desk b.desk [] ran, step)
   does c (Join node) other a b r (ran, step) = (back a.desk b.desk [] ran, step)
+  does c (Recode code) other a b r (ran, step) = (back a.desk b.desk [] ran, step)
   does c Gather other a b r x = absurd x.1
   does c Install other a b r x = absurd x.1
   does c (Fetch handle) other a b r x = absurd x.1
@@ -238,6 +239,7 @@ module _ {D E : Type 0} (run : D → List Access → D → Type 0) (shows : D �
   stops c Rebuild other a b (ran, lacks) = (back a.desk b.desk [] ran, lacks)
   stops c (Crash node) other a b (ran, lacks) = (back a.desk b.desk [] ran, lacks)
   stops c (Join node) other a b (ran, lacks) = (back a.desk b.desk [] ran, lacks)
+  stops c (Recode code) other a b (ran, lacks) = (back a.desk b.desk [] ran, lacks)
   stops c Gather other a b x = absurd x.1
   stops c Install other a b x = absurd x.1
   stops c (Fetch handle) other a b x = absurd x.1

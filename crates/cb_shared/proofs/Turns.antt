@@ -19,7 +19,8 @@ use Rattle.cb_core.specs.Ordered.{StoppedWith, TurnedWith}
 use Rattle.cb_core.specs.Parts.{Holding}
 use Rattle.cb_core.specs.ReadTurn.{BroughtToRead, StoppedToRead}
 use Rattle.cb_core.specs.Turned.{ReadLacks, Reads, Stopped, Turned}
-use Rattle.cb_core.specs.TurnLeaves.{IsOneTurnOn, OutcomeWrites, TurnLeaves}
+use Rattle.cb_core.specs.Recoding.{recoded}
+use Rattle.cb_core.specs.TurnLeaves.{IsOneTurnOn, OutcomeWrites, TurnLeaves, TurnLeavesFrom}
 use Rattle.cb_rule.specs.declared.view.View.{View}
 use Rattle.cb_rule.specs.Locking.{Stood}
 use Rattle.cb_rule.specs.Slot.{Sat}
@@ -150,7 +151,7 @@ module _ {D : Type 0} (at : D → SeatAt) (run : D → List Access → D → Typ
         (stopped_first run shows (Reads run shows) (ReadLacks run shows) slate_run slate_shows
         ReadsByPin PinLacks slate_of slate_ran shown c handle a b y)
 
-  left_at : (W : List Entry → Type 0) → TurnLeaves run shows c a b W
+  left_at : {from : FarState} (W : List Entry → Type 0) → TurnLeavesFrom run shows c a b from W
       → LeftAt c W (λ es. run a.desk es b.desk) a.far b.far v w
   left_at W z =
       let after = z.after v.known (shown a.desk v.known refl) stood.sound in
@@ -175,7 +176,7 @@ module _ {D : Type 0} (at : D → SeatAt) (run : D → List Access → D → Typ
       → (r : Result Reply NoMemory)
       → IfOk r (λ q. Turned run shows (Reads run shows) c job a q b)
       → OnErr r (Stopped run shows (ReadLacks run shows) c job a b)
-      → TurnLeaves run shows c a b (OutcomeWrites job r)
+      → TurnLeavesFrom run shows c a b (recoded job r a.far) (OutcomeWrites job r)
       → TurnAtSeat c job r v.order a.far b.far (at a.desk) (at b.desk)
   turn_at job other kept r x y z = let l = left_at (OutcomeWrites job r) z in record {
     events = l.events;
@@ -245,5 +246,5 @@ module _ {D : Type 0} (at : D → SeatAt) (run : D → List Access → D → Typ
 
   -- what holds after each run of the desk holds after the turn
   pub turn_ran : (P : D → Type 0) → ((d : D) (es : List Access) → run a.desk es d → P d)
-      → (W : List Entry → Type 0) → TurnLeaves run shows c a b W → P b.desk
+      → {from : FarState} (W : List Entry → Type 0) → TurnLeavesFrom run shows c a b from W → P b.desk
   turn_ran P f W z = f b.desk z.events z.ran

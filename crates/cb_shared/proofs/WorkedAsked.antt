@@ -317,7 +317,7 @@ abbrev uncounted : FarState
 uncounted = record (far last) { counts = record (far last).counts { by_job = [] } }
 
 leaves_no_counts : Does asks.Gather (answered answer.Worn) uncounted → ⊥
-leaves_no_counts x = eqb-false 0 23 refl x.leaves.leaves.counted.kinds
+leaves_no_counts x = eqb-false 0 24 refl x.leaves.leaves.counted.kinds
 
 -- the answer to another job
 answers_another : Does asks.Gather (ends.Install answer.Worn) (far last) → ⊥

@@ -71,7 +71,7 @@ reads_done r = r.1
 -- ---- a turn that was refused for its number
 abbrev full : FarState
 full = record (empty_far 3 two) {
-  counts = record { turns = 2 ^ 40; by_job = replicate 23 0; sets = 0; keys = 0 };
+  counts = record { turns = 2 ^ 40; by_job = replicate 24 0; sets = 0; keys = 0 };
 }
 
 -- both objects were made when the turn began

@@ -3,7 +3,7 @@
 use Rattle.cb_types.specs.declared.config.Config.{Config}
 use Rattle.cb_types.specs.declared.job.Job.{Job}
 use Rattle.cb_types.specs.declared.job.Job.TheVariants.{Crash, Fetch, Filter, Free, Gather, Install}
-use Rattle.cb_types.specs.declared.job.Job.TheVariants.{Join, Land, Make, Read, Swap, Write}
+use Rattle.cb_types.specs.declared.job.Job.TheVariants.{Join, Land, Make, Read, Recode, Swap, Write}
 use Rattle.cb_core.specs.Jobs.{IsJob, NeedsNoOrder}
 use Rattle.cb_rule.specs.declared.view.View.{View}
 use Rattle.cb_shared.specs.Turning.{KnowsOf}
@@ -20,6 +20,7 @@ plain_may c v Gather plain = absurd plain
 plain_may c v Install plain = absurd plain
 plain_may c v (Fetch handle) plain = absurd plain
 plain_may c v Land plain = absurd plain
+plain_may c v (Recode code) plain = absurd plain
 plain_may c v (Swap handle) plain = (plain, tt, tt)
 plain_may c v (Crash node) plain = (plain, tt, tt)
 plain_may c v (Join node) plain = (plain, tt, tt)

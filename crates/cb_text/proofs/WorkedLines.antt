@@ -7,8 +7,8 @@ use Rattle.cb_types.specs.declared.handle.Lane.{Lane}
 use Rattle.cb_types.specs.declared.answer.Answer.{Answer}
 use Rattle.cb_types.specs.declared.reply.Reply.{Reply}
 use Rattle.cb_types.specs.declared.request.Request.{Request}
-use Rattle.cb_types.specs.declared.request.Request.TheVariants.{Make, Read, Write, Free, Pin, Peek, Unpin, Leave, Filter, Evict, Begin, Ship, Commit, Abort, Pair, Patch, Merge, Part, Compact, Rebuild, Crash, Join}
-use Rattle.cb_types.specs.declared.reply.Reply.TheVariants.{Made, Version, Bytes, Done, Left, Moved, Same, Set, Batch, Shipped, AllShipped, Rebuilt, EpochAt, Full, NoRoom, Unmade, Freed, Moving, Unavailable, Range, Pinned, Worn, ScopeFull, NotPinned, NotHere, NoSlot, NoSpans, NoNodes, Leaving, NoNode, NoBatch, Short, Whole, Stuck, Down, Up, Pair as Paired, Stepped, AllStepped, Merged, NoPair, Joining, NodeFull, Changed, Unfinished, NoJoin}
+use Rattle.cb_types.specs.declared.request.Request.TheVariants.{Make, Read, Write, Free, Pin, Peek, Unpin, Leave, Filter, Evict, Begin, Ship, Commit, Abort, Pair, Patch, Merge, Part, Compact, Rebuild, Crash, Join, Recode}
+use Rattle.cb_types.specs.declared.reply.Reply.TheVariants.{Made, Version, Bytes, Done, Left, Moved, Same, Set, Batch, Shipped, AllShipped, Rebuilt, EpochAt, Coded, Recoded, Full, NoRoom, Unmade, Freed, Moving, Unavailable, Range, Pinned, Worn, ScopeFull, NotPinned, NotHere, NoSlot, NoSpans, NoNodes, Leaving, NoNode, NoBatch, Short, Whole, Stuck, Down, Up, Pair as Paired, Stepped, AllStepped, Merged, NoPair, Joining, NodeFull, Changed, Unfinished, NoJoin}
 use Rattle.cb_text.specs.Line.{answer_line, text_of}
 
 abbrev lane : ℕ → Lane
@@ -156,6 +156,14 @@ whole = refl
 stuck : answer_line (lane 1) (Rebuild) (Stuck (record { n = 5 })) ≡ codes "1 rebuild stuck set 5\n"
 unfolding digits
 stuck = refl
+
+a_code : answer_line (lane 1) (Recode (record { k = 12; r = 3 })) (Coded (record { k = 12; r = 3 })) ≡ codes "1 recode code 12 3\n"
+unfolding digits
+a_code = refl
+
+another_number : answer_line (lane 1) Rebuild (Recoded (record { n = 0 }) (record { n = 2 })) ≡ codes "1 rebuild recoded set 0 to 2\n"
+unfolding digits
+another_number = refl
 
 an_epoch : answer_line (lane 1) (Crash (record { n = 5 })) (EpochAt (record { n = 1 })) ≡ codes "1 crash 5 epoch 1\n"
 unfolding digits

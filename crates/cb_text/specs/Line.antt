@@ -2,14 +2,15 @@
 use Rattle.std.specs.Prelude.{ℕ, List, [], ◌∷◌, ◌++◌, codes, decimal, Option, Some, None}
 use Rattle.std.specs.List.{flat_map}
 use Rattle.hex.specs.Hex.{encode_lower}
+use Rattle.cb_member.specs.declared.names.Code.{Code}
 use Rattle.cb_member.specs.declared.names.Loss.{Loss}
 use Rattle.cb_types.specs.declared.handle.Lane.{Lane}
 use Rattle.cb_types.specs.declared.handle.SetId.{SetId}
 use Rattle.cb_types.specs.declared.answer.Answer.{Answer}
 use Rattle.cb_types.specs.declared.request.Request.{Request}
-use Rattle.cb_types.specs.declared.request.Request.TheVariants.{Make, Read, Write, Free, Pin, Peek, Unpin, Leave, Filter, Evict, Begin, Ship, Commit, Abort, Pair, Patch, Merge, Part, Compact, Rebuild, Crash, Join}
+use Rattle.cb_types.specs.declared.request.Request.TheVariants.{Make, Read, Write, Free, Pin, Peek, Unpin, Leave, Filter, Evict, Begin, Ship, Commit, Abort, Pair, Patch, Merge, Part, Compact, Rebuild, Crash, Join, Recode}
 use Rattle.cb_types.specs.declared.reply.Reply.{Reply}
-use Rattle.cb_types.specs.declared.reply.Reply.TheVariants.{Made, Version, Bytes, Done, Left, Moved, Same, Set, Batch, Shipped, AllShipped, Rebuilt, EpochAt, Full, NoRoom, Unmade, Freed, Moving, Unavailable, Range, Pinned, Worn, ScopeFull, NotPinned, NotHere, NoSlot, NoSpans, NoNodes, Leaving, NoNode, NoBatch, Short, Whole, Stuck, Down, Up, Pair as Paired, Stepped, AllStepped, Merged, NoPair, Joining, NodeFull, Changed, Unfinished, NoJoin}
+use Rattle.cb_types.specs.declared.reply.Reply.TheVariants.{Made, Version, Bytes, Done, Left, Moved, Same, Set, Batch, Shipped, AllShipped, Rebuilt, EpochAt, Coded, Recoded, Full, NoRoom, Unmade, Freed, Moving, Unavailable, Range, Pinned, Worn, ScopeFull, NotPinned, NotHere, NoSlot, NoSpans, NoNodes, Leaving, NoNode, NoBatch, Short, Whole, Stuck, Down, Up, Pair as Paired, Stepped, AllStepped, Merged, NoPair, Joining, NodeFull, Changed, Unfinished, NoJoin}
 use Rattle.cb_types.specs.Requests.{name_of}
 
 -- a space, and then the word
@@ -48,6 +49,7 @@ verb_of Compact = codes "compact"
 verb_of Rebuild = codes "rebuild"
 verb_of (Crash node) = codes "crash"
 verb_of (Join node) = codes "join"
+verb_of (Recode code) = codes "recode"
 
 -- a name behind a space, where there is one
 abbrev pub name_text : Option (List ℕ) → List ℕ
@@ -140,8 +142,18 @@ pair_text word a b = word_and_number word a.n ++ spaced (decimal b.n)
 abbrev pub listed : List ℕ → List ℕ → List ℕ
 listed word positions = spaced word ++ flat_map position_text positions
 
+-- `code` and its two numbers, each behind a space
+abbrev pub code_text : Code → List ℕ
+code_text code = word_and_number (codes "code") code.k ++ spaced (decimal code.r)
+
+-- that a set has another number: the one that it had, and the new one
+abbrev pub recoded_text : SetId → SetId → List ℕ
+recoded_text set fresh =
+    spaced (codes "recoded") ++ word_and_number (codes "set") set.n
+    ++ word_and_number (codes "to") fresh.n
+
 -- The words of a reply, each behind a space: a version with its `v`, and bytes in lower-case
--- hexadecimal; numbers by their names; two sets or all positions behind their word; else one word,
+-- hexadecimal; numbers by their names; a code, two sets or all positions behind their word; else one word,
 -- and a number where it has one.
 abbrev pub reply_text : Reply → List ℕ
 reply_text (Made handle version) = spaced (version_text version)
@@ -158,6 +170,8 @@ reply_text (Rebuilt set position node) =
     spaced (codes "rebuilt") ++ word_and_number (codes "set") set.n
     ++ word_and_number (codes "position") position
     ++ word_and_number (codes "node") node.n
+reply_text (Coded code) = code_text code
+reply_text (Recoded set fresh) = recoded_text set fresh
 reply_text (Stuck set) = spaced (codes "stuck") ++ word_and_number (codes "set") set.n
 reply_text (Short positions) = listed (codes "short") positions
 reply_text (Paired a b) = pair_text (codes "pair") a b

@@ -1,10 +1,10 @@
 ghost use Rattle.std.specs.Prelude.{◌≡◌, ◌++◌, OnOk, codes};
 ghost use Rattle.std.specs.Io.{StartsWith};
 ghost use Rattle.std.specs.List.{flat_map};
-ghost use Rattle.cb_text.specs.Line.{listed, loss_text, number_text, pair_text, position_text, reply_number, reply_text, reply_word, spaced, word_and_number};
+ghost use Rattle.cb_text.specs.Line.{code_text, listed, loss_text, number_text, pair_text, position_text, recoded_text, reply_number, reply_text, reply_word, spaced, word_and_number};
 
 use crate::word::{push_counted, push_hexadecimal, push_number, push_version, push_word};
-use cb_types::{Loss, NoMemory, NodeId, Reply, SetId};
+use cb_types::{Code, Loss, NoMemory, NodeId, Reply, SetId};
 use itoa::Buffer;
 
 /// Adds the words of a reply at the end, each behind a space.
@@ -30,6 +30,8 @@ pub fn push_reply(text: &mut Vec<u8>, reply: &Reply) -> Result<(), NoMemory>
             position,
             node,
         } => push_rebuilt(text, *set, *position, *node),
+        Reply::Coded { code } => push_code(text, *code),
+        Reply::Recoded { set, fresh } => push_recoded(text, *set, *fresh),
         Reply::Stuck { set } => push_set(text, b"stuck", *set),
         Reply::Short { positions } => push_listed(text, b"short", positions.as_slice()),
         Reply::Pair { a, b } => push_pair(text, b"pair", *a, *b),
@@ -94,6 +96,7 @@ fn word(reply: &Reply) -> &'static str
         Reply::Changed { .. } => "changed",
         Reply::NoJoin => "nojoin",
         Reply::NoOrder | Reply::Direct | Reply::Fetched { .. } => "",
+        Reply::Coded { .. } | Reply::Recoded { .. } => "",
         _ => "",
     }
 }
@@ -145,6 +148,24 @@ fn push_rebuilt(text: &mut Vec<u8>, set: SetId, position: u32, node: NodeId) -> 
     push_counted(text, b"position", position as u64)?;
     push_counted(text, b"node", node.n as u64)?;
     Ok(())
+}
+
+/// Adds a code: its data positions and its parities.
+fn push_code(text: &mut Vec<u8>, code: Code) -> Result<(), NoMemory>
+    ensures text { OnOk result (text.new.items ≡ text.old.items ++ code_text code) }
+    ensures kept { StartsWith text.new.items text.old.items }
+{
+    push_counted(text, b"code", u64::from(code.k))?;
+    push_number(text, u64::from(code.r))
+}
+
+/// Adds that a set has new parities: the number that it had, and the one that it has from here.
+fn push_recoded(text: &mut Vec<u8>, set: SetId, fresh: SetId) -> Result<(), NoMemory>
+    ensures text { OnOk result (text.new.items ≡ text.old.items ++ recoded_text set fresh) }
+    ensures kept { StartsWith text.new.items text.old.items }
+{
+    push_set(text, b"recoded", set)?;
+    push_counted(text, b"to", fresh.n)
 }
 
 /// Adds that there is no room, and the three numbers that show it.

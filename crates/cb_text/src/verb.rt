@@ -30,5 +30,6 @@ pub(crate) fn verb(request: &Request) -> &'static str
         Request::Rebuild => "rebuild",
         Request::Crash { .. } => "crash",
         Request::Join { .. } => "join",
+        Request::Recode { .. } => "recode",
     }
 }

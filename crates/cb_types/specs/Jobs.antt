@@ -1,11 +1,11 @@
 -- The kinds of jobs.
 use Rattle.std.specs.Prelude.{ℕ}
 use Rattle.cb_types.specs.declared.job.Job.{Job}
-use Rattle.cb_types.specs.declared.job.Job.TheVariants.{Make, Read, Write, Free, Swap, Filter, Evict, Begin, Ship, Commit, Abort, Pair, Patch, Merge, Part, Compact, Rebuild, Crash, Join, Gather, Install, Fetch, Land}
+use Rattle.cb_types.specs.declared.job.Job.TheVariants.{Make, Read, Write, Free, Swap, Filter, Evict, Begin, Ship, Commit, Abort, Pair, Patch, Merge, Part, Compact, Rebuild, Crash, Join, Gather, Install, Fetch, Land, Recode}
 
 -- The number of a job's kind: the calls on objects (0 to 3), what moves one span or object (4 and 5),
 -- what leaves (6 to 10), what is joined (11 to 15), what is made again (16), the membership (17 and
--- 18), and what hands an order out or takes one (19 to 22).
+-- 18), what hands an order out or takes one (19 to 22), and the code in force (23).
 abbrev pub job_index : Job → ℕ
 job_index (Make bytes) = 0
 job_index (Read handle) = 1
@@ -30,3 +30,4 @@ job_index Gather = 19
 job_index Install = 20
 job_index (Fetch handle) = 21
 job_index Land = 22
+job_index (Recode code) = 23

@@ -1,4 +1,5 @@
 pub mod Config
+pub mod Codes
 pub mod Faults
 pub mod Source
 pub mod Sink

@@ -2,7 +2,7 @@
 use Rattle.cb_types.specs.declared.request.Request.{Request}
 use Rattle.cb_types.specs.declared.request.Request.TheVariants as line
 use Rattle.cb_types.specs.declared.reply.Reply.{Reply}
-use Rattle.cb_types.specs.declared.reply.Reply.TheVariants.{Made, Version, Bytes, Done, Left, Moved, Same, Set, Batch, Shipped, AllShipped, Pair, Stepped, AllStepped, Merged, Rebuilt, EpochAt, Full, NoRoom, Unmade, Freed, Moving, Unavailable, Range, Pinned, Worn, ScopeFull, NotPinned, NotHere, NoSlot, NoSpans, NoNodes, Leaving, NoNode, NoBatch, Short, NoPair, Joining, NodeFull, Changed, Unfinished, NoJoin, Whole, Stuck, Down, Up}
+use Rattle.cb_types.specs.declared.reply.Reply.TheVariants.{Made, Version, Bytes, Done, Left, Moved, Same, Set, Batch, Shipped, AllShipped, Pair, Stepped, AllStepped, Merged, Rebuilt, EpochAt, Coded, Recoded, Full, NoRoom, Unmade, Freed, Moving, Unavailable, Range, Pinned, Worn, ScopeFull, NotPinned, NotHere, NoSlot, NoSpans, NoNodes, Leaving, NoNode, NoBatch, Short, NoPair, Joining, NodeFull, Changed, Unfinished, NoJoin, Whole, Stuck, Down, Up}
 
 -- the table of replies by lines: the reply is one that the request's line may be answered
 abbrev pub IsReplyOf : Request → Reply → Type 0
@@ -91,12 +91,14 @@ IsReplyOf line.Compact NoPair = Unit {0}
 IsReplyOf line.Compact (Joining a b) = Unit {0}
 IsReplyOf line.Compact (NodeFull node) = Unit {0}
 IsReplyOf line.Rebuild (Rebuilt set position node) = Unit {0}
+IsReplyOf line.Rebuild (Recoded set fresh) = Unit {0}
 IsReplyOf line.Rebuild (Whole gone) = Unit {0}
 IsReplyOf line.Rebuild (Stuck set) = Unit {0}
 IsReplyOf (line.Crash node) (EpochAt epoch) = Unit {0}
 IsReplyOf (line.Crash node) (Down at) = Unit {0}
 IsReplyOf (line.Join node) (EpochAt epoch) = Unit {0}
 IsReplyOf (line.Join node) (Up at) = Unit {0}
+IsReplyOf (line.Recode code) (Coded now) = Unit {0}
 IsReplyOf line.Leave (Left pins) = Unit {0}
 IsReplyOf line.Leave reply = ⊥
 -- every other line makes a turn

@@ -3,7 +3,7 @@ ghost use Rattle.cb_types.specs.Jobs.{job_index};
 
 use crate::bytes::Bytes;
 use crate::handle::Handle;
-use cb_member::NodeId;
+use cb_member::{Code, NodeId};
 
 /// What a turn of the holder of the far lock does.
 #[derive(Drop)]
@@ -76,13 +76,18 @@ pub enum Job {
     },
     /// The span whose row was made by the seat's order comes back into local memory.
     Land,
+
+    /// The code is in force from here: that of the next set.
+    Recode {
+        code: Code,
+    },
 }
 
 impl Job {
-    /// The number of the job's kind, below 23.
+    /// The number of the job's kind, below 24.
     pub fn index(&self) -> usize
         ensures index { result ≡ job_index self.now }
-        ensures below { result < 23 }
+        ensures below { result < 24 }
     {
         match self {
             Job::Make { .. } => 0,
@@ -108,6 +113,7 @@ impl Job {
             Job::Install => 20,
             Job::Fetch { .. } => 21,
             Job::Land => 22,
+            Job::Recode { .. } => 23,
         }
     }
 }

@@ -5,6 +5,7 @@
 pub mod answer;
 pub mod answers;
 pub mod bytes;
+pub mod code;
 pub mod config;
 pub mod filling;
 pub mod gate;
@@ -27,6 +28,7 @@ pub use answers::Answers;
 pub use bytes::Bytes;
 pub use cb_gf256::Rows;
 pub use cb_member::{Code, Epoch, Loss, Losses, NoMemory, NodeId};
+pub use code::is_code_for;
 pub use config::{Config, Field, MOST_BYTES};
 pub use filling::put_word;
 pub use gate::{Gate, OpenGate};

@@ -1,7 +1,7 @@
 use crate::bytes::Bytes;
 use crate::handle::{Handle, SetId};
 use crate::positions::Positions;
-use cb_member::{Epoch, Losses, NodeId};
+use cb_member::{Code, Epoch, Losses, NodeId};
 
 /// What a request is answered.
 #[derive(Drop)]
@@ -70,6 +70,16 @@ pub enum Reply {
     /// The epoch that the crash or the join began.
     EpochAt {
         epoch: Epoch,
+    },
+    /// This code is in force from here.
+    Coded {
+        code: Code,
+    },
+    /// The set has new parities, of the code in force; the number that it had, and the one that it has
+    /// from here.
+    Recoded {
+        set: SetId,
+        fresh: SetId,
     },
     /// As many objects as there are handles were made; their number.
     Full {

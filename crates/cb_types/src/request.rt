@@ -4,7 +4,7 @@ ghost use Rattle.cb_types.specs.Requests.{HasNoName, name_of};
 
 use crate::bytes::Bytes;
 use crate::name::Name;
-use cb_member::{NoMemory, NodeId};
+use cb_member::{Code, NoMemory, NodeId};
 use std::alloc::Global;
 
 /// What a line of a script asks for.
@@ -54,6 +54,8 @@ pub enum Request {
     Crash { node: NodeId },
     /// The node is up again, with no rows.
     Join { node: NodeId },
+    /// The code is in force from here: that of the next set.
+    Recode { code: Code },
 }
 
 impl Request {
@@ -129,6 +131,7 @@ impl Request {
             Request::Rebuild => Request::Rebuild,
             Request::Crash { node } => Request::Crash { node: *node },
             Request::Join { node } => Request::Join { node: *node },
+            Request::Recode { code } => Request::Recode { code: *code },
             _ => Request::Leave,
         }
     }

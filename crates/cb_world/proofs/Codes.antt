@@ -10,7 +10,7 @@ use Rattle.cb_set.specs.SetState.{PositionState, SetState, code_of, is_live, wit
 use Rattle.cb_types.specs.declared.config.Config.{Config}
 use Rattle.cb_types.specs.declared.config.Field.TheVariants.{K, Nodes, R}
 use Rattle.cb_types.specs.Config.{IsAccepted}
-use Rattle.cb_world.specs.Codes.{HaveCodes, IsCodeOf, IsPairOfCode, code_of_batch}
+use Rattle.cb_world.specs.Codes.{HaveCodes, IsCodeOf, IsPairOfCode, code_of_batch, with_code}
 use Rattle.cb_world.specs.Empty.{empty_far}
 use Rattle.cb_world.specs.FarState.{FarState}
 use Rattle.cb_world.specs.Joining.{JoiningState}
@@ -51,6 +51,12 @@ have_codes P far new k x = record {
   pair = λ p there. pair_has P far x p (k.pair p there);
   own = k.own x.own;
 }
+
+-- so they have it with another code in force that has it
+pub recoded_codes : (P : Code → Type 0) (far : FarState) (code : Code) → P code → HaveCodes P far
+    → HaveCodes P (with_code far code)
+recoded_codes P far code holds x =
+    record { force = holds; sets = x.sets; batch = x.batch; pair = x.pair; own = x.own }
 
 -- the configured code is one of those that the configuration allows
 pub accepted_code : (c : Config) → IsAccepted c → IsCodeOf c (record { k = c.k; r = c.r })

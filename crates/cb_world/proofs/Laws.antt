@@ -2,7 +2,7 @@
 pub use Rattle.cb_world.proofs.Added.{home_same, set_same, was_far}
 pub use Rattle.cb_world.proofs.AfterClaim.{IsAfterClaim, after_claim, claim_after, claim_all_allowed, claim_first, claim_found, claim_taken}
 pub use Rattle.cb_world.proofs.AfterLook.{look_after, look_allowed, look_first, look_found, look_sound, look_still, taken_before, told_before}
-pub use Rattle.cb_world.proofs.Alike.{recounted_sound, retold_sound}
+pub use Rattle.cb_world.proofs.Alike.{recoded_now, recoded_sound, recounted_sound, retold_sound}
 pub use Rattle.cb_world.proofs.Apart.{apart, slot_inside, some_same}
 pub use Rattle.cb_world.proofs.BatchGone.{batch_given_up_whole, gone_sets, put_at, put_from}
 pub use Rattle.cb_world.proofs.Beginning.{whole_none}
@@ -10,7 +10,7 @@ pub use Rattle.cb_world.proofs.Beside.{IsOutside, KeepsBeside, put_beside, put_t
 pub use Rattle.cb_world.proofs.Bridge.{put_only}
 pub use Rattle.cb_world.proofs.Choices.{few_pass, number, range_more}
 pub use Rattle.cb_world.proofs.Claimed.{avoids, back_written, held, is_claimed_at, lies, may_put_back, settled_here}
-pub use Rattle.cb_world.proofs.Codes.{SetCodes, batch_has, code_as, code_same, codes_kept, codes_left, codes_paired, codes_parted, codes_put, codes_removed, codes_same, codes_stay, codes_then, empty_codes, have_codes, no_pair_has, own_left, own_put, own_removed, pair_stays, sets_have}
+pub use Rattle.cb_world.proofs.Codes.{SetCodes, batch_has, code_as, code_same, codes_kept, codes_left, codes_paired, codes_parted, codes_put, codes_removed, codes_same, codes_stay, codes_then, empty_codes, have_codes, no_pair_has, recoded_codes, own_left, own_put, own_removed, pair_stays, sets_have}
 pub use Rattle.cb_world.specs.KeepCodes.{AreOwn, IsCodeIn, KeepCodes, PairHasCode, as_before, from_before, in_force, of_the_batch, of_code, of_a_set}
 pub use Rattle.cb_world.proofs.Counting.{count_next}
 pub use Rattle.cb_world.proofs.CrashNow.{BecomesGone, crash_now}
@@ -47,6 +47,8 @@ pub use Rattle.cb_world.proofs.Pins.{known_word, pin_counts, pin_sound, pinned_s
 pub use Rattle.cb_world.proofs.PlaceSet.{place_back, place_here, place_on}
 pub use Rattle.cb_world.proofs.Placed.{IsCountedMade, made_counted, may_lie, next_counted, slot_bounds, sound_brought, with_made}
 pub use Rattle.cb_world.proofs.Reserving.{noted_by, reserved_is_other, reserved_uncommitted}
+pub use Rattle.cb_world.proofs.PuttingRows.{put_count, put_room, taken_at, within_all}
+pub use Rattle.cb_world.proofs.Sharing.{get_pushed}
 pub use Rattle.cb_world.proofs.RoomRows.{shown_count, shown_made}
 pub use Rattle.cb_world.proofs.Rooms.{room_dropped, room_empty, room_left, room_put, room_puts, room_wiped}
 pub use Rattle.cb_world.proofs.RowPut.{HasRowPut, IsNewOr, IsRefilled, IsRenamed, row_put_away, row_put_join, row_put_words}
@@ -58,7 +60,7 @@ pub use Rattle.cb_world.proofs.SetWalk.{IsFirst, first_from}
 pub use Rattle.cb_world.proofs.SetsLeft.{drop_count, drop_fewer, drop_room, drop_there, left_count, left_given, left_others, left_over, left_room}
 pub use Rattle.cb_world.proofs.SlotFinding.{TellsHolder, held_is, place_in_run}
 pub use Rattle.cb_world.proofs.Slots.{IsEmptySlot, chosen_class, chosen_empty, chosen_stays, new_free}
-pub use Rattle.cb_world.proofs.Staying.{IsLike, KeepsFar, KeepsHolding, KeepsNote, KeepsPins, Rises, RisesBy, Stays, StaysBy, StaysIf, StaysIfBy, StepKeeps, far_same, keeps_pinned, keeps_same, pins_same, recounted, rises_more, rises_then, stays_given, stays_like, stays_noted, stays_same}
+pub use Rattle.cb_world.proofs.Staying.{IsLike, KeepsFar, KeepsHolding, KeepsNote, KeepsPins, Rises, RisesBy, Stays, StaysBy, StaysFrom, StaysIf, StaysIfBy, StepKeeps, far_same, keeps_pinned, keeps_same, pins_same, recounted, rises_more, rises_then, stays_given, stays_like, stays_noted, stays_same}
 pub use Rattle.cb_world.proofs.Noting.{counted_holds, counted_strictly, crash_note, left_note, no_pair_configured, no_pair_sound, none_again, noted_holds, others_same}
 pub use Rattle.cb_world.proofs.StillPerforms.{IsStepKnown, PerformsStill, RunsStill, known_then, runs_still, stays_still}
 pub use Rattle.cb_world.proofs.StillWords.{FreeIs, busy_leaves, empty_exact, free_after, hot_exact, one_exact, settles_other, told_exact, word_back}

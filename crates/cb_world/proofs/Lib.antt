@@ -77,6 +77,9 @@ pub mod SlotFinding
 pub mod Gone
 pub mod OpenSpans
 pub mod Choices
+pub mod Sharing
+pub mod PuttingRows
+pub mod Rehomed
 pub mod Slots
 pub mod Placed
 pub mod Empty

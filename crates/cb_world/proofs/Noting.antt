@@ -76,7 +76,7 @@ others_same far new turns by_job =
     λ i. turns i - (get_or (by_job i) 11 0 + get_or (by_job i) 15 0)
 
 -- no more turns looked than there were
-both_counted : (jobs : List ℕ) (turns : ℕ) → length jobs ≡ 23 → sum_by (λ n. n) jobs ≡ turns
+both_counted : (jobs : List ℕ) (turns : ℕ) → length jobs ≡ 24 → sum_by (λ n. n) jobs ≡ turns
     → get_or jobs 11 0 + get_or jobs 15 0 ≤ turns
 both_counted jobs turns kinds sum =
     let x = sum_by-set (λ (n : ℕ). n) jobs 11 0 0 (omega (arith, kinds)) in
@@ -86,7 +86,7 @@ both_counted jobs turns kinds sum =
     omega (arith, x, y, z, sum)
 
 -- a turn that looks, and one that does not
-looking : (counts : CountsState) (kind other : ℕ) → length counts.by_job ≡ 23 → kind < 23
+looking : (counts : CountsState) (kind other : ℕ) → length counts.by_job ≡ 24 → kind < 24
     → other ≢ kind
     → counts.turns + 1
     - (get_or (with_turn counts kind).by_job kind 0 + get_or (with_turn counts kind).by_job other 0)
@@ -97,11 +97,11 @@ looking counts kind other kinds below off =
     let y = get_or-set_other counts.by_job kind other (get_or counts.by_job kind 0 + 1) 0 off in
     omega (arith, x, y)
 
-looks_pair : (counts : CountsState) → length counts.by_job ≡ 23
+looks_pair : (counts : CountsState) → length counts.by_job ≡ 24
     → others (with_turn counts 11) ≡ others counts
 looks_pair counts kinds = looking counts 11 15 kinds (omega arith) (λ e. omega (arith, e))
 
-looks_both : (counts : CountsState) → length counts.by_job ≡ 23
+looks_both : (counts : CountsState) → length counts.by_job ≡ 24
     → others (with_turn counts 15) ≡ others counts
 looks_both counts kinds =
     let x = get_or-set_same counts.by_job 15 (get_or counts.by_job 15 0 + 1) 0
@@ -110,7 +110,7 @@ looks_both counts kinds =
     (λ e. omega (arith, e)) in
     omega (arith, x, y)
 
-another : (counts : CountsState) (kind : ℕ) → length counts.by_job ≡ 23
+another : (counts : CountsState) (kind : ℕ) → length counts.by_job ≡ 24
     → sum_by (λ n. n) counts.by_job ≡ counts.turns → kind ≢ 11 → kind ≢ 15
     → others (with_turn counts kind) ≡ others counts + 1
 another counts kind kinds sum off_pair off_both =

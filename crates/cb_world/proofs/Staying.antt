@@ -88,13 +88,17 @@ like_same far = record {
   given = refl;
 }
 
--- the far state is as it is configured, it has no other code, its numbers rose by n at the most, and so
--- does this of the note
-pub record StaysBy (N : FarState → FarState → Type 0) (c : Config) (n : ℕ) (far new : FarState)
-    : Type 0 where
+-- the far state is as it is configured, it has no other code than this one, its numbers rose by n at the
+-- most, and so does this of the note
+pub record StaysFrom (from : FarState) (N : FarState → FarState → Type 0) (c : Config) (n : ℕ)
+    (far new : FarState) : Type 0 where
   pub configured : IsConfigured c new
-  pub codes : KeepCodes far new
+  pub codes : KeepCodes from new
   pub rises : RisesBy N n far new
+
+-- it has no other code than before
+abbrev pub StaysBy : (FarState → FarState → Type 0) → Config → ℕ → FarState → FarState → Type 0
+StaysBy N c n far new = StaysFrom far N c n far new
 
 abbrev pub Stays : Config → ℕ → FarState → FarState → Type 0
 Stays = StaysBy KeepsNote

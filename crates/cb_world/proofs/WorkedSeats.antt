@@ -253,7 +253,7 @@ with_counts turns jobs sets keys =
     record after_four { counts = record { turns = turns; by_job = jobs; sets = sets; keys = keys } }
 
 too_few_kinds : AreCounted (with_counts 4 (0 ∷ 4 ∷ []) 0 0) → ⊥
-too_few_kinds c = let n : 2 ≡ 23 = c.kinds in omega (arith, n)
+too_few_kinds c = let n : 2 ≡ 24 = c.kinds in omega (arith, n)
 
 turn_of_no_kind : AreCounted (with_counts 5 by_job 0 0) → ⊥
 turn_of_no_kind c = let n : 4 ≡ 5 = c.jobs in omega (arith, n)

@@ -99,8 +99,8 @@ empty_world_sound c ok = record {
   orders = λ seat. subst (λ (x : SeatState). KeepsOrder (empty_shown 1 c) (empty_far 1 c) x.order)
       (sym (idle_at seat 64)) tt;
   counted = record {
-    kinds = length-replicate {A = ℕ} 23 0;
-    jobs = sum_by-replicate (λ (n : ℕ). n) 23 0;
+    kinds = length-replicate {A = ℕ} 24 0;
+    jobs = sum_by-replicate (λ (n : ℕ). n) 24 0;
     turns = omega arith;
     sets = omega arith;
     keys = omega arith;

@@ -1,11 +1,11 @@
 -- The code of each set, and its number.
-use Rattle.std.specs.Prelude.{◌≡◌, ℕ, ◌+◌, ◌<◌, ◌≤◌, true, All, Some, length, slice_get}
+use Rattle.std.specs.Prelude.{◌≡◌, ℕ, ◌+◌, ◌<◌, true, All, Some, length, slice_get}
 use Rattle.std.specs.List.{AllPairs}
-use Rattle.cb_gf256.specs.InRange.{IsInRange}
 use Rattle.cb_member.specs.declared.names.Code.{Code}
 use Rattle.cb_member.specs.declared.names.Shard.{Shard}
 use Rattle.cb_set.specs.SetState.{SetState, code_of}
 use Rattle.cb_types.specs.declared.config.Config.{Config}
+use Rattle.cb_types.specs.Codes.{IsCodeFor}
 use Rattle.cb_world.specs.FarState.{FarState}
 use Rattle.cb_world.specs.Joining.{JoiningState}
 use Rattle.cb_world.specs.Leaving.{LeavingState}
@@ -13,9 +13,8 @@ use Rattle.cb_world.specs.Merged.{takes}
 use Rattle.cb_world.specs.Sets.{set_in}
 
 -- the configuration allows the code: it is built, and has no more positions than there are nodes
-pub record IsCodeOf (c : Config) (code : Code) : Type 0 where
-  pub range : IsInRange code.k code.r
-  pub places : code.k + code.r ≤ c.nodes
+abbrev pub IsCodeOf : Config → Code → Type 0
+IsCodeOf c code = IsCodeFor c.nodes code
 
 -- the code is the configured one
 abbrev pub IsConfiguredCode : Config → Code → Type 0
@@ -44,3 +43,7 @@ pub record HaveCodes (P : Code → Type 0) (far : FarState) : Type 0 where
   pub pair : (p : JoiningState) → far.joining ≡ Some p → (code : Code) × P code
       × IsPairOfCode code.k code.r p
   pub own : (id : ℕ) (set : SetState) → set_in far.sets id ≡ Some set → set.id ≡ id
+
+-- the far state with another code in force
+abbrev pub with_code : FarState → Code → FarState
+with_code far code = record far { code = code }

@@ -26,7 +26,7 @@ empty_far first c = record {
   code = record { k = c.k; r = c.r };
   leaving = None;
   joining = None;
-  counts = record { turns = 0; by_job = replicate 23 0; sets = 0; keys = 0 };
+  counts = record { turns = 0; by_job = replicate 24 0; sets = 0; keys = 0 };
   survey = no_survey;
 }
 

@@ -61,3 +61,5 @@ pub mod World
 pub mod StillWords
 pub mod Placed
 pub mod Choices
+pub mod NewShards
+pub mod Rehoming

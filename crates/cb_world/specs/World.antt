@@ -60,7 +60,7 @@ pub record ArePinned (desk : Words) (seats : List SeatState) : Type 0 where
 -- What was counted: turns, in all and by job; each number that is drawn or rises is at most 2^20
 -- times the turns; and what is noted of a search that found no two sets to join holds.
 pub record AreCounted (far : FarState) : Type 0 where
-  pub kinds : length far.counts.by_job ≡ 23
+  pub kinds : length far.counts.by_job ≡ 24
   pub jobs : sum_by (λ n. n) far.counts.by_job ≡ far.counts.turns
   pub turns : far.counts.turns ≤ 2 ^ 40
   pub sets : far.counts.sets ≤ 2 ^ 20 * far.counts.turns

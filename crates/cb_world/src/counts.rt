@@ -6,7 +6,7 @@ ghost use Rattle.cb_world.specs.Pairs.{others};
 use std::marker::Model;
 
 /// How many kinds of turns there are.
-pub const JOBS: usize = 23;
+pub const JOBS: usize = 24;
 
 /// The kinds of the two jobs that look for sets to join.
 const PAIR: usize = 11;
@@ -55,7 +55,7 @@ impl Counts {
 
     /// Counts one turn more, of this kind of job. Each turn counted so far was one of some job.
     pub fn count(&mut self, kind: usize)
-        requires kind { kind < 23 }
+        requires kind { kind < 24 }
         requires few { self.old.turns < 2 ^ 40 }
         requires jobs { sum_by (λ n. n) self.old.by_job ≡ self.old.turns }
         ensures counted { self.new ≡ with_turn self.old kind }

@@ -1,7 +1,10 @@
 ghost use Rattle.std.specs.Prelude.{◌≡◌, ℕ, ◌^◌, ◌<◌, IfSome, None, Some, length, slice_index_or, slice_set};
+ghost use Rattle.cb_set.specs.SetState.{position_of};
 ghost use Rattle.cb_world.specs.Homes.{HasHomes};
+ghost use Rattle.cb_world.specs.Rehoming.{AreNamedOnce, AreRehomed};
 
 use crate::homes::{Home, Homes};
+use cb_set::SpanSet;
 
 /// Gives the object of a slot its home, if there is one.
 fn put_home(homes: &mut Homes, object: Option<u32>, home: Home)
@@ -33,5 +36,26 @@ pub fn put_homes(homes: &mut Homes, slots: &[Option<u32>], set: u64, position: u
                 slot: slot as u32,
             },
         );
+    }
+}
+
+/// Gives the objects that a set names at a position their homes there.
+fn rehome_position(homes: &mut Homes, id: u64, set: &SpanSet, position: u32)
+    requires within { position < length set.now.positions }
+    requires named { AreNamedOnce set.now (length homes.old) }
+    ensures { HasHomes (position_of set.now position).slots id position homes.old homes.new }
+{
+    if set.live_at(position) {
+        put_homes(homes, set.slots(position), id, position);
+    }
+}
+
+/// Gives each object that a set names its home there, one slot after another. Takes no memory.
+pub fn rehome(homes: &mut Homes, id: u64, set: &SpanSet)
+    requires named { AreNamedOnce set.now (length homes.old) }
+    ensures { AreRehomed id set.now homes.old homes.new }
+{
+    for position in 0..set.k() {
+        rehome_position(homes, id, set, position);
     }
 }

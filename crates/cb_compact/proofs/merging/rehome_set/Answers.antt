@@ -2,7 +2,7 @@ use Rattle.std.proofs.Common.{◌≡◌, length, sym, ap, ◌∙◌, subst}
 use Rattle.cb_set.specs.SetState.{SetState}
 use Rattle.cb_world.specs.FarState.{FarState}
 use Rattle.cb_world.specs.Sets.{set_in}
-use Rattle.cb_compact.specs.Rehoming.{AreNamedOnce}
+use Rattle.cb_world.specs.Rehoming.{AreNamedOnce}
 use Rattle.cb_compact.proofs.Looked.{found_set}
 use Rattle.cb_compact.proofs.merging.rehome_set.Goals as goal
 

@@ -5,7 +5,7 @@ use Rattle.cb_world.specs.declared.homes.Home.{Home}
 use Rattle.cb_world.specs.FarState.{FarState}
 use Rattle.cb_world.specs.Stored.{AreThere, all_dropped}
 use Rattle.cb_compact.specs.MergeStep.{replaced_shards}
-use Rattle.cb_compact.specs.Rehoming.{AreRehomed}
+use Rattle.cb_world.specs.Rehoming.{AreRehomed}
 use Rattle.cb_compact.proofs.merging.replace_sets.Goals as goal
 
 pub rehome_set-requires : goal.rehome_set-requires

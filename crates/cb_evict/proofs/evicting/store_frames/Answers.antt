@@ -5,7 +5,8 @@ use Rattle.cb_member.specs.declared.names.Shard.{Shard}
 use Rattle.cb_span.specs.Contents.{Contents}
 use Rattle.cb_types.specs.declared.config.Field.TheVariants.{Nodes}
 use Rattle.cb_world.specs.FarState.{FarState, span_in}
-use Rattle.cb_evict.specs.Storing.{AreShards, CanPut, HasRoomFor, KeepsSet}
+use Rattle.cb_world.specs.NewShards.{AreShards, CanPut, HasRoomFor}
+use Rattle.cb_evict.specs.Storing.{KeepsSet}
 use Rattle.cb_evict.proofs.Composed.{any_err, if_map, on_err, read_err}
 use Rattle.cb_evict.proofs.Loads.{reads_spans}
 use Rattle.cb_evict.proofs.NewSet.{can_put, have_room}

@@ -1,9 +1,9 @@
-use Rattle.cb_evict.specs.Storing.{CanStore}
+use Rattle.cb_world.specs.NewShards.{CanStore}
 use Rattle.std.proofs.lemmas.Result.{IfOk-from_err}
 use Rattle.std.proofs.Common.{◌++◌, ap, ◌∙◌, subst, sym, ◌<◌, ◌^◌}
 use Rattle.cb_world.specs.FarState.{FarState}
 use Rattle.cb_world.specs.Stored.{all_put}
-use Rattle.cb_evict.proofs.Putting.{within_all}
+use Rattle.cb_world.proofs.Laws.{within_all}
 use Rattle.cb_evict.proofs.storing.store_set.Goals as goal
 
 pub take_rows_back-requires : goal.take_rows_back-requires

@@ -18,3 +18,9 @@ returns-in_ok-alone_of-in-Alone-clause-request c = λ before has. rw c.in-Alone.
 
 pub returns-in_ok-alone_of-in-Alone-clause-names : goal.returns-in_ok-alone_of-in-Alone-clause-names
 returns-in_ok-alone_of-in-Alone-clause-names c = λ before has. names_stay c.args.names.now before c.args.lane _ has c.in_ok-alone_of-in-Alone.ensures.names
+
+pub returns-in_ok-coding_of-in-Coding-clause-request : goal.returns-in_ok-coding_of-in-Coding-clause-request
+returns-in_ok-coding_of-in-Coding-clause-request c = λ before has. rw c.in-Coding.is (c.in_ok-coding_of-in-Coding.ensures.request c.args.lane.n before)
+
+pub returns-in_ok-coding_of-in-Coding-clause-names : goal.returns-in_ok-coding_of-in-Coding-clause-names
+returns-in_ok-coding_of-in-Coding-clause-names c = λ before has. names_stay c.args.names.now before c.args.lane _ has c.in_ok-coding_of-in-Coding.ensures.names

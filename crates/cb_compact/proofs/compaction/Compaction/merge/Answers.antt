@@ -5,7 +5,7 @@ use Rattle.cb_world.specs.Sets.{set_in}
 use Rattle.cb_world.specs.Stored.{AreThere}
 use Rattle.cb_world.proofs.Laws.{set_there}
 use Rattle.cb_compact.specs.MergeStep.{merged_set}
-use Rattle.cb_compact.specs.Rehoming.{AreNamedOnce}
+use Rattle.cb_world.specs.Rehoming.{AreNamedOnce}
 use Rattle.cb_compact.proofs.Committing.{merged_is, named_once, ready_as, ready_steps, rows_a, rows_b}
 use Rattle.cb_compact.proofs.compaction.Compaction.merge.Goals as goal
 
